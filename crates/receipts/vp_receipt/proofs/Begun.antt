@@ -1,5 +1,5 @@
 -- What is printed is the images that are whole, and the raster that has begun.
-use Rattle.std.proofs.Common.{◌≡◌, ℕ, ◌+◌, ◌-◌, ◌*◌, ◌<◌, ◌==◌, nat_lt, Bool, true, false, ◌&&◌, ◌||◌, List, [], ◌∷◌, ◌++◌, length, flat_map, append_assoc, Option, Some, None, refl, sym, ap, ◌∙◌, arith, length-append, if◌then◌else◌}
+use Rattle.std.proofs.Common.{◌≡◌, ℕ, ◌+◌, ◌-◌, ◌*◌, ◌<◌, ◌==◌, nat_lt, Bool, true, false, ◌&&◌, ◌||◌, List, [], ◌∷◌, ◌++◌, length, flat_map, append_assoc, Option, refl, sym, ap, ◌∙◌, arith, length-append, if◌then◌else◌}
 use Rattle.std.proofs.lemmas.Bool.{ne_eqb, eq-eqb, eqb-true, eqb-false, ltb-true, ltb-false, and_parts}
 use Rattle.std.proofs.lemmas.List.{append-nil}
 use Rattle.std.proofs.lemmas.Grind.{flat_map-append}
@@ -8,7 +8,6 @@ use Rattle.vp_dots.specs.Images.{Image, pbm}
 use Rattle.vp_esc.specs.declared.item.EscItem.{EscItem}
 use Rattle.vp_esc.specs.declared.item.EscItem.TheVariants.{Raster, RasterByte}
 use Rattle.vp_esc.specs.declared.item.RasterScale.{RasterScale}
-use Rattle.vp_esc.specs.declared.item.RasterScale.TheVariants.{Normal, DoubleWidth, DoubleHeight, Quadruple}
 use Rattle.vp_esc.specs.declared.item.Spelled.{Spelled}
 use Rattle.vp_receipt_settings.specs.Line.{mode}
 use Rattle.vp_receipt_settings.specs.Pages.{is_paged}
@@ -32,31 +31,22 @@ Tells setup before = printed setup before ≡ flat_map pbm (images setup before)
 
 -- an item that is no byte of a raster, where none has begun
 item_next : (a p b c : List ℕ) (xs ys : List Image) → a ≡ flat_map pbm xs ++ b → b ≡ [] → p ≡ flat_map pbm ys ++ c → a ++ p ≡ flat_map pbm (xs ++ ys) ++ c
-item_next a p b c xs ys e none f =
-    ap (λ t. t ++ p) (e ∙ ap (λ t. flat_map pbm xs ++ t) none ∙ append-nil (flat_map pbm xs)) ∙ ap (λ t. flat_map pbm xs ++ t) f
-    ∙ sym (append_assoc (flat_map pbm xs) (flat_map pbm ys) c) ∙ ap (λ t. t ++ c) (sym (flat_map-append pbm xs ys))
+item_next a p b c xs ys e none f = grind (arith, flat_map, append-nil, append_assoc, flat_map-append)
 
 -- nothing is printed, and nothing completed
 nothing_next : (a p b c : List ℕ) (xs ys : List Image) → a ≡ flat_map pbm xs ++ b → p ≡ [] → ys ≡ [] → c ≡ b → a ++ p ≡ flat_map pbm (xs ++ ys) ++ c
-nothing_next a p b c xs ys e none no_image same =
-    ap (λ t. a ++ t) none ∙ append-nil a ∙ e ∙ ap (λ t. flat_map pbm xs ++ t) (sym same)
-    ∙ ap (λ zs. flat_map pbm zs ++ c) (sym (append-nil xs) ∙ ap (λ zs. xs ++ zs) (sym no_image))
+nothing_next a p b c xs ys e none no_image same = grind (arith, append-nil, flat_map)
 
 -- a row more of a raster
 row_next : (a p b c : List ℕ) (xs ys : List Image) → a ≡ flat_map pbm xs ++ b → ys ≡ [] → b ++ p ≡ c → a ++ p ≡ flat_map pbm (xs ++ ys) ++ c
-row_next a p b c xs ys e no_image more =
-    ap (λ t. t ++ p) e ∙ append_assoc (flat_map pbm xs) b p ∙ ap (λ t. flat_map pbm xs ++ t) more
-    ∙ ap (λ zs. flat_map pbm zs ++ c) (sym (append-nil xs) ∙ ap (λ zs. xs ++ zs) (sym no_image))
+row_next a p b c xs ys e no_image more = grind (arith, append_assoc, flat_map, append-nil)
 
 -- its last one
 last_next : (a p b c : List ℕ) (xs ys : List Image) → a ≡ flat_map pbm xs ++ b → b ++ p ≡ flat_map pbm ys → c ≡ [] → a ++ p ≡ flat_map pbm (xs ++ ys) ++ c
-last_next a p b c xs ys e whole none =
-    ap (λ t. t ++ p) e ∙ append_assoc (flat_map pbm xs) b p ∙ ap (λ t. flat_map pbm xs ++ t) whole ∙ sym (flat_map-append pbm xs ys)
-    ∙ sym (append-nil (flat_map pbm (xs ++ ys))) ∙ ap (λ t. flat_map pbm (xs ++ ys) ++ t) (sym none)
+last_next a p b c xs ys e whole none = grind (arith, append_assoc, flat_map, flat_map-append, append-nil)
 
 or_true : (p : Bool) → (p || true) ≡ true
-or_true true = refl
-or_true false = refl
+or_true p = grind arith
 
 pub none_begun : (setup : Setup) (before : List EscItem) → rows_to_come before ≡ 0 → begun setup before ≡ []
 none_begun setup before e = rw (eq-eqb (rows_to_come before) 0 e, or_true (is_paged (mode setup before))) refl
@@ -75,18 +65,10 @@ head_is : (paged drawn : Bool) (line : List ℕ) (lines : List Image) (head : �
     (if paged then [] else line) ++ (if paged then [] else if drawn then head (times * rows) else [])
     ≡ flat_map pbm (if paged then [] else lines ++ [])
     ++ (if paged || ((if drawn then rows else 0) == 0) then [] else head (times * (0 + (if drawn then rows else 0))) ++ [])
-head_is true drawn line lines head times rows e some = refl
-head_is false true line lines head times rows e some =
-    let count : rows ≡ 0 + rows = omega arith in
-    rw (ne_eqb rows 0 (some refl))
-    (ap (λ t. t ++ head (times * rows)) (e ∙ ap (flat_map pbm) (sym (append-nil lines)))
-    ∙ ap (λ n. flat_map pbm (lines ++ []) ++ head (times * n)) count
-    ∙ ap (λ t. flat_map pbm (lines ++ []) ++ t) (sym (append-nil (head (times * (0 + rows))))))
-head_is false false line lines head times rows e some = ap (λ t. t ++ []) (e ∙ ap (flat_map pbm) (sym (append-nil lines)))
+head_is paged drawn line lines head times rows e some = grind (arith, ne_eqb, flat_map, append-nil)
 
 some_rows : (scale : Option RasterScale) (bytes rows : ℕ) → draws scale bytes rows ≡ true → rows ≡ 0 → ⊥
-some_rows None bytes rows e z = cc
-some_rows (Some scale) bytes rows e z = let l = ltb-true 0 rows (and_parts (nat_lt 0 bytes) (nat_lt 0 rows) e).1 in absurd (omega arith)
+some_rows scale bytes rows e z = grind (arith, ltb-true, and_parts, nat_lt)
 
 head_tells : (setup : Setup) (before : List EscItem) (scale : Spelled (Option RasterScale)) (bytes rows : ℕ) → rows_to_come before ≡ 0 → Tells setup before → Tells setup (Raster scale bytes rows ∷ before)
 head_tells setup before scale bytes rows none prev =
@@ -96,10 +78,7 @@ head_tells setup before scale bytes rows none prev =
     (header_of (across setup.width)) (times_down (scale_or scale.value)) rows (line_is setup before (Raster scale bytes rows)) (some_rows scale.value bytes rows))
 
 some_times : (scale : RasterScale) (n : ℕ) → 0 < n → times_down scale * n ≡ 0 → ⊥
-some_times Normal n some e = absurd (omega arith)
-some_times DoubleWidth n some e = absurd (omega arith)
-some_times DoubleHeight n some e = absurd (omega arith)
-some_times Quadruple n some e = absurd (omega arith)
+some_times scale n some e = grind arith
 
 -- a raster whose rows have all come
 whole_raster : (setup : Setup) (before : List EscItem) → 0 < length (rows_come before) → so_far setup before (length (rows_come before)) (rows_come before) ≡ flat_map pbm (raster_image setup before)
@@ -113,12 +92,10 @@ whole_raster setup before some =
     ∙ strip_is setup.width high (drawn_dot setup before)
 
 pub by_bool : {P : Type 0} (b : Bool) → (b ≡ true → P) → (b ≡ false → P) → P
-by_bool true f g = f refl
-by_bool false f g = g refl
+by_bool b f g = grind arith
 
 to_come_stays : (ends : Bool) (rows : ℕ) → (ends && nat_lt 0 rows) ≡ false → (if ends then rows - 1 else rows) ≡ rows
-to_come_stays true rows e = let l = ltb-false 0 rows e in omega arith
-to_come_stays false rows e = refl
+to_come_stays ends rows e = grind (arith, ltb-false)
 
 module _ (setup : Setup) (before : List EscItem) (byte : ℕ) (prev : Tells setup before) where
   abbrev after : List EscItem

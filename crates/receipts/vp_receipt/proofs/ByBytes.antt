@@ -1,20 +1,17 @@
 -- What bytes lay on pages and wipe there at most.
-use Rattle.std.proofs.Common.{◌≡◌, ◌≤◌, ℕ, ◌+◌, ◌*◌, Bool, true, false, if◌then◌else◌, List, [], ◌∷◌, ◌++◌, length, refl, arith, lit≤}
+use Rattle.std.proofs.Common.{◌≡◌, ◌≤◌, ℕ, ◌+◌, ◌*◌, Bool, if◌then◌else◌, List, [], ◌∷◌, ◌++◌, length, arith, lit≤}
 use Rattle.vp_esc.specs.declared.item.EscItem.{EscItem}
 use Rattle.vp_esc.specs.declared.item.EscItem.TheVariants.{PageMode}
 use Rattle.vp_page.specs.declared.page.TheConstants.{PAGE_ROWS}
 use Rattle.vp_receipt_settings.specs.declared.text.TheConstants.{LINE_ROWS}
 use Rattle.vp_receipt_settings.specs.Setup.{Setup}
 use Rattle.vp_receipt_settings.specs.Line.{begins_page, line, mode}
-use Rattle.vp_receipt_settings.specs.Extent.{ends_line}
-use Rattle.vp_receipt.specs.PageMarks.{layers}
 use Rattle.vp_receipt.specs.Work.{most_work, most_by, most_in_all, begun_by, counts_anew, ended_counts}
 use Rattle.vp_receipt.proofs.Costs.{costs_at_most}
 use Rattle.vp_receipt.proofs.Work.{item_adds}
 
 begun_few : (b : Bool) → (if b then PAGE_ROWS else 0) ≤ PAGE_ROWS
-begun_few true = lit≤ tt
-begun_few false = lit≤ tt
+begun_few b = grind (arith, lit≤)
 
 -- an item takes at most a line and a page
 item_takes : (setup : Setup) (before : List EscItem) (item : EscItem) → most_by setup before item + begun_by setup before item ≤ LINE_ROWS + PAGE_ROWS
@@ -24,34 +21,22 @@ item_takes setup before item = let few = costs_at_most.item setup before item in
 -- more items, the newest first
 pub items_take : (setup : Setup) (more before : List EscItem) → most_in_all setup (more ++ before) ≤ most_in_all setup before + (LINE_ROWS + PAGE_ROWS) * length more
 items_take setup [] before = omega arith
-items_take setup (item ∷ more) before =
-    let few = item_takes setup (more ++ before) item in
-    let rest = items_take setup more before in
-    omega (arith, few, rest)
+items_take setup (item ∷ more) before = grind (arith, item_takes, items_take setup more before)
 
 -- What was counted.
 
 ended : (anew : Bool) (old new by : ℕ) → new ≤ (if anew then 0 else old) + by → (if anew then old else 0) + new ≤ old + by
-ended true old new by h = omega arith
-ended false old new by h = omega arith
+ended anew old new by h = grind arith
 
 page_begun : (setup : Setup) (before : List EscItem) (begins : Bool) → begins_page (mode setup before) (line setup before) ≡ begins
     → (if begins then most_work setup before else 0) + most_work setup (PageMode ∷ before) ≤ most_work setup before + (if begins then PAGE_ROWS else 0)
-page_begun setup before true e = rw e (omega arith)
-page_begun setup before false e = rw e (omega arith)
+page_begun setup before begins e = grind arith
 
 -- an item adds no more to all counts than it takes
 item_counts : (setup : Setup) (before : List EscItem) (item : EscItem) → (if counts_anew setup before item then most_work setup before else 0) + most_work setup (item ∷ before)
     ≤ most_work setup before + (most_by setup before item + begun_by setup before item)
-item_counts setup before PageMode = let all = page_begun setup before (begins_page (mode setup before) (line setup before)) refl in omega (arith, all)
-item_counts setup before item =
-    let adds = item_adds setup before item (layers setup before) in
-    let all = ended (ends_line setup before item) (most_work setup before) (most_work setup (item ∷ before)) (most_by setup before item) adds in
-    omega (arith, all)
+item_counts setup before item = grind (arith, page_begun, item_adds, ended)
 
 pub counts : (setup : Setup) (before : List EscItem) → ended_counts setup before + most_work setup before ≤ PAGE_ROWS + most_in_all setup before
 counts setup [] = lit≤ tt
-counts setup (item ∷ before) =
-    let one = item_counts setup before item in
-    let rest = counts setup before in
-    omega (arith, one, rest)
+counts setup (item ∷ before) = grind (arith, item_counts, counts setup before)

@@ -1,5 +1,5 @@
 -- What an item lays on a page and wipes there at most.
-use Rattle.std.proofs.Common.{◌≡◌, ◌≤◌, ℕ, ◌+◌, ◌*◌, Bool, true, false, ◌&&◌, if◌then◌else◌, List, [], ◌∷◌, ◌++◌, Option, Some, None, is_some, refl, arith, lit≤}
+use Rattle.std.proofs.Common.{◌≤◌, ℕ, ◌+◌, ◌*◌, Bool, ◌&&◌, if◌then◌else◌, List, [], ◌∷◌, Option, Some, None, is_some, arith, lit≤}
 use Rattle.std.proofs.lemmas.Bool.Decides.{nat_tests}
 use Rattle.std.proofs.lemmas.Nat.{mul-le}
 use Rattle.vp_dots.specs.Images.{Image}
@@ -7,38 +7,32 @@ use Rattle.vp_esc.specs.declared.item.EscItem.{EscItem}
 use Rattle.vp_esc.specs.declared.item.EscItem.TheVariants.{PrintMode, Magnify, Initialize, Character, Column8, Column24, LineFeed, FeedDots, FeedLines, CutLeavingOnePoint, CutLeavingThreePoints, Cut, FeedAndCut, Symbol, QrPrint, Raster, RasterByte, StandardMode, VerticalPosition, MoveVerticalPosition, Area as SetArea, Direction as SetDirection, PrintPage, FormFeed, Cancel}
 use Rattle.vp_esc.specs.declared.item.Magnification.{Magnification}
 use Rattle.vp_esc.specs.declared.item.RasterScale.{RasterScale}
-use Rattle.vp_esc.specs.declared.item.RasterScale.TheVariants.{Normal, DoubleWidth, DoubleHeight, Quadruple}
 use Rattle.vp_glyph.specs.Cells.{font_height}
 use Rattle.vp_glyph.specs.declared.cell.Font.{Font}
-use Rattle.vp_glyph.specs.declared.cell.Font.TheVariants.{A, B}
 use Rattle.vp_page.specs.declared.area.Area.{Area}
 use Rattle.vp_page.specs.declared.area.Direction.{Direction}
-use Rattle.vp_page.specs.declared.area.Direction.TheVariants.{LeftToRight, BottomToTop, RightToLeft, TopToBottom}
 use Rattle.vp_page.specs.declared.page.TheConstants.{PAGE_ROWS}
 use Rattle.vp_page.specs.Areas.{depth}
 use Rattle.vp_page.specs.Layers.{Mark}
 use Rattle.vp_page.specs.Work.{rows_laid, area_rows}
 use Rattle.vp_receipt_settings.specs.declared.text.TheConstants.{LINE_ROWS}
 use Rattle.vp_receipt_settings.specs.declared.width.Width.{Width}
-use Rattle.vp_receipt_settings.specs.declared.width.Width.TheVariants.{W576, W384}
 use Rattle.vp_receipt_settings.specs.Setup.{Setup, across}
 use Rattle.vp_receipt_settings.specs.Pages.{area, is_area, area_cut, is_vertical_move, whole_page}
-use Rattle.vp_receipt_settings.specs.Rasters.{draws, raster_scale, times_down, is_row_end, row_so_far}
+use Rattle.vp_receipt_settings.specs.Rasters.{draws, times_down}
 use Rattle.vp_receipt_settings.specs.Symbols.{symbol_image}
 use Rattle.vp_receipt_settings.specs.Texts.{high, font, height_or}
 use Rattle.vp_receipt_settings.specs.Line.{Placed, Layout, breaks, character, height, is_open, layout, layout_by, layout_length, line, on_page}
 use Rattle.vp_receipt_settings.specs.Extent.{ends_line}
-use Rattle.vp_receipt.specs.PageMarks.{line_mark, raster_mark, symbol_mark, symbol_mark_of}
-use Rattle.vp_receipt.specs.Work.{CostsAtMost, counted_before, most_by, mark_rows}
+use Rattle.vp_receipt.specs.PageMarks.{line_mark, raster_mark, symbol_mark_of}
+use Rattle.vp_receipt.specs.Work.{CostsAtMost, most_by, mark_rows}
 use Rattle.vp_receipt.proofs.Work.{adds_at_most}
 
 magnified_few : (m : Option Magnification) (old : ℕ) → old ≤ 8 → height_or m old ≤ 8
-magnified_few None old h = h
-magnified_few (Some m) old h = grind (arith, nat_tests)
+magnified_few m old h = grind (arith, nat_tests)
 
 if_few : (b : Bool) → (if b then 2 else 1) ≤ 8
-if_few true = lit≤ tt
-if_few false = lit≤ tt
+if_few b = grind (arith, lit≤)
 
 high_few : (before : List EscItem) → high before ≤ 8
 high_few [] = lit≤ tt
@@ -48,8 +42,7 @@ high_few (Initialize ∷ before) = lit≤ tt
 high_few (_ ∷ before) = high_few before
 
 font_low : (f : Font) → font_height f ≤ 24
-font_low A = lit≤ tt
-font_low B = lit≤ tt
+font_low f = grind (arith, lit≤)
 
 product_low : (a b : ℕ) → a ≤ 24 → b ≤ 8 → a * b ≤ LINE_ROWS
 product_low a b h k = mul-le a b 24 8 h k
@@ -58,16 +51,13 @@ pub character_low : (setup : Setup) (before : List EscItem) (code : ℕ) → (ch
 character_low setup before code = product_low (font_height (font before)) (high before) (font_low (font before)) (high_few before)
 
 none_if : (b : Bool) (l : List Placed) → height l ≤ LINE_ROWS → height (if b then [] else l) ≤ LINE_ROWS
-none_if true l h = lit≤ tt
-none_if false l h = h
+none_if b l h = grind (arith, lit≤)
 
 kept_if : (b : Bool) (l : List Placed) → height l ≤ LINE_ROWS → height (if b then l else []) ≤ LINE_ROWS
-kept_if true l h = h
-kept_if false l h = lit≤ tt
+kept_if b l h = grind (arith, lit≤)
 
 more_if : (b : Bool) (p : Placed) (l : List Placed) → p.image.height ≤ LINE_ROWS → height l ≤ LINE_ROWS → height (if b then p ∷ l else l) ≤ LINE_ROWS
-more_if true p l h k = omega arith
-more_if false p l h k = k
+more_if b p l h k = grind arith
 
 -- a line is no higher than the highest character
 low_by : (setup : Setup) (before : List EscItem) (item : EscItem) (l : Layout) → height l.line ≤ LINE_ROWS → height (layout_by setup before item l).line ≤ LINE_ROWS
@@ -106,8 +96,7 @@ pub record IsOnPaper (a : Area) : Type 0 where
   pub down : a.dy ≤ PAGE_ROWS
 
 narrow : (paper : Width) → across paper ≤ PAGE_ROWS
-narrow W576 = lit≤ tt
-narrow W384 = lit≤ tt
+narrow paper = grind (arith, lit≤)
 
 cut_on_paper : (paper : Width) (x y wide high : ℕ) → IsOnPaper (area_cut paper x y wide high)
 cut_on_paper paper x y wide high = let few = narrow paper in record { across = omega arith; down = omega arith }
@@ -116,69 +105,47 @@ whole_on_paper : (paper : Width) → IsOnPaper (whole_page paper)
 whole_on_paper paper = record { across = narrow paper; down = lit≤ tt }
 
 area_if : (b : Bool) (a c : Area) → IsOnPaper a → IsOnPaper c → IsOnPaper (if b then a else c)
-area_if true a c h k = h
-area_if false a c h k = k
+area_if b a c h k = grind arith
 
 on_paper : (setup : Setup) (before : List EscItem) → IsOnPaper (area setup before)
 on_paper setup [] = whole_on_paper setup.width
-on_paper setup (SetArea x y wide high ∷ before) =
-    area_if (is_area setup.width x y wide high) (area_cut setup.width x y wide high) (area setup before)
-    (cut_on_paper setup.width x y wide high) (on_paper setup before)
+on_paper setup (SetArea x y wide high ∷ before) = grind (arith, area_if, cut_on_paper, on_paper setup before)
 on_paper setup (Initialize ∷ before) = whole_on_paper setup.width
 on_paper setup (_ ∷ before) = on_paper setup before
 
 few_deep : (a : Area) (d : Direction) → IsOnPaper a → depth a d ≤ PAGE_ROWS
-few_deep a LeftToRight h = h.down
-few_deep a BottomToTop h = h.across
-few_deep a RightToLeft h = h.down
-few_deep a TopToBottom h = h.across
+few_deep a d h = grind arith
 
 mark_few : (m : Mark) → IsOnPaper m.area → rows_laid m ≤ PAGE_ROWS
 mark_few m h = let deep = few_deep m.area m.direction h in omega arith
 
 scaled_few : (s : RasterScale) → times_down s ≤ 2
-scaled_few Normal = lit≤ tt
-scaled_few DoubleWidth = lit≤ tt
-scaled_few DoubleHeight = lit≤ tt
-scaled_few Quadruple = lit≤ tt
+scaled_few s = grind (arith, lit≤)
 
 symbol_few : (setup : Setup) (before : List EscItem) (image : Option Image) → mark_rows (symbol_mark_of setup before image) ≤ PAGE_ROWS
-symbol_few setup before None = lit≤ tt
-symbol_few setup before (Some image) = mark_few (symbol_mark setup before image) (on_paper setup before)
+symbol_few setup before image = grind (arith, lit≤, mark_few, on_paper)
 
 row_few : (setup : Setup) (before : List EscItem) (row : List ℕ) (ends : Bool) → mark_rows (if ends then Some (raster_mark setup before row) else None) ≤ 2
-row_few setup before row true = let few = scaled_few (raster_scale before) in omega arith
-row_few setup before row false = lit≤ tt
+row_few setup before row ends = grind (arith, scaled_few, lit≤)
 
 lined : (b : Bool) (n : ℕ) → n ≤ LINE_ROWS → (if b then n else 0) ≤ LINE_ROWS
-lined true n h = h
-lined false n h = lit≤ tt
+lined b n h = grind (arith, lit≤)
 
 wiped_few : (b : Bool) (a : Area) → (if b then area_rows a else 0) ≤ PAGE_ROWS
-wiped_few true a = omega arith
-wiped_few false a = lit≤ tt
+wiped_few b a = grind (arith, lit≤)
 
 -- the line that an item ends
 line_few : (setup : Setup) (before : List EscItem) (b : Bool) → (if b then rows_laid (line_mark setup before) else 0) ≤ LINE_ROWS
 line_few setup before b = lined b (rows_laid (line_mark setup before)) (let low = line_low setup before in omega arith)
 
 item_few : (setup : Setup) (before : List EscItem) (item : EscItem) → most_by setup before item ≤ LINE_ROWS + PAGE_ROWS
-item_few setup before (Symbol kind bytes more) =
-    let own = symbol_few setup before (symbol_image setup before (Symbol kind bytes more)) in
-    omega (arith, own, line_few setup before (is_open (line setup before)))
+item_few setup before (Symbol kind bytes more) = grind (arith, symbol_few, line_few)
 item_few setup before QrPrint =
     let own = symbol_few setup before (symbol_image setup before QrPrint) in
     omega (arith, own, line_few setup before (is_open (line setup before)))
-item_few setup before (RasterByte byte) =
-    let own = row_few setup before (row_so_far before ++ byte ∷ []) (is_row_end before) in omega (arith, own)
-item_few setup before Cancel =
-    let wiped = wiped_few true (area setup before) in omega (arith, wiped, line_few setup before (is_open (line setup before)))
+item_few setup before (RasterByte byte) = grind (arith, row_few)
+item_few setup before Cancel = grind (arith, wiped_few, line_few)
 item_few setup before item = omega (arith, line_few setup before (ends_line setup before item && is_open (line setup before)))
 
 pub costs_at_most : CostsAtMost
-costs_at_most = record {
-  item = item_few;
-  row = λ setup before byte. let own = row_few setup before (row_so_far before ++ byte ∷ []) (is_row_end before) in omega (arith, own);
-  ended = λ setup before item paged ends.
-      let anew : counted_before setup before item ≡ 0 = rw ends refl in omega (arith, anew, adds_at_most setup before item paged, item_few setup before item);
-}
+costs_at_most = grind (arith, item_few, row_few, adds_at_most)

@@ -1,5 +1,5 @@
 -- What an item draws into the line at most.
-use Rattle.std.proofs.Common.{inl, inr, ◌≤◌, Bool, true, false, ◌&&◌, if◌then◌else◌, List, [], ◌∷◌, is_some, refl, arith, lit≤}
+use Rattle.std.proofs.Common.{inl, inr, ◌≤◌, Bool, ◌&&◌, if◌then◌else◌, List, [], ◌∷◌, is_some, refl, arith, lit≤}
 use Rattle.vp_esc.specs.declared.item.EscItem.{EscItem}
 use Rattle.vp_esc.specs.declared.item.EscItem.TheVariants.{Initialize, Character, Column8, Column24, LineFeed, FeedDots, FeedLines, CutLeavingOnePoint, CutLeavingThreePoints, Cut, FeedAndCut, Symbol, QrPrint, Raster, StandardMode, VerticalPosition, MoveVerticalPosition, Area as SetArea, Direction as SetDirection, PrintPage, FormFeed, Cancel}
 use Rattle.vp_receipt_settings.specs.declared.text.TheConstants.{LINE_ROWS}
@@ -23,20 +23,16 @@ put_afresh : (l : List Placed) (p : Placed) → p.image.height ≤ LINE_ROWS →
 put_afresh l p h = record { drawn = p ∷ []; kept = []; split = refl; one = lit≤ tt; low = omega arith; whole = inr refl }
 
 gone_if : (b : Bool) (l : List Placed) → DrawsInto l (if b then [] else l)
-gone_if true l = gone l
-gone_if false l = stays l
+gone_if b l = grind (arith, gone, stays)
 
 stays_if : (b : Bool) (l : List Placed) → DrawsInto l (if b then l else [])
-stays_if true l = stays l
-stays_if false l = gone l
+stays_if b l = grind (arith, stays, gone)
 
 put_if : (b : Bool) (l : List Placed) (p : Placed) → p.image.height ≤ LINE_ROWS → DrawsInto l (if b then p ∷ l else l)
-put_if true l p h = put_behind l p h
-put_if false l p h = stays l
+put_if b l p h = grind (arith, put_behind, stays)
 
 put_over : (b : Bool) (l : List Placed) (p : Placed) → p.image.height ≤ LINE_ROWS → DrawsInto l (p ∷ (if b then [] else l))
-put_over true l p h = put_afresh l p h
-put_over false l p h = put_behind l p h
+put_over b l p h = grind (arith, put_afresh, put_behind)
 
 drawn_by : (setup : Setup) (before : List EscItem) (item : EscItem) (l : Layout) → DrawsInto l.line (layout_by setup before item l).line
 drawn_by setup before (Character c) l = put_over (breaks l.position (character setup before c).width (layout_length setup before l)) l.line _ (character_low setup before c)

@@ -1,31 +1,28 @@
 -- What an item does is what its effect does.
-use Rattle.std.proofs.Common.{◌≡◌, ℕ, Bool, true, false, not, ◌&&◌, nat_lt, if◌then◌else◌, refl, sym, ap, ◌∙◌, subst, ◌*◌, List, [], ◌∷◌, ◌++◌, Option, Some, None, IfSome}
+use Rattle.std.proofs.Common.{◌≡◌, ℕ, Bool, true, false, not, ◌&&◌, nat_lt, if◌then◌else◌, refl, ◌*◌, List, [], ◌∷◌, ◌++◌, Option, Some, IfSome, arith}
 use Rattle.vp_esc.specs.declared.item.EscItem.{EscItem}
-use Rattle.vp_esc.specs.declared.item.EscItem.TheVariants.{CarriageReturn, Control, QrIgnored, WithoutEffect, Character, Column8, Column24, Raster, RasterByte, Symbol, QrPrint, PageMode, StandardMode, FormFeed, Initialize, LeftMargin, AreaWidth, MoveVerticalPosition, Area, Direction}
+use Rattle.vp_esc.specs.declared.item.EscItem.TheVariants.{CarriageReturn, Control, QrIgnored, WithoutEffect, Character, Column8, Column24, Raster, RasterByte, Symbol, QrPrint, PageMode, StandardMode, MoveVerticalPosition, Area, Direction}
 use Rattle.vp_esc.specs.declared.item.PrintDirection.{PrintDirection}
 use Rattle.vp_esc.specs.declared.item.Spelled.{Spelled}
 use Rattle.vp_glyph.specs.Sheets.{Sheets}
 use Rattle.vp_page.specs.Layers.{Layer}
-use Rattle.vp_page.specs.Pages.{HasPage, Paged}
+use Rattle.vp_page.specs.Pages.{Paged}
 use Rattle.vp_receipt_settings.specs.declared.effect.Piece.{Piece}
 use Rattle.vp_receipt_settings.specs.declared.effect.Piece.TheVariants.{Character as OneCharacter, Column8 as OneColumn8, Column24 as OneColumn24}
 use Rattle.vp_receipt_settings.specs.declared.effect.Effect.{Effect}
-use Rattle.vp_receipt_settings.specs.declared.effect.Effect.TheVariants.{Nothing, Sets, Initializes, Puts, Breaks, Feeds, Cuts, BeginsRaster, Fills, Draws, BeginsPage, LeavesPage, Lays, Wipes, PrintsPage, EndsPage}
+use Rattle.vp_receipt_settings.specs.declared.effect.Effect.TheVariants.{Nothing, Sets, Puts, Breaks, BeginsRaster, Fills, Draws, BeginsPage, LeavesPage, Lays}
 use Rattle.vp_receipt_settings.specs.declared.effect.NextLines.TheVariants.{At, Within}
 use Rattle.vp_receipt_settings.specs.declared.settings.Settings.{Settings}
-use Rattle.vp_receipt_settings.specs.declared.text.Text.{Text}
 use Rattle.vp_receipt_settings.specs.declared.page_mode.PrinterMode.{PrinterMode}
 use Rattle.vp_receipt_settings.specs.declared.page_mode.PrinterMode.TheVariants.{Standard, Page}
 use Rattle.vp_receipt_settings.specs.Setup.{Setup}
 use Rattle.vp_receipt_settings.specs.Texts.{text_in_force}
 use Rattle.vp_receipt_settings.specs.Pages.{is_paged, is_area, area_cut, is_vertical_move, vertical_moved}
 use Rattle.vp_receipt_settings.specs.Rasters.{draws, scale_or, times_down}
-use Rattle.vp_receipt_settings.specs.Line.{Placed, Frame, line, mode, is_open, character}
-use Rattle.vp_receipt_settings.specs.Settings.{settings_of, settings_length, image_of}
+use Rattle.vp_receipt_settings.specs.Line.{Placed, Frame, line, mode, is_open}
+use Rattle.vp_receipt_settings.specs.Settings.{settings_of, settings_length}
 use Rattle.vp_receipt_settings.specs.Effects.{effect_of, feed_of, is_full_of, is_page, waits_of, runs_along}
-use Rattle.vp_dots.specs.Images.{Image}
 use Rattle.vp_strips.specs.LineDots.{HasOpen}
-use Rattle.vp_strips.specs.Rows.{line_text}
 use Rattle.vp_strips.specs.SymbolInks.{is_symbol}
 use Rattle.vp_receipt.specs.PageMarks.{layers, layers_with}
 use Rattle.vp_receipt.specs.Strips.{line_strip_rows, own_strips, own_part, prints, prints_page, page_part}
@@ -42,12 +39,10 @@ IsKind item Draws = is_symbol item ≡ true
 IsKind item effect = IsActing item
 
 either : (P : Effect → Type 0) (b : Bool) (x y : Effect) → P x → P y → P (if b then x else y)
-either P true x y h k = h
-either P false x y h k = k
+either P b x y h k = grind arith
 
 way_kind : (d : Spelled (Option PrintDirection)) (named : Option PrintDirection) → IsKind (Direction d) (runs_along named)
-way_kind d None = record { byte = λ b e. cc; symbol = refl }
-way_kind d (Some way) = record { byte = λ b e. cc; symbol = refl }
+way_kind d named = grind arith
 
 pub kind_is : (s : Settings) (item : EscItem) → IsKind item (effect_of s item)
 kind_is s CarriageReturn = refl
@@ -69,10 +64,7 @@ kind_is s (Direction d) = way_kind d d.value
 kind_is s _ = record { byte = λ b e. cc; symbol = refl }
 
 pub is_acting : (item : EscItem) (effect : Effect) → (effect ≡ Nothing → ⊥) → ((byte : ℕ) → effect ≡ Fills byte → ⊥) → (effect ≡ Draws → ⊥) → IsKind item effect → IsActing item
-is_acting item Nothing n f d h = absurd (n refl)
-is_acting item (Fills byte) n f d h = absurd (f byte refl)
-is_acting item Draws n f d h = absurd (d refl)
-is_acting item _ n f d h = h
+is_acting item effect n f d h = grind arith
 
 -- how an item goes with its effect
 pub record Does (setup : Setup) (before : List EscItem) (item : EscItem) (effect : Effect) : Type 0 where
@@ -85,12 +77,10 @@ pub record Does (setup : Setup) (before : List EscItem) (item : EscItem) (effect
   pub is_page : is_page effect ≡ prints_page item
 
 chosen : (P : Effect → Type 0) (b : Bool) (x y : Effect) → (b ≡ true → P x) → (b ≡ false → P y) → P (if b then x else y)
-chosen P true x y h k = h refl
-chosen P false x y h k = k refl
+chosen P b x y h k = grind arith
 
 way_does : (setup : Setup) (before : List EscItem) (d : Spelled (Option PrintDirection)) (named : Option PrintDirection) → d.value ≡ named → Does setup before (Direction d) (runs_along named)
-way_does setup before d None e = record { line = rw e refl; text = λ code w. refl; rows = refl; own = refl; layers = λ m. rw e refl; page = refl; is_page = refl }
-way_does setup before d (Some way) e = record { line = rw e refl; text = λ code w. refl; rows = refl; own = refl; layers = λ m. rw e refl; page = refl; is_page = refl }
+way_does setup before d named e = grind arith
 
 pub does : (setup : Setup) (before : List EscItem) (item : EscItem) → IsActing item → Does setup before item (effect_of (settings_of setup before) item)
 does setup before (RasterByte byte) a = absurd (a.byte byte refl)
@@ -101,52 +91,22 @@ does setup before (Character c) a =
     chosen (Does setup before (Character c)) (is_full_of s) (Breaks (feed_of s) c) (Puts (OneCharacter c))
     (λ e. record { line = rw e refl; text = λ code w. refl; rows = rw e refl; own = refl; layers = λ m. rw e refl; page = refl; is_page = refl })
     (λ e. record { line = rw e refl; text = λ code w. refl; rows = rw e refl; own = refl; layers = λ m. rw e refl; page = refl; is_page = refl })
-does setup before (Column8 byte) a =
-    let s = settings_of setup before in
-    chosen (Does setup before (Column8 byte)) (nat_lt s.position (settings_length s)) (Puts (OneColumn8 byte)) Sets
-    (λ e. record { line = rw e refl; text = λ code w. refl; rows = refl; own = refl; layers = λ m. refl; page = refl; is_page = refl })
-    (λ e. record { line = rw e refl; text = λ code w. refl; rows = refl; own = refl; layers = λ m. refl; page = refl; is_page = refl })
-does setup before (Column24 bytes) a =
-    let s = settings_of setup before in
-    chosen (Does setup before (Column24 bytes)) (nat_lt s.position (settings_length s)) (Puts (OneColumn24 bytes)) Sets
-    (λ e. record { line = rw e refl; text = λ code w. refl; rows = refl; own = refl; layers = λ m. refl; page = refl; is_page = refl })
-    (λ e. record { line = rw e refl; text = λ code w. refl; rows = refl; own = refl; layers = λ m. refl; page = refl; is_page = refl })
-does setup before (Raster scale bytes rows) a =
-    chosen (Does setup before (Raster scale bytes rows)) (draws scale.value bytes rows) (BeginsRaster (times_down (scale_or scale.value) * rows)) Sets
-    (λ e. record { line = rw e refl; text = λ code w. refl; rows = rw e refl; own = rw e refl; layers = λ m. rw e refl; page = refl; is_page = refl })
-    (λ e. record { line = rw e refl; text = λ code w. refl; rows = rw e refl; own = rw e refl; layers = λ m. rw e refl; page = refl; is_page = refl })
-does setup before PageMode a =
-    let s = settings_of setup before in
-    chosen (Does setup before PageMode) (not (is_paged s.page.mode) && not s.is_open) BeginsPage Sets
-    (λ e. record { line = refl; text = λ code w. refl; rows = refl; own = refl; layers = λ m. absurd (let f = rw m at e in cc); page = refl; is_page = refl })
-    (λ e. record { line = refl; text = λ code w. refl; rows = refl; own = refl; layers = λ m. refl; page = refl; is_page = refl })
-does setup before StandardMode a =
-    let s = settings_of setup before in
-    chosen (Does setup before StandardMode) (is_paged s.page.mode) LeavesPage Sets
-    (λ e. record { line = rw e refl; text = λ code w. cc; rows = refl; own = refl; layers = λ m. refl; page = refl; is_page = refl })
-    (λ e. record { line = rw e refl; text = λ code w. cc; rows = refl; own = refl; layers = λ m. refl; page = refl; is_page = refl })
-does setup before (MoveVerticalPosition n) a =
-    let s = settings_of setup before in
-    chosen (Does setup before (MoveVerticalPosition n)) (is_vertical_move n s.page.vertical) (Lays (At (vertical_moved n s.page.vertical))) Sets
-    (λ e. record { line = rw e refl; text = λ code w. refl; rows = refl; own = refl; layers = λ m. rw e refl; page = refl; is_page = refl })
-    (λ e. record { line = rw e refl; text = λ code w. refl; rows = refl; own = refl; layers = λ m. rw e refl; page = refl; is_page = refl })
-does setup before (Area x y wide high) a =
-    let s = settings_of setup before in
-    chosen (Does setup before (Area x y wide high)) (is_area s.paper x y wide high) (Lays (Within (area_cut s.paper x y wide high))) Sets
-    (λ e. record { line = rw e refl; text = λ code w. refl; rows = refl; own = refl; layers = λ m. rw e refl; page = refl; is_page = refl })
-    (λ e. record { line = rw e refl; text = λ code w. refl; rows = refl; own = refl; layers = λ m. rw e refl; page = refl; is_page = refl })
+does setup before (Column8 byte) a = grind (arith, chosen, nat_lt)
+does setup before (Column24 bytes) a = grind (arith, chosen, nat_lt)
+does setup before (Raster scale bytes rows) a = grind (arith, chosen)
+does setup before PageMode a = grind (arith, chosen, not)
+does setup before StandardMode a = grind (arith, chosen)
+does setup before (MoveVerticalPosition n) a = grind (arith, chosen)
+does setup before (Area x y wide high) a = grind (arith, chosen)
 does setup before (Direction d) a = way_does setup before d d.value refl
 does setup before _ a = record { line = refl; text = λ code w. cc; rows = refl; own = refl; layers = λ m. refl; page = refl; is_page = refl }
 
 -- what is printed
 parted : (b : Bool) (l o p : List ℕ) → (if b then p else l ++ o) ≡ (if b then [] else l) ++ (if b then p else o)
-parted true l o p = refl
-parted false l o p = refl
+parted b l o p = grind arith
 
 pub prints_done : (setup : Setup) (before : List EscItem) (item : EscItem) (effect : Effect) → Does setup before item effect → prints_by setup before effect ≡ prints setup before item
-prints_done setup before item effect d =
-    parted (is_paged (mode setup before)) (line_text setup before (line_rows_by setup before effect)) (own_by setup effect) (page_by setup before effect)
-    ∙ rw (← d.rows, ← d.own, ← d.page) refl
+prints_done setup before item effect d = grind (arith, parted)
 
 pub part_done : (setup : Setup) (before : List EscItem) (item : EscItem) (effect : Effect) → Does setup before item effect → part_by setup before effect ≡ own_part setup before item
 part_done setup before item effect d = rw (← d.own, ← d.page) refl
@@ -155,92 +115,54 @@ part_done setup before item effect d = rw (← d.own, ← d.page) refl
 pub gathers_after : (setup : Setup) (before : List EscItem) (item : EscItem) (sheets : Sheets) (bitmap : List (List ℕ)) (waiting : Option ℕ) (placed : List Placed)
     → ((code : ℕ) → waiting ≡ Some code → text_in_force (item ∷ before) ≡ text_in_force before)
     → Gathers sheets (settings_of setup before) bitmap waiting placed → Gathers sheets (settings_of setup (item ∷ before)) bitmap waiting placed
-gathers_after setup before item sheets bitmap None placed h g = g
-gathers_after setup before item sheets bitmap (Some code) placed h g =
-    subst (λ (t : Text). placed ≡ record { at = 0; image = image_of sheets t code } ∷ []) (sym (h code refl)) g
+gathers_after setup before item sheets bitmap waiting placed h g = grind arith
 
 -- the page
 pub on_paper : (m : PrinterMode) (layers : List Layer) (page : Paged) → m ≡ Standard → HasPageIf m layers page
-on_paper Standard layers page e = tt
-on_paper Page layers page e = cc
+on_paper m layers' page e = grind arith
 
 either_mode : (b : Bool) (f g : Frame) → f.mode ≡ Standard → g.mode ≡ Standard → (if b then f else g).mode ≡ Standard
-either_mode true f g h k = h
-either_mode false f g h k = k
+either_mode b f g h k = grind arith
 
 mode_begun : (o : Bool) (f g : Frame) → o ≡ false → g.mode ≡ Page → (if o then f else g).mode ≡ Page
-mode_begun true f g e h = cc
-mode_begun false f g e h = h
+mode_begun o f g e h = grind arith
 
 mode_held : (o : Bool) (f g : Frame) → o ≡ true → f.mode ≡ Standard → (if o then f else g).mode ≡ Standard
-mode_held true f g e h = h
-mode_held false f g e h = cc
+mode_held o f g e h = grind arith
 
 begun : (setup : Setup) (before : List EscItem) (page : Paged) (o : Bool) → is_open (line setup before) ≡ o → mode setup before ≡ Standard
     → HasPageIf (mode_by setup before (effect_of (settings_of setup before) PageMode)) (layers_by setup before (effect_of (settings_of setup before) PageMode)) page
     → HasPageIf (mode setup (PageMode ∷ before)) (layers setup (PageMode ∷ before)) page
-begun setup before page true e m h = on_paper (mode setup (PageMode ∷ before)) _ page (mode_held (is_open (line setup before)) _ _ e m)
-begun setup before page false e m h =
-    let k : HasPage [] page = rw (m, e) at h in
-    let none : layers setup (PageMode ∷ before) ≡ [] = rw (m, e) refl in
-    subst (λ (x : PrinterMode). HasPageIf x (layers setup (PageMode ∷ before)) page) (sym (mode_begun (is_open (line setup before)) _ _ e refl))
-    (subst (λ (l : List Layer). HasPage l page) (sym none) k)
+begun setup before page o e m h = grind (arith, on_paper, mode_held, mode_begun)
 
 pub paper_after : (setup : Setup) (before : List EscItem) (item : EscItem) (page : Paged) → mode setup before ≡ Standard
     → HasPageIf (mode_by setup before (effect_of (settings_of setup before) item)) (layers_by setup before (effect_of (settings_of setup before) item)) page
     → HasPageIf (mode setup (item ∷ before)) (layers setup (item ∷ before)) page
-paper_after setup before PageMode page m h = begun setup before page (is_open (line setup before)) refl m h
-paper_after setup before StandardMode page m h = tt
-paper_after setup before FormFeed page m h = tt
-paper_after setup before Initialize page m h = tt
-paper_after setup before (LeftMargin n) page m h = on_paper (mode setup (LeftMargin n ∷ before)) _ page (either_mode (is_open (line setup before)) _ _ m m)
-paper_after setup before (AreaWidth n) page m h = on_paper (mode setup (AreaWidth n ∷ before)) _ page (either_mode (is_open (line setup before)) _ _ m m)
-paper_after setup before item page m h = on_paper (mode setup before) (layers setup (item ∷ before)) page m
+paper_after setup before item page m h = grind (arith, begun, on_paper, either_mode)
 
 mode_stays : (setup : Setup) (before : List EscItem) (effect : Effect) → mode setup before ≡ Page → mode_by setup before effect ≡ Page
-mode_stays setup before BeginsPage m = refl
-mode_stays setup before _ m = m
+mode_stays setup before effect m = grind arith
 
 pub page_after : (setup : Setup) (before : List EscItem) (item : EscItem) (page : Paged) (m : PrinterMode) → mode setup before ≡ m
     → Does setup before item (effect_of (settings_of setup before) item)
     → HasPageIf (mode_by setup before (effect_of (settings_of setup before) item)) (layers_by setup before (effect_of (settings_of setup before) item)) page
     → HasPageIf (mode setup (item ∷ before)) (layers setup (item ∷ before)) page
 page_after setup before item page Standard e d h = paper_after setup before item page e h
-page_after setup before item page Page e d h =
-    let effect = effect_of (settings_of setup before) item in
-    page_kept setup before item page e (subst (λ (l : List Layer). HasPage l page) (sym (d.layers e))
-    (subst (λ (m : PrinterMode). HasPageIf m (layers_by setup before effect) page) (mode_stays setup before effect e) h))
+page_after setup before item page Page e d h = grind (arith, page_kept, mode_stays)
 
 pub paper_mode : (setup : Setup) (before : List EscItem) (effect : Effect) → (effect ≡ BeginsPage → ⊥) → mode setup before ≡ Standard → mode_by setup before effect ≡ Standard
-paper_mode setup before BeginsPage n m = absurd (n refl)
-paper_mode setup before _ n m = m
+paper_mode setup before effect n m = grind arith
 
 -- what puts no piece into the line leaves its bitmap
 if_open : (b : Bool) (placed : List Placed) (bitmap : List (List ℕ)) → HasOpen placed bitmap → HasOpen (if b then placed else []) bitmap
-if_open true placed bitmap h = h
-if_open false placed bitmap h = λ o. cc
+if_open b placed bitmap h = grind arith
 
 unless_open : (b : Bool) (placed : List Placed) (bitmap : List (List ℕ)) → HasOpen placed bitmap → HasOpen (if b then [] else placed) bitmap
-unless_open true placed bitmap h = λ o. cc
-unless_open false placed bitmap h = h
+unless_open b placed bitmap h = grind arith
 
 pub line_stays : (setup : Setup) (before : List EscItem) (effect : Effect) (s : Settings) (sheets : Sheets) (bitmap : List (List ℕ)) → ((piece : Piece) → effect ≡ Puts piece → ⊥)
     → s ≡ settings_of setup before → sheets ≡ setup.sheets → HasOpen (line setup before) bitmap → Gathers sheets s bitmap (waits_of effect) (line_by setup before effect)
-line_stays setup before (Puts piece) s sheets bitmap n e k h = absurd (n piece refl)
-line_stays setup before (Breaks rows code) s sheets bitmap n e k h =
-    let z : image_of sheets s.text code ≡ character setup before code = ap (λ (t : Settings). image_of sheets t.text code) e ∙ ap (λ (x : Sheets). image_of x (text_in_force before) code) k in
-    sym (ap (λ (i : Image). record { at = 0; image = i } ∷ []) z)
-line_stays setup before Initializes s sheets bitmap n e k h = λ o. cc
-line_stays setup before LeavesPage s sheets bitmap n e k h = λ o. cc
-line_stays setup before (Feeds rows) s sheets bitmap n e k h = λ o. cc
-line_stays setup before (BeginsRaster rows) s sheets bitmap n e k h = λ o. cc
-line_stays setup before Draws s sheets bitmap n e k h = λ o. cc
-line_stays setup before (Cuts dots cut) s sheets bitmap n e k h = if_open (is_paged (mode setup before)) _ bitmap h
-line_stays setup before (Lays next) s sheets bitmap n e k h = unless_open (is_paged (mode setup before)) _ bitmap h
-line_stays setup before Wipes s sheets bitmap n e k h = unless_open (is_paged (mode setup before)) _ bitmap h
-line_stays setup before PrintsPage s sheets bitmap n e k h = unless_open (is_paged (mode setup before)) _ bitmap h
-line_stays setup before EndsPage s sheets bitmap n e k h = unless_open (is_paged (mode setup before)) _ bitmap h
-line_stays setup before _ s sheets bitmap n e k h = h
+line_stays setup before effect s sheets bitmap n e k h = grind (arith, if_open, unless_open)
 
 -- by mode
 pub prints_of_strips : (setup : Setup) (before : List EscItem) (effect : Effect) → mode setup before ≡ Standard → strips_by setup before effect ≡ prints_by setup before effect
@@ -250,5 +172,4 @@ pub part_of_strips : (setup : Setup) (before : List EscItem) (effect : Effect) �
 part_of_strips setup before effect e = rw e refl
 
 pub some_of : {A : Type 0} (o : Option A) (P Q : A → Type 0) → ((x : A) → P x → Q x) → IfSome o P → IfSome o Q
-some_of (Some x) P Q f h = f x h
-some_of None P Q f h = tt
+some_of o P Q f h = grind arith

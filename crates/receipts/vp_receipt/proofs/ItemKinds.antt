@@ -1,5 +1,5 @@
 -- What items of some kinds leave alone.
-use Rattle.std.proofs.Common.{◌≡◌, ℕ, ◌<◌, Bool, true, false, ◌&&◌, refl, List, [], ◌∷◌, ◌++◌, length, Option, Some, None, sym, ap, subst, ◌∙◌, arith}
+use Rattle.std.proofs.Common.{◌≡◌, ℕ, ◌<◌, Bool, true, false, ◌&&◌, refl, List, [], ◌∷◌, length, Option, Some, None, sym, subst, arith}
 use Rattle.std.proofs.lemmas.List.{append-nil}
 use Rattle.vp_esc.specs.declared.item.EscItem.{EscItem}
 use Rattle.vp_esc.specs.declared.item.EscItem.TheVariants.{CarriageReturn, Control, QrIgnored, WithoutEffect, QrPrint, Symbol as SetSymbol, QrByte}
@@ -9,7 +9,6 @@ use Rattle.vp_bar_code.specs.declared.BarCode.{BarCode}
 use Rattle.vp_dots.specs.Images.{Image}
 use Rattle.vp_glyph.specs.Sheets.{Sheets}
 use Rattle.vp_receipt_settings.specs.declared.page_mode.PrinterMode.{PrinterMode}
-use Rattle.vp_receipt_settings.specs.declared.page_mode.PrinterMode.TheVariants.{Standard, Page}
 use Rattle.vp_receipt_settings.specs.Setup.{Setup}
 use Rattle.vp_receipt_settings.specs.Tabs.{tab_stops}
 use Rattle.vp_receipt_settings.specs.Symbols.{qr_data, symbol_image, image_rows}
@@ -46,11 +45,7 @@ pub record DoesNothing (setup : Setup) (before : List EscItem) (item : EscItem) 
   pub prints : prints setup before item ≡ []
 
 pub does_nothing : (setup : Setup) (before : List EscItem) (item : EscItem) → is_ignored item ≡ true → DoesNothing setup before item
-does_nothing setup before CarriageReturn h = record { settings = refl; line = refl; stops = refl; stored = refl; mode = refl; layers = refl; refusal = refl; prints = nothing_by (mode setup before) }
-does_nothing setup before (Control byte) h = record { settings = refl; line = refl; stops = refl; stored = refl; mode = refl; layers = refl; refusal = refl; prints = nothing_by (mode setup before) }
-does_nothing setup before (QrIgnored bytes) h = record { settings = refl; line = refl; stops = refl; stored = refl; mode = refl; layers = refl; refusal = refl; prints = nothing_by (mode setup before) }
-does_nothing setup before (WithoutEffect lead bytes) h = record { settings = refl; line = refl; stops = refl; stored = refl; mode = refl; layers = refl; refusal = refl; prints = nothing_by (mode setup before) }
-does_nothing setup before _ h = cc
+does_nothing setup before item h = grind (arith, nothing_by)
 
 -- a byte that is stored for a QR symbol leaves all else alone
 pub record Stores (setup : Setup) (before : List EscItem) (item : EscItem) : Type 0 where
@@ -75,25 +70,11 @@ pub record StoresAll (setup : Setup) (before after : List EscItem) : Type 0 wher
 
 pub stores_all : (setup : Setup) (bytes : List ℕ) (before : List EscItem) → StoresAll setup before (stored_after bytes before)
 stores_all setup [] before = record { settings = refl; line = refl; stops = refl; mode = refl; layers = refl; printed = refl }
-stores_all setup (b ∷ bytes) before =
-    let one = stores setup before b in
-    let none : printed setup (QrByte b ∷ before) ≡ printed setup before =
-    ap (λ x. printed setup before ++ x) one.prints ∙ append-nil (printed setup before) in
-    let more = stores_all setup bytes (QrByte b ∷ before) in
-    subst (λ (after : List EscItem). StoresAll setup before after) (sym (stored_first b bytes before)) (record {
-      settings = more.settings ∙ one.settings;
-      line = more.line ∙ one.line;
-      stops = more.stops ∙ one.stops;
-      mode = more.mode ∙ one.mode;
-      layers = more.layers ∙ one.layers;
-      printed = more.printed ∙ none;
-    })
+stores_all setup (b ∷ bytes) before = grind (arith, stores, append-nil, stored_first, stores_all setup bytes (QrByte b ∷ before))
 
 stored_ends : (r : Raster) (bytes : List ℕ) (before : List EscItem) → IsGathering r before → IsGathering r [] → IsGathering r (stored_after bytes before)
 stored_ends r [] before g none = g
-stored_ends r (b ∷ bytes) before g none =
-    subst (λ (after : List EscItem). IsGathering r after) (sym (stored_first b bytes before))
-    (stored_ends r bytes (QrByte b ∷ before) (record { scale = none.scale; bytes = none.bytes; rows = none.rows; got = none.got; row = none.row }) none)
+stored_ends r (b ∷ bytes) before g none = grind (arith, stored_first, stored_ends r bytes (QrByte b ∷ before) (record { scale = none.scale; bytes = none.bytes; rows = none.rows; got = none.got; row = none.row }) none)
 
 -- and end the raster that came
 pub raster_ends : (r : Raster) (bytes : List ℕ) (before : List EscItem) → 0 < length bytes → IsGathering r [] → IsGathering r (stored_after bytes before)
@@ -104,29 +85,21 @@ raster_ends r (b ∷ bytes) before some none =
 
 -- one that prints no symbol
 pub no_image : (setup : Setup) (before : List EscItem) (item : EscItem) → is_symbol item ≡ false → symbol_image setup before item ≡ None
-no_image setup before (SetSymbol kind bytes more) h = cc
-no_image setup before QrPrint h = cc
-no_image setup before _ h = refl
+no_image setup before item h = grind arith
 
 pub no_refusal : (setup : Setup) (before : List EscItem) (item : EscItem) → is_symbol item ≡ false → refusal setup before item ≡ None
-no_refusal setup before (SetSymbol kind bytes more) h = cc
-no_refusal setup before QrPrint h = cc
-no_refusal setup before _ h = refl
+no_refusal setup before item h = grind arith
 
 -- one that prints a symbol
 no_page_of : (m : PrinterMode) → false ≡ is_paged m && false
-no_page_of Standard = refl
-no_page_of Page = refl
+no_page_of m = grind arith
 
 pub no_page : (setup : Setup) (before : List EscItem) (item : EscItem) → is_symbol item ≡ true → false ≡ printed_page setup (item ∷ before)
-no_page setup before (SetSymbol kind bytes more) h = no_page_of (mode setup before)
-no_page setup before QrPrint h = no_page_of (mode setup before)
-no_page setup before _ h = cc
+no_page setup before item h = grind (arith, no_page_of)
 
 -- how many rows it has
 rows_of : (sheets : Sheets) (symbol : Symbol) (image : Option Image) → IsSymbolOf sheets (Some symbol) image → symbol_height sheets symbol ≡ image_rows image
-rows_of sheets symbol (Some image) h = h.height
-rows_of sheets symbol None h = absurd h
+rows_of sheets symbol image h = grind arith
 
 pub rows_drawn : (setup : Setup) (before : List EscItem) (item : EscItem) (symbol : Symbol) → IsSymbolOf setup.sheets (Some symbol) (symbol_image setup before item)
     → symbol_height setup.sheets symbol ≡ image_rows (symbol_image setup before item)
@@ -134,6 +107,4 @@ rows_drawn setup before item symbol h = rows_of setup.sheets symbol (symbol_imag
 
 -- the symbols are bars and QR
 pub is_qr : (item : EscItem) → ((kind : Spelled (Option BarCode)) (bytes : ArrayVec ℕ) (more : Bool) → item ≡ SetSymbol kind bytes more → ⊥) → is_symbol item ≡ true → item ≡ QrPrint
-is_qr (SetSymbol kind bytes more) n h = absurd (n kind bytes more refl)
-is_qr QrPrint n h = refl
-is_qr _ n h = cc
+is_qr item n h = grind arith

@@ -1,12 +1,10 @@
 -- The line and the page: what a bitmap lays, and the rows that are printed.
-use Rattle.std.proofs.Common.{◌≡◌, ℕ, zero, suc, ◌+◌, ◌-◌, ◌<◌, ◌≤◌, Bool, true, refl, sym, ap, subst, ◌∙◌, arith, List, [], ◌∷◌, ◌++◌, ◌==◌, if◌then◌else◌, eq-eqb, inl, inr}
-use Rattle.std.proofs.lemmas.Bool.{lt-ltb, le-leb, and_parts, ltb-true, cases_eq, ne_eqb}
+use Rattle.std.proofs.Common.{◌≡◌, ℕ, zero, suc, ◌+◌, ◌-◌, ◌<◌, ◌≤◌, Bool, true, refl, sym, ap, subst, ◌∙◌, arith, List, [], ◌∷◌, ◌++◌, ◌==◌, if◌then◌else◌, eq-eqb}
+use Rattle.std.proofs.lemmas.Bool.{lt-ltb, le-leb, and_parts, ltb-true, ne_eqb}
 use Rattle.vp_dots.specs.Headers.{header_of}
 use Rattle.vp_esc.specs.declared.item.EscItem.{EscItem}
-use Rattle.vp_esc.specs.declared.item.EscItem.TheVariants.{PageMode}
 use Rattle.vp_page.specs.declared.area.Area.{Area}
 use Rattle.vp_page.specs.declared.area.Direction.{Direction}
-use Rattle.vp_page.specs.declared.area.Direction.TheVariants.{LeftToRight, BottomToTop, RightToLeft, TopToBottom}
 use Rattle.vp_page.specs.Areas.{line_length as length_on_page}
 use Rattle.vp_page.specs.Layers.{Layer, Laid, page_dot}
 use Rattle.vp_page.specs.Pages.{HasPage, Paged}
@@ -16,12 +14,12 @@ use Rattle.vp_receipt_settings.specs.Setup.{Setup, across}
 use Rattle.vp_strips.specs.Canvases.{Canvas}
 use Rattle.vp_strips.specs.declared.strip.Dots.TheVariants.{Page as PageDots}
 use Rattle.vp_receipt_settings.specs.declared.page_mode.PrinterMode.{PrinterMode}
-use Rattle.vp_receipt_settings.specs.declared.page_mode.PrinterMode.TheVariants.{Standard, Page}
+use Rattle.vp_receipt_settings.specs.declared.page_mode.PrinterMode.TheVariants.{Page}
 use Rattle.vp_strips.specs.Held.{whole}
 use Rattle.vp_receipt.specs.Standing.{HasPageIf, IsSettled}
 use Rattle.vp_receipt_settings.specs.Line.{Placed, height, line, is_open, mode}
 use Rattle.vp_receipt_settings.specs.Settings.{settings_of}
-use Rattle.vp_strips.specs.LineDots.{HasDots, any_dot}
+use Rattle.vp_strips.specs.LineDots.{HasDots}
 use Rattle.vp_receipt.specs.PageMarks.{HasRows, mark_of, line_dot, line_mark, laid_if, layers, layers_with}
 use Rattle.vp_strips.specs.Rows.{paper_row, rows_text, strip_text}
 use Rattle.vp_strips.specs.Jobs.{page_dot_of}
@@ -34,18 +32,11 @@ use Rattle.vp_receipt_settings.specs.declared.text.TheConstants.{LINE_ROWS}
 
 -- a line of an area on the page is at most as long as the page is high
 pub length_small : (a : Area) (d : Direction) → a.x + a.dx ≤ PAPER_DOTS → a.y + a.dy ≤ PAGE_ROWS → length_on_page a d ≤ LINE_DOTS
-length_small a LeftToRight h k = omega arith
-length_small a BottomToTop h k = omega arith
-length_small a RightToLeft h k = omega arith
-length_small a TopToBottom h k = omega arith
+length_small a d h k = grind arith
 
 -- the lowest rows of the line's bitmap are the line
 pub has_rows : (s : Settings) (placed : List Placed) (bitmap : List (List ℕ)) → s.height ≡ height placed → s.height ≤ LINE_ROWS → HasDots placed bitmap → HasRows s bitmap (line_dot placed)
-has_rows s placed bitmap e small has = record {
-  same = λ u w h k. has.dots_are u (LINE_ROWS - s.height + w) h (omega arith) ∙ ap (λ n. any_dot placed LINE_ROWS u (LINE_ROWS - n + w)) e
-      ∙ sym (raised placed (height placed) u w (omega arith) (omega arith) (omega arith)) ∙ sym (rw (lt-ltb w (height placed) (omega arith)) refl);
-  high = λ u w h. let k = ltb-true w (height placed) (and_parts _ _ h).0 in omega arith;
-}
+has_rows s placed bitmap e small has = grind (arith, raised, lt-ltb, ltb-true, and_parts)
 
 rows_up_to : (paper : Width) (f g : ℕ → ℕ → Bool) (y n : ℕ) → y + n ≤ PAGE_ROWS → ((x y : ℕ) → x < PAPER_DOTS → y < PAGE_ROWS → f x y ≡ g x y) → rows_text paper f y n ≡ rows_text paper g y n
 rows_up_to paper f g y zero l h = refl
@@ -65,29 +56,21 @@ strip_shown paper layers canvas rows h has some =
 -- the strip of the page
 pub page_strip : (paper : Width) (layers : List Layer) (canvas : Canvas) (rows : ℕ) → rows ≤ PAGE_ROWS → HasPage layers canvas.page
     → (if rows == 0 then [] else whole (record { paper = paper; tall = rows; rows = rows; dots = PageDots }) canvas) ≡ strip_text paper rows (page_dot layers)
-page_strip paper layers canvas rows h has = elim (cases_eq rows 0) [
-  | inl e ↦ rw (eq-eqb rows 0 e) refl
-  | inr n ↦ rw (ne_eqb rows 0 n) (strip_shown paper layers canvas rows h has n ∙ rw (ne_eqb rows 0 n) refl)
-]
+page_strip paper layers' canvas rows h has = grind (arith, eq-eqb, ne_eqb, strip_shown)
 
 pub has_page : (m : PrinterMode) (layers : List Layer) (page : Paged) → HasPage layers page → HasPageIf m layers page
-has_page Standard layers page h = tt
-has_page Page layers page h = h
+has_page m layers' page h = grind arith
 
 -- the page after an item in page mode
 pub page_kept : (setup : Setup) (before : List EscItem) (item : EscItem) (page : Paged) → mode setup before ≡ Page → HasPage (layers_with setup before item (layers setup before)) page → HasPageIf (mode setup (item ∷ before)) (layers setup (item ∷ before)) page
-page_kept setup before PageMode page e h = has_page (mode setup (PageMode ∷ before)) (layers setup (PageMode ∷ before)) page (rw e h)
-page_kept setup before item page e h = has_page (mode setup (item ∷ before)) (layers setup (item ∷ before)) page h
+page_kept setup before item page e h = grind (arith, has_page)
 
 -- the line that is laid
 pub line_laid : (setup : Setup) (before : List EscItem) (s : Settings) (bitmap : List (List ℕ)) (page : Paged) (layers : List Layer) → s ≡ settings_of setup before → s.height ≤ LINE_ROWS → s.is_open ≡ true
     → (is_open (line setup before) ≡ true → HasDots (line setup before) bitmap)
     → (HasRows s bitmap (line_dot (line setup before)) → HasPage (Laid (mark_of s.page s.height (line_dot (line setup before))) ∷ layers) page)
     → HasPage (laid_if (is_open (line setup before)) (line_mark setup before) layers) page
-line_laid setup before s bitmap page layers e small o has laid =
-    let open_is : is_open (line setup before) ≡ true = sym (ap (λ (q : Settings). q.is_open) e) ∙ o in
-    rw open_is (subst (λ (q : Settings). HasPage (Laid (mark_of q.page q.height (line_dot (line setup before))) ∷ layers) page) e
-    (laid (has_rows s (line setup before) bitmap (ap (λ (q : Settings). q.height) e) small (has open_is))))
+line_laid setup before s bitmap page layers' e small o has laid = grind (arith, has_rows)
 
 pub mode_is : (setup : Setup) (before : List EscItem) (s : Settings) (m : PrinterMode) → s ≡ settings_of setup before → s.page.mode ≡ m → mode setup before ≡ m
 mode_is setup before s m e is = sym (ap (λ (q : Settings). q.page.mode) e) ∙ is

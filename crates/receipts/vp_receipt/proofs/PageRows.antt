@@ -1,7 +1,7 @@
 -- Whole rows of a raster, laid on the page one below the other.
-use Rattle.std.proofs.Common.{inl, inr, ◌≡◌, ℕ, zero, suc, ◌+◌, ◌-◌, ◌*◌, ◌/◌, ◌%◌, ◌<◌, ◌≤◌, Bool, true, false, ltb, leb, eqb, cond, nat_lt, ◌&&◌, ◌||◌, List, [], ◌∷◌, ◌++◌, length, take, drop, min, refl, sym, ap, subst, ◌∙◌, append_assoc, arith, Option, Some, None}
+use Rattle.std.proofs.Common.{◌≡◌, ℕ, zero, suc, ◌+◌, ◌-◌, ◌*◌, ◌/◌, ◌%◌, ◌<◌, ◌≤◌, Bool, true, false, ltb, leb, eqb, cond, nat_lt, ◌&&◌, ◌||◌, List, [], ◌∷◌, ◌++◌, length, take, drop, min, refl, sym, ap, subst, ◌∙◌, append_assoc, arith, Option}
 use Rattle.std.proofs.Math.Nat.{suc-mul, mul_comm, mul-le-mul_right, div-le_of_le-mul, div-mul-le_self, lt-div-mul-add, le_trans}
-use Rattle.std.proofs.lemmas.Bool.{cases_lt, lt-ltb}
+use Rattle.std.proofs.lemmas.Bool.{lt-ltb}
 use Rattle.std.proofs.lemmas.Bool.Decides.{nat_tests}
 use Rattle.std.proofs.lemmas.List.{append-nil, take-append-drop, take-take, take_all, get_or-take, length-take, length-drop}
 use Rattle.std.proofs.lemmas.Nat.{div-mul-add}
@@ -14,15 +14,13 @@ use Rattle.vp_page.specs.Layers.{Layer, Laid, Mark, mark_dot, page_dot, first_ro
 use Rattle.vp_page.specs.Pages.{HasPage, Paged}
 use Rattle.vp_page.specs.declared.area.Area.{Area}
 use Rattle.vp_page.specs.declared.area.Direction.{Direction}
-use Rattle.vp_page.specs.declared.area.Direction.TheVariants.{LeftToRight, BottomToTop, RightToLeft, TopToBottom}
 use Rattle.vp_page.proofs.Falling.{lies, within}
 use Rattle.vp_page.proofs.Pages.{same_page, TakeAsMuch}
 use Rattle.vp_glyph.specs.Sheets.{Sheets}
 use Rattle.vp_receipt_settings.specs.Setup.{Setup}
-use Rattle.vp_receipt_settings.specs.Line.{mode, line, Placed}
-use Rattle.vp_receipt_settings.specs.Settings.{settings_of, page_of, image_of, IsFitPage}
+use Rattle.vp_receipt_settings.specs.Line.{mode, line}
+use Rattle.vp_receipt_settings.specs.Settings.{settings_of, page_of, IsFitPage}
 use Rattle.vp_receipt_settings.specs.Texts.{text_in_force}
-use Rattle.vp_receipt_settings.specs.declared.text.Text.{Text}
 use Rattle.vp_receipt_settings.specs.Rasters.{times_across, times_down, raster_scale, raster_bytes, row_so_far, is_row_end, bytes_after, row_at}
 use Rattle.vp_receipt_settings.specs.Gathering.{IsGathering, IsPartRow, room_of, left_of}
 use Rattle.vp_receipt_settings.specs.Runs.{below}
@@ -32,8 +30,7 @@ use Rattle.vp_receipt_settings.specs.declared.settings.Settings.{Settings}
 use Rattle.vp_receipt_settings.proofs.Runs.{after_first, AreInside, settings_same, settings_stay, line_stays, run_inside, inside}
 use Rattle.vp_receipt_settings.proofs.WholeRows.{Lacks, at_end, not_end, goes, row_below, HaveRows, have_rows, fewer, are_whole, lacks_row, next_row, no_row, rows_below, after_both}
 use Rattle.vp_receipt.specs.PageMarks.{mark_of, raster_mark, rows_dot, layers}
-use Rattle.vp_receipt.specs.Strips.{printed, prints}
-use Rattle.vp_strips.specs.LineDots.{HasOpen}
+use Rattle.vp_receipt.specs.Strips.{printed}
 use Rattle.vp_receipt.specs.Standing.{Gathers, IsOnPage}
 use Rattle.vp_receipt.proofs.Runs.{layers_same}
 use Rattle.vp_page.specs.declared.page.TheConstants.{PAGE_ROWS, PAPER_DOTS}
@@ -47,15 +44,11 @@ first_dots_of row n u h = ap (λ b. bit b (7 - u % 8)) (get_or-take n row (u / 8
 -- on a page a raster's bytes print nothing
 pub nothing_printed : (setup : Setup) (bytes : List ℕ) (before : List EscItem) → mode setup before ≡ Page → printed setup (bytes_after bytes before) ≡ printed setup before
 nothing_printed setup [] before e = refl
-nothing_printed setup (b ∷ bytes) before e =
-    let none : prints setup before (RasterByte b) ≡ [] = rw e refl in
-    ap (printed setup) (after_first b bytes before) ∙ nothing_printed setup bytes (RasterByte b ∷ before) e
-    ∙ ap (λ x. printed setup before ++ x) none ∙ append-nil (printed setup before)
+nothing_printed setup (b ∷ bytes) before e = grind (arith, after_first, append-nil, nothing_printed setup bytes (RasterByte b ∷ before) e)
 
 pub layers_stay : (setup : Setup) (bytes : List ℕ) (before : List EscItem) → AreInside bytes before → layers setup (bytes_after bytes before) ≡ layers setup before
 layers_stay setup [] before in_row = refl
-layers_stay setup (b ∷ bytes) before in_row =
-    ap (layers setup) (after_first b bytes before) ∙ layers_stay setup bytes (RasterByte b ∷ before) in_row.1 ∙ layers_same setup b before in_row.0
+layers_stay setup (b ∷ bytes) before in_row = grind (arith, after_first, layers_same, layers_stay setup bytes (RasterByte b ∷ before) in_row.1)
 
 -- a row of the raster as it is drawn
 abbrev row_dot : RasterScale → List ℕ → ℕ → ℕ → Bool
@@ -81,23 +74,13 @@ row_laid_by setup (b ∷ c ∷ bytes) before h =
 
 -- the rows of an area on the page
 depth_small : (a : Area) (d : Direction) → a.x + a.dx ≤ PAPER_DOTS → a.y + a.dy ≤ PAGE_ROWS → depth a d ≤ PAGE_ROWS
-depth_small a LeftToRight h k = omega arith
-depth_small a BottomToTop h k = omega arith
-depth_small a RightToLeft h k = omega arith
-depth_small a TopToBottom h k = omega arith
+depth_small a d h k = grind arith
 
 -- a row below others, where it isn't past the end of the page
 row_more : (h r m p : Bool) (w top k d : ℕ) → (h ≡ true → w < 65535) → (h ≡ true → top + k ≤ w → w - (top + k) < d → r ≡ m)
     → (h && (leb (min (top + k) 65535) w && (ltb (w - min (top + k) 65535) d && r)) || (h && (leb top w && (ltb (w - top) k && m)) || p))
     ≡ (h && (leb top w && (ltb (w - top) (k + d) && m)) || p)
-row_more false r m p w top k d small same = refl
-row_more true r m p w top k d small same = elim (cases_lt w (top + k)) [
-  | inl l ↦ (let s : w < 65535 = small refl in grind (arith, nat_tests))
-  | inr g ↦ elim (cases_lt (w - (top + k)) d) [
-    | inl n ↦ (let e : r ≡ m = same refl g n in let s : w < 65535 = small refl in grind (arith, nat_tests))
-    | inr n ↦ (let s : w < 65535 = small refl in grind (arith, nat_tests))
-  ]
-]
+row_more h r m p w top k d small same = grind (arith, nat_tests)
 
 no_rows : (h t : Bool) (w k : ℕ) (b : Bool) → k ≡ 0 → (h && (t && (ltb w k && b))) ≡ false
 no_rows h t w k b e = grind (arith, nat_tests)
@@ -105,19 +88,11 @@ no_rows h t w k b e = grind (arith, nat_tests)
 -- dots of row k
 pub row_is : (scale : RasterScale) (wide n : ℕ) (bytes : List ℕ) (k u w y : ℕ) → k < n → y ≡ k * times_down scale + w → w < times_down scale
     → rows_dot scale wide n bytes u y ≡ dot (row_at bytes wide k) (u / times_across scale)
-row_is scale wide n bytes k u w y few at in_row =
-    let d = times_down scale in
-    let room : suc k * d ≤ n * d = mul-le-mul_right d (omega arith) in
-    let shown : y < n * d = omega (arith, suc-mul k d, room) in
-    rw (lt-ltb y (n * d) shown) (ap (λ i. dot (row_at bytes wide i) (u / times_across scale)) (ap (λ v. v / d) at ∙ div-mul-add k d w in_row))
+row_is scale wide n bytes k u w y few at in_row = grind (arith, mul-le-mul_right, suc-mul, lt-ltb, div-mul-add)
 
 -- the bytes that are shown of a row have its dots
 pub front_shown : (wide v : ℕ) (bytes : List ℕ) → v < LINE_DOTS → dot (take (min wide LINE_BYTES) bytes) v ≡ dot (take wide bytes) v
-front_shown wide v bytes h = elim (cases_lt LINE_BYTES wide) [
-  | inl long ↦ (let e : min wide LINE_BYTES ≡ LINE_BYTES = omega arith in
-      ap (λ i. dot (take i bytes) v) e ∙ ap (λ (xs : List ℕ). dot xs v) (sym (take-take LINE_BYTES wide bytes (omega arith))) ∙ first_dots_of (take wide bytes) LINE_BYTES v (omega arith))
-  | inr short ↦ (let e : min wide LINE_BYTES ≡ wide = omega arith in ap (λ i. dot (take i bytes) v) e)
-]
+front_shown wide v bytes h = grind (arith, take-take, first_dots_of)
 
 -- the mark of rows at the vertical position
 abbrev rows_mark : Setup → List ℕ → ℕ → List EscItem → Mark
@@ -127,13 +102,7 @@ rows_mark setup bytes n before = mark_of (page_of setup before) (n * times_down 
 mark_below : (setup : Setup) (bytes : List ℕ) (k : ℕ) (before : List EscItem) → (settings_of setup before).page.vertical ≤ 65535 → HaveRows bytes k before
     → raster_mark setup (bytes_after (take (k * raster_bytes before) bytes) before) (row_so_far (bytes_after (take (k * raster_bytes before) bytes) before) ++ row_at bytes (raster_bytes before) k)
     ≡ mark_of (below (settings_of setup before) (k * times_down (raster_scale before))).page (times_down (raster_scale before)) (row_dot (raster_scale before) (row_at bytes (raster_bytes before) k))
-mark_below setup bytes k before small h =
-    let here = bytes_after (take (k * raster_bytes before) bytes) before in
-    let row = row_at bytes (raster_bytes before) k in
-    let above = are_whole bytes k before h in
-    ap (λ (xs : List ℕ). raster_mark setup here (xs ++ row)) above.row
-    ∙ ap (λ (t : RasterScale). mark_of (page_of setup here) (times_down t) (row_dot t row)) above.scale
-    ∙ ap (λ (s : Settings). mark_of s.page (times_down (raster_scale before)) (row_dot (raster_scale before) row)) (rows_below setup bytes k before small h)
+mark_below setup bytes k before small h = grind (arith, are_whole, rows_below)
 
 module _ (setup : Setup) (bytes : List ℕ) (n : ℕ) (before : List EscItem) (small : (settings_of setup before).page.vertical ≤ 65535) (fit : IsFitPage (page_of setup before)) where
   abbrev m : Mark
@@ -205,24 +174,13 @@ module _ (setup : Setup) (bytes : List ℕ) (n : ℕ) (before : List EscItem) (s
 -- bytes within the row are kept, and leave the page as it is
 pub inside_on_page : (setup : Setup) (before : List EscItem) (s : Settings) (r now : Raster) (bytes : List ℕ) (page : Paged) → length bytes ≤ room_of r → IsOnPage setup before s r page
     → IsGathering now (bytes_after bytes before) → IsOnPage setup (bytes_after bytes before) s now page
-inside_on_page setup before s r now bytes page room h g =
-    let in_row = run_inside r bytes before room h.raster in
-    record {
-      settings = h.settings ∙ sym (settings_stay setup bytes before in_row);
-      raster = g;
-      page = subst (λ (l : List Layer). HasPage l page) (sym (layers_stay setup bytes before in_row)) h.page;
-    }
+inside_on_page setup before s r now bytes page room h g = grind (arith, run_inside, settings_stay, layers_stay)
 
 -- bytes that end the row lay it
 pub row_on_page : (setup : Setup) (before : List EscItem) (s t : Settings) (r now : Raster) (bytes : List ℕ) (page new : Paged) → Lacks bytes before → IsOnPage setup before s r page
     → t ≡ below s (times_down r.scale) → IsGathering now (bytes_after bytes before) → HasPage (Laid (raster_mark setup before (row_so_far before ++ bytes)) ∷ layers setup before) new
     → IsOnPage setup (bytes_after bytes before) t now new
-row_on_page setup before s t r now bytes page new lacks h e g laid = record {
-  settings = e ∙ ap (λ (q : Settings). below q (times_down r.scale)) h.settings ∙ ap (λ (k : RasterScale). below (settings_of setup before) (times_down k)) h.raster.scale
-      ∙ sym (row_below setup bytes before lacks);
-  raster = g;
-  page = subst (λ (l : List Layer). HasPage l new) (sym (row_laid_by setup bytes before lacks)) laid;
-}
+row_on_page setup before s t r now bytes page new lacks h e g laid = grind (arith, row_below, row_laid_by)
 
 -- whole rows are laid
 pub rows_on_page : (setup : Setup) (before : List EscItem) (s t : Settings) (r now : Raster) (bytes : List ℕ) (n : ℕ) (page new : Paged) → s.page.vertical ≤ 65535 → IsFitPage s.page
@@ -264,44 +222,21 @@ pub record Taken (r : Raster) (long n : ℕ) : Type 0 where
   pub rest : long - n * r.bytes ≤ room_of (record r { rows = r.rows - n })
 
 some_rows : (rows b got long : ℕ) → 0 < long → long ≤ rows * b - got → 0 < rows
-some_rows zero b got long some few = let none : 0 * b ≡ 0 = omega arith in absurd (omega (arith, none))
-some_rows (suc rows) b got long some few = omega arith
+some_rows rows b got long some few = grind arith
 
 pub rest_room : (rows b n long : ℕ) (none : Bool) → eqb (rows - n) 0 ≡ none → n ≤ rows → long ≤ rows * b → long < n * b + b → long - n * b ≤ cond none 0 (b - 0 - 1)
-rest_room rows b n long true e few all more =
-    let same : n ≡ rows = grind (arith, nat_tests) in
-    let whole : n * b ≡ rows * b = ap (λ k. k * b) same in
-    omega arith
-rest_room rows b n long false e few all more = omega arith
+rest_room rows b n long none e few all more = grind (arith, nat_tests)
 
 pub taken : (r : Raster) (long n : ℕ) → IsPartRow r → r.got ≡ 0 → 0 < long → long ≤ left_of r → n ≡ min r.rows (long / r.bytes) → Taken r long n
-taken r long n part begins some room is =
-    let comes = some_rows r.rows r.bytes r.got long some room in
-    let wide = part.some comes in
-    let all : long ≤ r.rows * r.bytes = omega arith in
-    let most : long / r.bytes ≤ r.rows = div-le_of_le-mul r.bytes (let e = mul_comm r.bytes r.rows in omega (arith, e, all)) in
-    let n_is : n ≡ long / r.bytes = omega arith in
-    let under : n * r.bytes ≡ long / r.bytes * r.bytes = ap (λ k. k * r.bytes) n_is in
-    let more : long < long / r.bytes * r.bytes + r.bytes = lt-div-mul-add {a = long} {b = r.bytes} (omega (arith, wide)) in
-    let rest : long - n * r.bytes ≤ cond (eqb (r.rows - n) 0) 0 (r.bytes - 0 - 1) =
-    rest_room r.rows r.bytes n long (eqb (r.rows - n) 0) refl (omega arith) all (omega arith) in
-    record {
-      few = omega arith;
-      bytes = omega (arith, div-mul-le_self long r.bytes);
-      rest = subst (λ g. long - n * r.bytes ≤ cond (eqb (r.rows - n) 0) 0 (r.bytes - g - 1)) (sym begins) rest;
-    }
+taken r long n part begins some room is = grind (arith, some_rows, div-le_of_le-mul, mul_comm, lt-div-mul-add, rest_room, div-mul-le_self)
 
 pub rest_fits : (r now : Raster) (bytes : List ℕ) (n wide : ℕ) → Taken r (length bytes) n → wide ≡ r.bytes → now ≡ record r { rows = r.rows - n }
     → length (take (length bytes - n * wide) (drop (n * wide) bytes)) ≤ room_of now
-rest_fits r now bytes n wide t is e =
-    let size : length (take (length bytes - n * wide) (drop (n * wide) bytes)) ≤ length bytes - n * wide = omega (arith, length-take (length bytes - n * wide) (drop (n * wide) bytes)) in
-    subst (λ (k : Raster). length (take (length bytes - n * wide) (drop (n * wide) bytes)) ≤ room_of k) (sym e)
-    (le_trans size (subst (λ w. length bytes - n * w ≤ room_of (record r { rows = r.rows - n })) (sym is) t.rest))
+rest_fits r now bytes n wide t is e = grind (arith, length-take, le_trans)
 
 -- a row that has begun lacks one byte more than come before its last
 whole_by : (r : Raster) (none : Bool) → eqb r.rows 0 ≡ none → IsPartRow r → (r.got ≡ 0 → ⊥) → r.got + (cond none 0 (r.bytes - r.got - 1) + 1) ≡ r.bytes
-whole_by r true e part begun = absurd (begun (part.none (grind (arith, nat_tests))))
-whole_by r false e part begun = let less = part.some (grind (arith, nat_tests)) in omega (arith, less)
+whole_by r none e part begun = grind (arith, nat_tests)
 
 pub row_whole : (r : Raster) → IsPartRow r → (r.got ≡ 0 → ⊥) → r.got + (room_of r + 1) ≡ r.bytes
 row_whole r part begun = whole_by r (eqb r.rows 0) refl part begun
@@ -313,7 +248,4 @@ text_stays (b ∷ bytes) before = ap text_in_force (after_first b bytes before) 
 
 pub gathers_still : (setup : Setup) (bytes : List ℕ) (before : List EscItem) (sheets : Sheets) (s t : Settings) (bitmap : List (List ℕ)) (waiting : Option ℕ) → s ≡ settings_of setup before
     → t ≡ settings_of setup (bytes_after bytes before) → Gathers sheets s bitmap waiting (line setup before) → Gathers sheets t bitmap waiting (line setup (bytes_after bytes before))
-gathers_still setup bytes before sheets s t bitmap None e f h = subst (λ (placed : List Placed). HasOpen placed bitmap) (sym (line_stays setup bytes before)) h
-gathers_still setup bytes before sheets s t bitmap (Some code) e f h =
-    let same : s.text ≡ t.text = ap (λ (q : Settings). q.text) e ∙ sym (text_stays bytes before) ∙ sym (ap (λ (q : Settings). q.text) f) in
-    line_stays setup bytes before ∙ h ∙ ap (λ (x : Text). record { at = 0; image = image_of sheets x code } ∷ []) same
+gathers_still setup bytes before sheets s t bitmap waiting e f h = grind (arith, line_stays, text_stays)

@@ -1,11 +1,10 @@
 -- What an item with a symbol lays on the page, and what lays nothing but the line.
-use Rattle.std.proofs.Common.{◌≡◌, ℕ, ◌-◌, Bool, ◌&&◌, ◌||◌, nat_le, arith, refl, ap, sym, subst, ◌∙◌, List, [], ◌∷◌, Option, Some, None}
+use Rattle.std.proofs.Common.{◌≡◌, ℕ, Bool, nat_le, arith, sym, subst, List, [], ◌∷◌, Option, Some, None}
 use Rattle.vp_esc.specs.declared.item.EscItem.{EscItem}
 use Rattle.vp_esc.specs.declared.item.EscItem.TheVariants.{QrPrint, Symbol as SetSymbol}
 use Rattle.vp_page.specs.declared.area.Area.{Area}
 use Rattle.vp_page.specs.declared.area.Direction.{Direction}
-use Rattle.vp_page.specs.Areas.{holds, along, down}
-use Rattle.vp_page.specs.Layers.{Layer, Laid, page_dot}
+use Rattle.vp_page.specs.Layers.{Layer, Laid}
 use Rattle.vp_page.specs.Pages.{HasPage, Paged}
 use Rattle.vp_strips.specs.declared.symbol.Symbol.{Symbol}
 use Rattle.vp_receipt_settings.specs.Setup.{Setup}
@@ -22,31 +21,21 @@ use Rattle.vp_strips.specs.SymbolInks.{symbol_dot, symbol_height, IsSymbolOf}
 
 -- it ends the line
 pub line_ended : (setup : Setup) (before : List EscItem) (item : EscItem) (symbol : Symbol) → IsSymbolOf setup.sheets (Some symbol) (symbol_image setup before item) → line setup (item ∷ before) ≡ []
-line_ended setup before (SetSymbol kind bytes more) symbol h = refl
-line_ended setup before QrPrint symbol h = refl
-line_ended setup before _ symbol h = absurd h
+line_ended setup before item symbol h = grind arith
 
 pub gathers_none : (sheets : Sheets) (s : Settings) (bitmap : List (List ℕ)) (placed : List Placed) → placed ≡ [] → Gathers sheets s bitmap None placed
 gathers_none sheets s bitmap placed e = subst (λ (l : List Placed). Gathers sheets s bitmap None l) (sym e) (λ o. cc)
 
 same_dots : (a : Area) (d : Direction) (top high rows : ℕ) (f g : ℕ → ℕ → Bool) (layers : List Layer) (page : Paged) → ((u w : ℕ) → f u w ≡ g u w) → high ≡ rows
     → HasPage (Laid (record { area = a; direction = d; top = top; high = high; dot = f }) ∷ layers) page → HasPage (Laid (record { area = a; direction = d; top = top; high = rows; dot = g }) ∷ layers) page
-same_dots a d top high rows f g layers page e same h = record {
-  rows_are = h.rows_are;
-  dots_are = λ x y i j. h.dots_are x y i j
-      ∙ ap (λ b. (holds a x y && (nat_le top (down a d x y) && b)) || page_dot layers x y) (e (along a d x y) (down a d x y - top));
-  work = record { laid_is = omega (arith, same, h.work.laid_is); at_most = h.work.at_most; at_least = h.work.at_least };
-}
+same_dots a d top high rows f g layers' page e same h = grind (arith, nat_le)
 
 -- what is in force where it is laid
 pub laid_by : (setup : Setup) (before : List EscItem) (s : Settings) (symbol : Symbol) (sheets : Sheets) (top : ℕ) (layers : List Layer) (page : Paged) → s ≡ settings_of setup before → sheets ≡ setup.sheets
     → top ≡ symbol_top setup before
     → HasPage (Laid (record { area = s.page.area; direction = s.page.direction; top = top; high = symbol_height sheets symbol; dot = symbol_dot sheets symbol }) ∷ layers) page
     → HasPage (Laid (record { area = area setup before; direction = direction before; top = symbol_top setup before; high = symbol_height setup.sheets symbol; dot = symbol_dot setup.sheets symbol }) ∷ layers) page
-laid_by setup before s symbol sheets top layers page e sheets_is top_is laid =
-    subst (λ (k : Sheets). HasPage (Laid (record { area = area setup before; direction = direction before; top = symbol_top setup before; high = symbol_height k symbol; dot = symbol_dot k symbol }) ∷ layers) page) sheets_is
-    (subst (λ n. HasPage (Laid (record { area = area setup before; direction = direction before; top = n; high = symbol_height sheets symbol; dot = symbol_dot sheets symbol }) ∷ layers) page) top_is
-    (subst (λ (q : Settings). HasPage (Laid (record { area = q.page.area; direction = q.page.direction; top = top; high = symbol_height sheets symbol; dot = symbol_dot sheets symbol }) ∷ layers) page) e laid))
+laid_by setup before s symbol sheets top layers' page e sheets_is top_is laid = grind arith
 
 -- it lays its symbol below the line
 pub symbol_laid : (setup : Setup) (before : List EscItem) (item : EscItem) (symbol : Symbol) (page : Paged) → IsSymbolOf setup.sheets (Some symbol) (symbol_image setup before item)

@@ -1,9 +1,9 @@
 -- Rows of a raster that are printed as they come.
-use Rattle.std.proofs.Common.{inl, inr, ◌≡◌, ℕ, zero, suc, ◌+◌, ◌-◌, ◌*◌, ◌/◌, ◌<◌, ◌≤◌, ◌^◌, Bool, true, false, not, eqb, cond, nat_lt, nat_le, ◌&&◌, List, [], ◌∷◌, ◌++◌, length, take, drop, min, refl, sym, ap, subst, ◌∙◌, append_assoc, arith, get_or}
+use Rattle.std.proofs.Common.{◌≡◌, ℕ, zero, suc, ◌+◌, ◌-◌, ◌*◌, ◌/◌, ◌<◌, ◌≤◌, ◌^◌, Bool, true, false, not, nat_lt, nat_le, ◌&&◌, List, [], ◌∷◌, ◌++◌, length, take, drop, min, refl, sym, ap, subst, ◌∙◌, append_assoc, arith, get_or}
 use Rattle.vp_page.specs.Pages.{Paged}
 use Rattle.std.proofs.Math.Nat.{suc-mul, mul_comm, div-le_of_le-mul, div-mul-le_self, lt-div-mul-add, div-lt_iff_lt-mul, mul-le-mul_right, le_trans}
 use Rattle.std.proofs.Math.Seq.{take-add}
-use Rattle.std.proofs.lemmas.Bool.{cases_lt, and_parts, eqb-true}
+use Rattle.std.proofs.lemmas.Bool.{and_parts, eqb-true}
 use Rattle.std.proofs.lemmas.Bool.Decides.{nat_tests}
 use Rattle.std.proofs.lemmas.List.{append-nil, take-append-drop, length-take, get_or-take, get_or-drop, get_or_past}
 use Rattle.vp_dots.specs.Dots.{dot}
@@ -11,18 +11,17 @@ use Rattle.vp_dots.proofs.ImageRows.{row_is}
 use Rattle.vp_esc.specs.declared.item.EscItem.{EscItem}
 use Rattle.vp_esc.specs.declared.item.EscItem.TheVariants.{RasterByte}
 use Rattle.vp_esc.specs.declared.item.RasterScale.{RasterScale}
-use Rattle.vp_esc.specs.declared.item.RasterScale.TheVariants.{Normal, DoubleWidth, DoubleHeight, Quadruple}
+use Rattle.vp_esc.specs.declared.item.RasterScale.TheVariants.{Normal}
 use Rattle.vp_glyph.specs.declared.block.Alignment.{Alignment}
-use Rattle.vp_glyph.specs.declared.block.Alignment.TheVariants.{Left, Centre, Right}
 use Rattle.vp_glyph.specs.Blocks.{indent}
 use Rattle.vp_receipt_settings.specs.declared.page_mode.PrinterMode.{PrinterMode}
-use Rattle.vp_receipt_settings.specs.declared.page_mode.PrinterMode.TheVariants.{Standard, Page}
+use Rattle.vp_receipt_settings.specs.declared.page_mode.PrinterMode.TheVariants.{Standard}
 use Rattle.vp_receipt_settings.specs.declared.raster.Raster.{Raster}
 use Rattle.vp_receipt_settings.specs.declared.settings.Settings.{Settings}
 use Rattle.vp_receipt_settings.proofs.Widths.{dots_across, some_bytes}
 use Rattle.vp_receipt_settings.specs.Gathering.{IsGathering, IsPartRow, left_of, room_of, run_of}
 use Rattle.vp_receipt_settings.specs.Line.{mode, left_margin}
-use Rattle.vp_receipt_settings.specs.Settings.{settings_of, paper_length, printed_at, justification}
+use Rattle.vp_receipt_settings.specs.Settings.{settings_of, paper_length, printed_at}
 use Rattle.vp_receipt_settings.specs.Pages.{is_paged}
 use Rattle.vp_receipt_settings.specs.Rasters.{raster_scale, raster_bytes, row_so_far, is_row_end, bytes_after, row_at, times_across, times_down}
 use Rattle.vp_receipt_settings.specs.Runs.{below}
@@ -42,8 +41,7 @@ use Rattle.vp_receipt.proofs.Runs.{paper_stays}
 row_printed_by : (setup : Setup) (bytes : List ℕ) (before : List EscItem) → mode setup before ≡ Standard → Lacks bytes before
     → printed setup (bytes_after bytes before) ≡ printed setup before ++ raster_row_text setup before (row_so_far before ++ bytes)
 row_printed_by setup [] before e h = absurd (omega (arith, h.some))
-row_printed_by setup (b ∷ []) before e h =
-    ap (λ x. printed setup before ++ x) (sym (row_owned setup before b e (at_end b before h) ∙ row_printed setup before b e))
+row_printed_by setup (b ∷ []) before e h = grind (arith, row_owned, at_end, row_printed)
 row_printed_by setup (b ∷ c ∷ bytes) before e h =
     let more : is_row_end before ≡ false = not_end b c bytes before h in
     let go = goes b c bytes before h in
@@ -64,26 +62,14 @@ pub record IsPlain (setup : Setup) (before : List EscItem) : Type 0 where
 
 still_plain : (setup : Setup) (bytes : List ℕ) (before : List EscItem) → IsPlain setup before → IsPlain setup (bytes_after bytes before)
 still_plain setup [] before h = h
-still_plain setup (b ∷ bytes) before h =
-    subst (IsPlain setup) (sym (after_first b bytes before))
-    (still_plain setup bytes (RasterByte b ∷ before) (record { mode = h.mode; scale = h.scale; wide = h.wide; free = h.free }))
+still_plain setup (b ∷ bytes) before h = grind (arith, after_first, still_plain setup bytes (RasterByte b ∷ before) (record { mode = h.mode; scale = h.scale; wide = h.wide; free = h.free }))
 
 none_shifted : (j : Alignment) → indent j 0 ≡ 0
-none_shifted Left = refl
-none_shifted Centre = refl
-none_shifted Right = refl
+none_shifted j = grind arith
 
 -- nothing moves what is as wide as the paper
 at_left : (setup : Setup) (before : List EscItem) (wide : ℕ) → IsPlain setup before → wide ≡ across setup.width → printed_at setup before wide ≡ 0
-at_left setup before wide h e =
-    let some = some_bytes setup.width in
-    let dots = dots_across setup.width in
-    let margin : left_margin setup before ≡ 0 = omega (arith, h.free, some, dots) in
-    let spare : paper_length setup before - min wide (paper_length setup before) ≡ 0 = omega (arith, h.free, e) in
-    let moved : indent (justification setup before) (paper_length setup before - min wide (paper_length setup before)) ≡ 0 =
-    ap (indent (justification setup before)) spare ∙ none_shifted (justification setup before) in
-    let here : left_margin setup before + indent (justification setup before) (paper_length setup before - min wide (paper_length setup before)) ≡ 0 = omega (arith, margin, moved) in
-    here
+at_left setup before wide h e = grind (arith, some_bytes, dots_across, none_shifted)
 
 seen : (left long d : ℕ) (b c : Bool) → left ≡ 0 → d < long → b ≡ c → b ≡ (nat_le left d && nat_lt (d - left) long && c)
 seen left long d b c e h same = grind (arith, nat_tests)
@@ -106,10 +92,7 @@ plain_row setup before row h long fits =
     ∙ sym (row_is row (row_bytes setup.width) shown long fits same)
 
 front_fits : (w : ℕ) (xs : List ℕ) (i : ℕ) → ((i : ℕ) → get_or xs i 0 < 2 ^ 8) → get_or (take w xs) i 0 < 2 ^ 8
-front_fits w xs i fits = elim (cases_lt i w) [
-  | inl l ↦ subst (λ b. b < 2 ^ 8) (sym (get_or-take w xs i 0 l)) (fits i)
-  | inr g ↦ subst (λ b. b < 2 ^ 8) (sym (get_or_past (take w xs) i 0 (omega (arith, length-take w xs)))) (omega arith)
-]
+front_fits w xs i fits = grind (arith, get_or-take, get_or_past, length-take)
 
 rest_of_fits : (n : ℕ) (xs : List ℕ) → ((i : ℕ) → get_or xs i 0 < 2 ^ 8) → (i : ℕ) → get_or (drop n xs) i 0 < 2 ^ 8
 rest_of_fits n xs fits i = subst (λ b. b < 2 ^ 8) (sym (get_or-drop n xs i 0)) (fits (n + i))
@@ -120,9 +103,7 @@ no_front bytes w = let none : 0 ≡ 0 * w = omega arith in ap (λ n. take n byte
 -- so many rows print their bytes
 rows_printed : (setup : Setup) (bytes : List ℕ) (k : ℕ) (before : List EscItem) → ((i : ℕ) → get_or bytes i 0 < 2 ^ 8) → IsPlain setup before → HaveRows bytes k before
     → printed setup (bytes_after (take (k * raster_bytes before) bytes) before) ≡ printed setup before ++ take (k * raster_bytes before) bytes
-rows_printed setup bytes zero before fits plain h =
-    ap (printed setup) (no_row bytes (raster_bytes before) before) ∙ sym (append-nil (printed setup before))
-    ∙ ap (λ x. printed setup before ++ x) (no_front bytes (raster_bytes before))
+rows_printed setup bytes zero before fits plain h = grind (arith, no_row, append-nil, no_front)
 rows_printed setup bytes (suc k) before fits plain h =
     let w = raster_bytes before in
     let above_bytes = take (k * w) bytes in
@@ -151,69 +132,28 @@ pub record Told (s : Settings) (r : Raster) : Type 0 where
   pub some : 0 < r.bytes
 
 on_paper : (m : PrinterMode) → not (is_paged m) ≡ true → m ≡ Standard
-on_paper Standard e = refl
-on_paper Page e = cc
+on_paper m e = grind arith
 
 drawn_once : (k : RasterScale) → is_once k ≡ true → k ≡ Normal
-drawn_once Normal e = refl
-drawn_once DoubleWidth e = cc
-drawn_once DoubleHeight e = cc
-drawn_once Quadruple e = cc
+drawn_once k e = grind arith
 
 pub told : (s : Settings) (r : Raster) → is_plain s r ≡ true → Told s r
-told s r h =
-    let a = and_parts _ _ h in
-    let b = and_parts _ _ a.1 in
-    let c = and_parts _ _ b.1 in
-    let d = and_parts _ _ c.1 in
-    let wide = eqb-true r.bytes (row_bytes s.paper) d.0 in
-    let some = some_bytes s.paper in
-    record {
-      begins = eqb-true r.got 0 a.0;
-      mode = on_paper s.page.mode b.0;
-      scale = drawn_once r.scale c.0;
-      wide = wide;
-      free = eqb-true _ _ d.1;
-      some = omega (arith, wide, some);
-    }
+told s r h = grind (arith, and_parts, eqb-true, some_bytes, on_paper, drawn_once)
 
 plain_of : (setup : Setup) (before : List EscItem) (s : Settings) (r : Raster) → Told s r → s ≡ settings_of setup before → IsGathering r before → IsPlain setup before
-plain_of setup before s r t e g = record {
-  mode = sym (ap (λ (q : Settings). q.page.mode) e) ∙ t.mode;
-  scale = sym g.scale ∙ t.scale;
-  wide = sym g.bytes ∙ t.wide ∙ ap (λ (q : Settings). row_bytes q.paper) e;
-  free = sym (ap (λ (q : Settings). min q.area_width (across q.paper - q.left_margin)) e) ∙ t.free ∙ ap (λ (q : Settings). across q.paper) e;
-}
+plain_of setup before s r t e g = grind arith
 
 -- the rows that are whole among bytes that there is room for
 pub all_whole : (r : Raster) (long n : ℕ) → r.got ≡ 0 → long ≤ left_of r → n ≡ min r.rows (long / r.bytes) → n ≡ long / r.bytes
-all_whole r long n begins room is =
-    let all : long ≤ r.rows * r.bytes = omega arith in
-    let most : long / r.bytes ≤ r.rows = div-le_of_le-mul r.bytes (let e = mul_comm r.bytes r.rows in omega (arith, e, all)) in
-    omega arith
+all_whole r long n begins room is = grind (arith, div-le_of_le-mul, mul_comm)
 
 -- and what is left of one
 pub plain_taken : (r : Raster) (long n : ℕ) → 0 < r.bytes → r.got ≡ 0 → long ≤ left_of r → n ≡ min r.rows (long / r.bytes) → Taken r long n
-plain_taken r long n wide begins room is =
-    let all : long ≤ r.rows * r.bytes = omega arith in
-    let n_is = all_whole r long n begins room is in
-    let under : n * r.bytes ≡ long / r.bytes * r.bytes = ap (λ k. k * r.bytes) n_is in
-    let more : long < long / r.bytes * r.bytes + r.bytes = lt-div-mul-add {a = long} {b = r.bytes} (omega (arith, wide)) in
-    let rest : long - n * r.bytes ≤ cond (eqb (r.rows - n) 0) 0 (r.bytes - 0 - 1) =
-    rest_room r.rows r.bytes n long (eqb (r.rows - n) 0) refl (omega arith) all (omega arith) in
-    record {
-      few = omega arith;
-      bytes = omega (arith, div-mul-le_self long r.bytes);
-      rest = subst (λ g. long - n * r.bytes ≤ cond (eqb (r.rows - n) 0) 0 (r.bytes - g - 1)) (sym begins) rest;
-    }
+plain_taken r long n wide begins room is = grind (arith, all_whole, lt-div-mul-add, rest_room, div-mul-le_self)
 
 -- the rows that are whole have room where they are put out
 pub put_fits : (w long output : ℕ) → 0 < w → long ≤ output / w * w + (w - 1) → long / w * w ≤ output
-put_fits w long output some few =
-    let under = div-mul-le_self output w in
-    let next : long < suc (output / w) * w = omega (arith, some, few, suc-mul (output / w) w) in
-    let most : long / w < suc (output / w) = (div-lt_iff_lt-mul {k = w} {x = long} {y = suc (output / w)} some).1 next in
-    le_trans (mul-le-mul_right w (omega (arith, most))) under
+put_fits w long output some few = grind (arith, div-mul-le_self, suc-mul, div-lt_iff_lt-mul, le_trans, mul-le-mul_right)
 
 -- whole rows are put out, and what is left is kept
 pub rows_on_paper : (setup : Setup) (before : List EscItem) (s : Settings) (r now : Raster) (t : Settings) (last : Raster) (bytes : List ℕ) (n end : ℕ) → ((i : ℕ) → get_or bytes i 0 < 2 ^ 8) → s.page.vertical ≤ 65535
@@ -261,5 +201,4 @@ mode_stays setup (b ∷ bytes) before = ap (mode setup) (after_first b bytes bef
 -- on paper no page is asked for
 pub no_page : (setup : Setup) (bytes : List ℕ) (before : List EscItem) (page : Paged) → mode setup before ≡ Standard
     → HasPageIf (mode setup (bytes_after bytes before)) (layers setup (bytes_after bytes before)) page
-no_page setup bytes before page e =
-    subst (λ (m : PrinterMode). HasPageIf m (layers setup (bytes_after bytes before)) page) (sym (mode_stays setup bytes before ∙ e)) tt
+no_page setup bytes before page e = grind (arith, mode_stays)

@@ -1,5 +1,5 @@
 -- The rows of a raster, from the bytes that are kept of each.
-use Rattle.std.proofs.Common.{◌≡◌, ℕ, ◌-◌, ◌*◌, ◌/◌, ◌%◌, ◌<◌, ◌&&◌, nat_le, nat_lt, Bool, true, refl, ap, sym, ◌∙◌, arith, List, ◌∷◌, length, take, subst}
+use Rattle.std.proofs.Common.{◌≡◌, ℕ, ◌-◌, ◌*◌, ◌/◌, ◌%◌, ◌<◌, ◌&&◌, nat_le, nat_lt, Bool, true, ap, ◌∙◌, arith, List, ◌∷◌, length, take, subst}
 use Rattle.std.proofs.Math.Nat.{div-le_self}
 use Rattle.std.proofs.lemmas.Bool.{lt-ltb, ltb-true, and_parts}
 use Rattle.std.proofs.lemmas.List.{get_or-take}
@@ -38,9 +38,7 @@ rows_shown setup before s kept came row left length times bytes n e left_is long
 
 -- a row that is laid, as often as its scale says
 laid_dots : (came kept : List ℕ) (across down : ℕ) → kept ≡ take LINE_BYTES came → (u w : ℕ) → u < LINE_DOTS → w < down → dot kept (u / across) ≡ nat_lt w down && dot came (u / across)
-laid_dots came kept across down k u w h l =
-    ap (λ (xs : List ℕ). dot xs (u / across)) k ∙ dot_kept came (u / across) (let le = div-le_self u across in omega arith)
-    ∙ sym (rw (lt-ltb w down l) refl)
+laid_dots came kept across down k u w h l = grind (arith, dot_kept, div-le_self, lt-ltb)
 
 pub laid_row : (setup : Setup) (before : List EscItem) (s : Settings) (scale : RasterScale) (came kept : List ℕ) (layers : List Layer) (page : Paged) → s ≡ settings_of setup before → scale ≡ raster_scale before
     → kept ≡ take LINE_BYTES came

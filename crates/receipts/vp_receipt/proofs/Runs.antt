@@ -13,7 +13,6 @@ use Rattle.vp_receipt_settings.specs.Pages.{is_paged}
 use Rattle.vp_receipt.specs.PageMarks.{layers}
 use Rattle.vp_page.specs.Layers.{Layer}
 use Rattle.vp_receipt_settings.specs.declared.page_mode.PrinterMode.{PrinterMode}
-use Rattle.vp_receipt_settings.specs.declared.page_mode.PrinterMode.TheVariants.{Standard, Page}
 use Rattle.vp_receipt_settings.specs.Gathering.{IsGathering, room_of}
 use Rattle.vp_receipt.specs.Standing.{HasPageIf}
 use Rattle.vp_receipt_settings.proofs.Runs.{after_first, AreInside, goes_on, inside, has_room}
@@ -24,13 +23,10 @@ layers_same setup b before e = rw e refl
 pub page_stays : (setup : Setup) (bytes : List ℕ) (before : List EscItem) (page : Paged) → AreInside bytes before → HasPageIf (mode setup before) (layers setup before) page
     → HasPageIf (mode setup (bytes_after bytes before)) (layers setup (bytes_after bytes before)) page
 page_stays setup [] before page in_row h = h
-page_stays setup (b ∷ bytes) before page in_row h =
-    subst (λ (items : List EscItem). HasPageIf (mode setup items) (layers setup items) page) (sym (after_first b bytes before))
-    (page_stays setup bytes (RasterByte b ∷ before) page in_row.1 (subst (λ (l : List Layer). HasPageIf (mode setup before) l page) (sym (layers_same setup b before in_row.0)) h))
+page_stays setup (b ∷ bytes) before page in_row h = grind (arith, after_first, layers_same, page_stays setup bytes (RasterByte b ∷ before) page in_row.1 (subst (λ (l : List Layer). HasPageIf (mode setup before) l page) (sym (layers_same setup b before in_row.0)) h))
 
 pub nothing_by : (m : PrinterMode) → ◌≡◌ {A = List ℕ} ((if is_paged m then [] else []) ++ (if is_paged m then [] else [])) []
-nothing_by Standard = refl
-nothing_by Page = refl
+nothing_by m = grind arith
 
 prints_nothing : (setup : Setup) (bytes : List ℕ) (before : List EscItem) → 0 < rows_to_come before → length (row_so_far before) + length bytes < raster_bytes before
     → printed setup (bytes_after bytes before) ≡ printed setup before

@@ -5,7 +5,7 @@ use Rattle.std.proofs.lemmas.Bool.{lt-ltb, le-ltb}
 use Rattle.vp_esc.specs.declared.item.EscItem.{EscItem}
 use Rattle.vp_receipt_settings.specs.Setup.{Setup}
 use Rattle.vp_receipt_settings.specs.Line.{height, line}
-use Rattle.vp_receipt.specs.Strips.{own_part, line_rows_after}
+use Rattle.vp_receipt.specs.Strips.{line_rows_after}
 use Rattle.vp_strips.specs.Canvases.{Canvas}
 use Rattle.vp_strips.specs.declared.job.Job.{Job}
 use Rattle.vp_strips.specs.declared.job.After.{After}
@@ -13,7 +13,6 @@ use Rattle.vp_strips.specs.declared.job.After.TheVariants.{End}
 use Rattle.vp_strips.specs.declared.lines.Lines.{Lines}
 use Rattle.vp_output.specs.declared.place.Place.{Place}
 use Rattle.vp_strips.specs.declared.strip.Dots.{Dots}
-use Rattle.vp_strips.specs.declared.strip.Dots.TheVariants.{Line, White, Across, Raster, Drawn, Page}
 use Rattle.vp_strips.specs.Jobs.{text}
 use Rattle.vp_strips.proofs.Jobs.{some_left}
 use Rattle.vp_strips.specs.Held.{Showing, Shows, IsShowing, showing_of, shown_in, job_text, SomeLeft, IsJob, IsTurned}
@@ -22,27 +21,19 @@ use Rattle.vp_receipt.specs.Standing.{ShowsLine}
 
 pub rows_told : (setup : Setup) (showing : Option Showing) (before : List EscItem) (pending : List ℕ) (high : ℕ) → high ≡ height (line setup before) → ShowsLine setup showing pending before
     → unwrap_or (option_map (λ (s : Showing). s.height) showing) high ≡ line_rows_after setup before pending
-rows_told setup None [] pending high e h = e
-rows_told setup (Some s) [] pending high e h = h.0
-rows_told setup None (item ∷ before) pending high e h = rw (le-ltb (length (own_part setup before item)) (length pending) h) e
-rows_told setup (Some s) (item ∷ before) pending high e h = rw (lt-ltb (length (own_part setup before item)) (length pending) h.2) h.0
+rows_told setup showing before pending high e h = grind (arith, le-ltb, lt-ltb)
 
 -- where nothing is pending no line is shown
 pub shows_nothing : (setup : Setup) (showing : Option Showing) (pending : List ℕ) (before after : List EscItem) → pending ≡ [] → ShowsLine setup showing pending before → ShowsLine setup showing pending after
-shows_nothing setup None pending before [] e h = omega (arith, ap length e)
-shows_nothing setup None pending before (item ∷ after) e h = omega (arith, ap length e)
-shows_nothing setup (Some s) pending [] after e h = absurd (omega (arith, ap length e, h.2))
-shows_nothing setup (Some s) pending (item ∷ before) after e h = absurd (omega (arith, ap length e, h.2))
+shows_nothing setup showing pending before after e h = grind arith
 
 -- bytes that are put out leave shown what is
 pub shows_put : (setup : Setup) (j k : Job) (canvas : Canvas) (before : List EscItem) → ((high others : ℕ) → IsShowing j canvas high others → IsShowing k canvas high others)
     → ShowsLine setup (showing_of j canvas) (job_text j canvas) before → ShowsLine setup (showing_of k canvas) (job_text k canvas) before
-shows_put setup j k canvas [] further h = further 0 0 h
-shows_put setup j k canvas (item ∷ before) further h = further _ _ h
+shows_put setup j k canvas before further h = grind arith
 
 pub nothing_shown : (setup : Setup) (showing : Option Showing) (pending : List ℕ) (before : List EscItem) → ((high others : ℕ) → Shows showing (length pending) high others) → ShowsLine setup showing pending before
-nothing_shown setup showing pending [] h = h 0 0
-nothing_shown setup showing pending (item ∷ before) h = h _ _
+nothing_shown setup showing pending before h = grind arith
 
 -- a job of which nothing is left, over any canvas
 done : (j : Job) (canvas : Canvas) (p : Option Place) → SomeLeft j.strip p → text j.strip canvas p ≡ [] → p ≡ None
@@ -57,16 +48,10 @@ pub is_done : (j : Job) (canvas : Canvas) (lines : Lines) → IsJob j canvas lin
 is_done j canvas lines job e = done j canvas j.place job.left (front_none _ _ e)
 
 no_line : (d : Dots) (others : ℕ) → shown_in d None others ≡ None
-no_line (Line height left length) others = refl
-no_line White others = refl
-no_line (Across cut) others = refl
-no_line Raster others = refl
-no_line Page others = refl
-no_line (Drawn left length) others = refl
+no_line d others = grind arith
 
 no_after : (p : Option Place) (after : After) → p ≡ None → IsTurned p after → after ≡ End
-no_after None after e h = h
-no_after (Some p) after e h = cc
+no_after p after e h = grind arith
 
 pub text_done : (j : Job) (canvas : Canvas) → j.place ≡ None → IsTurned j.place j.after → job_text j canvas ≡ []
 text_done j canvas e t = rw (e, no_after j.place j.after e t) refl
@@ -83,8 +68,7 @@ job_replaced (Some job) j old canvas lines h was none = h lines
 job_replaced None j old canvas lines h was none = job_done j old canvas lines was none
 
 pub turned_replaced : (printed : Option Job) (j : Job) → IfSome printed (λ job. IsTurned job.place job.after) → IsTurned j.place j.after → IsTurned (unwrap_or printed j).place (unwrap_or printed j).after
-turned_replaced (Some job) j h was = h
-turned_replaced None j h was = was
+turned_replaced printed j h was = grind arith
 
 pub text_replaced : (printed : Option Job) (j : Job) (old canvas : Canvas) (lines : Lines) → IsJob j old lines → IsTurned j.place j.after → job_text j old ≡ [] → job_text (unwrap_or printed j) canvas ≡ text_if printed canvas
 text_replaced (Some job) j old canvas lines was turned none = refl

@@ -1,22 +1,21 @@
 -- Text that doesn't break the line: what it puts into it, and leaves alone, item by item.
-use Rattle.std.proofs.Common.{◌≡◌, ℕ, ◌+◌, ◌-◌, ◌*◌, ◌/◌, ◌<◌, ◌≤◌, suc, Bool, true, false, eqb, ltb, not, if◌then◌else◌, ◌||◌, List, [], ◌∷◌, ◌++◌, length, reverse, refl, sym, ap, subst, ◌∙◌, append_assoc, ⊎_elim, arith}
+use Rattle.std.proofs.Common.{◌≡◌, ℕ, ◌+◌, ◌-◌, ◌*◌, ◌/◌, ◌<◌, ◌≤◌, suc, Bool, true, false, not, if◌then◌else◌, ◌||◌, List, [], ◌∷◌, ◌++◌, length, reverse, refl, sym, ap, subst, ◌∙◌, append_assoc, arith}
 use Rattle.std.proofs.lemmas.Bool.Decides.{nat_tests}
 use Rattle.std.specs.List.{AllByRecursion}
-use Rattle.std.proofs.lemmas.Bool.{and_parts, lt-ltb, le-ltb, cases_lt}
+use Rattle.std.proofs.lemmas.Bool.{and_parts, lt-ltb, le-ltb}
 use Rattle.std.proofs.Math.Nat.{div-mul-le_self, mul-le-mul_right, mul-pos, suc-mul}
 use Rattle.std.proofs.lemmas.List.{append-nil, map-append, reverse-append}
 use Rattle.vp_esc.specs.declared.item.EscItem.{EscItem}
-use Rattle.vp_esc.specs.declared.item.EscItem.TheVariants.{LineFeed, Tab, CarriageReturn, FormFeed, Cancel, Control, Character, QrIgnored, WithoutEffect}
+use Rattle.vp_esc.specs.declared.item.EscItem.TheVariants.{LineFeed, Tab, CarriageReturn, FormFeed, Cancel, Control, Character}
 use Rattle.vp_esc.specs.Units.{single_item}
 use Rattle.vp_esc.specs.Reader.{is_text, text_items}
 use Rattle.vp_glyph.specs.Sheets.{Sheets}
 use Rattle.vp_glyph.specs.declared.cell.Font.{Font}
-use Rattle.vp_glyph.specs.declared.cell.Font.TheVariants.{A, B}
 use Rattle.vp_glyph.specs.Cells.{cell_width, font_width}
 use Rattle.vp_receipt_settings.specs.Setup.{Setup}
 use Rattle.vp_receipt_settings.specs.Texts.{style_of}
 use Rattle.vp_receipt_settings.specs.declared.settings.Settings.{Settings}
-use Rattle.vp_receipt_settings.specs.Line.{is_full, is_open, mode, line, Placed, breaks}
+use Rattle.vp_receipt_settings.specs.Line.{is_full, is_open, mode, line, Placed}
 use Rattle.vp_receipt_settings.specs.Settings.{settings_of, settings_length, image_of, IsFit}
 use Rattle.vp_receipt_settings.specs.Gathering.{IsGathering}
 use Rattle.vp_receipt_settings.specs.declared.raster.Raster.{Raster}
@@ -29,60 +28,30 @@ use Rattle.vp_receipt.proofs.ItemKinds.{is_ignored, does_nothing}
 
 -- the newest item comes first
 pub text_more : (text : List ℕ) (b : ℕ) (before : List EscItem) → text_after (text ++ b ∷ []) before ≡ single_item b ∷ text_after text before
-text_more text b before =
-    ap (λ (items : List EscItem). reverse items ++ before) (map-append single_item text (b ∷ []))
-    ∙ ap (λ (items : List EscItem). items ++ before) (reverse-append (text_items text) (single_item b ∷ []))
+text_more text b before = grind (arith, map-append, reverse-append)
 
 nothing_left : (setup : Setup) (before : List EscItem) → LeavesAlone setup before before
 nothing_left setup before = record { stops = refl; stored = refl; mode = refl; layers = refl; printed = refl }
 
 ignored_leaves : (setup : Setup) (item : EscItem) (after before : List EscItem) → is_ignored item ≡ true → LeavesAlone setup after before → LeavesAlone setup (item ∷ after) before
-ignored_leaves setup item after before h l =
-    let same = does_nothing setup after item h in
-    record {
-      stops = same.stops ∙ l.stops;
-      stored = same.stored ∙ l.stored;
-      mode = same.mode ∙ l.mode;
-      layers = same.layers ∙ l.layers;
-      printed = ap (λ x. printed setup after ++ x) same.prints ∙ append-nil (printed setup after) ∙ l.printed;
-    }
+ignored_leaves setup item after before h l = grind (arith, does_nothing, append-nil)
 
 character_prints : (setup : Setup) (before : List EscItem) (c : ℕ) → is_full setup before ≡ false → prints setup before (Character c) ≡ []
 character_prints setup before c e = rw e (nothing_by (mode setup before))
 
 character_leaves : (setup : Setup) (c : ℕ) (after before : List EscItem) → is_full setup after ≡ false → LeavesAlone setup after before → LeavesAlone setup (Character c ∷ after) before
-character_leaves setup c after before e l = record {
-  stops = l.stops;
-  stored = l.stored;
-  mode = l.mode;
-  layers = rw e l.layers;
-  printed = ap (λ x. printed setup after ++ x) (character_prints setup after c e) ∙ append-nil (printed setup after) ∙ l.printed;
-}
+character_leaves setup c after before e l = grind (arith, character_prints, append-nil)
 
 -- text is characters, and controls that do nothing
 character_is : (b : ℕ) → 0x20 ≤ b → single_item b ≡ Character b
-character_is b h =
-    let a : eqb b 10 ≡ false = grind (arith, nat_tests) in
-    let c : eqb b 9 ≡ false = grind (arith, nat_tests) in
-    let d : eqb b 13 ≡ false = grind (arith, nat_tests) in
-    let e : eqb b 12 ≡ false = grind (arith, nat_tests) in
-    let f : eqb b 24 ≡ false = grind (arith, nat_tests) in
-    let g : ltb b 32 ≡ false = grind (arith, nat_tests) in
-    rw (a, c, d, e, f, g) refl
+character_is b h = grind (arith, nat_tests)
 
 control_by : (b : ℕ) (tab feed form cancel return small : Bool) → not (tab || feed || form || cancel) ≡ true → small ≡ true
     → is_ignored (if feed then LineFeed else if tab then Tab else if return then CarriageReturn else if form then FormFeed else if cancel then Cancel else if small then Control b else Character b) ≡ true
-control_by b true feed form cancel return small t h = cc
-control_by b false true form cancel return small t h = cc
-control_by b false false true cancel return small t h = cc
-control_by b false false false true return small t h = cc
-control_by b false false false false true small t h = refl
-control_by b false false false false false true t h = refl
-control_by b false false false false false false t h = cc
+control_by b tab feed form cancel return small t h = grind arith
 
 control_is : (b : ℕ) → b < 0x20 → is_text b ≡ true → is_ignored (single_item b) ≡ true
-control_is b h t =
-    control_by b (eqb b 9) (eqb b 10) (eqb b 12) (eqb b 24) (eqb b 13) (ltb b 32) (and_parts _ _ t).1 (lt-ltb b 32 h)
+control_is b h t = grind (arith, control_by, and_parts, lt-ltb)
 
 -- text was put into the line, and there is room for so many characters more
 pub record Put (old : Settings) (sheets : Sheets) (empty : List (List ℕ)) (text : List ℕ) (left : ℕ) (s : Settings) (bitmap : List (List ℕ)) : Type 0 where
@@ -104,19 +73,11 @@ room_one : (left w l p : ℕ) → suc left * w ≤ l - p → 0 < w → p + w ≤
 room_one left w l p h some = let one : suc left * w ≡ left * w + w = suc-mul left w in omega arith
 
 wide_some : (font : Font) (spacing wm : ℕ) → 0 < wm → 0 < (font_width font + spacing) * wm
-wide_some A spacing wm h = mul-pos (let some : 0 < 12 + spacing = omega arith in some) h
-wide_some B spacing wm h = mul-pos (let some : 0 < 9 + spacing = omega arith in some) h
+wide_some font spacing wm h = grind (arith, mul-pos)
 
 pub none_put : (old : Settings) (sheets : Sheets) (bitmap : List (List ℕ)) (left : ℕ) → IsFit old → left ≤ (settings_length old - old.position) / cell_width old.text.font (style_of old.text)
     → Put old sheets bitmap [] left old bitmap
-none_put old sheets bitmap left fit room = record {
-  fit = fit;
-  same = refl;
-  room = room_for left _ _ room;
-  settings = λ setup before e. e;
-  line = λ setup before e k h. h;
-  others = λ setup before e. nothing_left setup before;
-}
+none_put old sheets bitmap left fit room = grind (arith, room_for, nothing_left)
 
 -- a control more
 pub control_put : (old : Settings) (sheets : Sheets) (empty : List (List ℕ)) (text : List ℕ) (left : ℕ) (s : Settings) (bitmap : List (List ℕ)) (b : ℕ) → b < 0x20 → is_text b ≡ true
@@ -137,32 +98,21 @@ control_put old sheets empty text left s bitmap b small text_is p =
 
 -- it doesn't break the line where there is room
 no_break : (s : Settings) (setup : Setup) (before : List EscItem) → s ≡ settings_of setup before → s.position + cell_width s.text.font (style_of s.text) ≤ settings_length s → is_full setup before ≡ false
-no_break s setup before e h =
-    subst (λ (t : Settings). breaks t.position (cell_width t.text.font (style_of t.text)) (settings_length t) ≡ false) e
-    (let free : ltb (settings_length s) (s.position + cell_width s.text.font (style_of s.text)) ≡ false = le-ltb _ _ h in rw free refl)
+no_break s setup before e h = grind (arith, le-ltb)
 
 placed_last : (setup : Setup) (before : List EscItem) (c : ℕ) (s : Settings) (sheets : Sheets) (bitmap : List (List ℕ)) → s ≡ settings_of setup before → sheets ≡ setup.sheets → is_full setup before ≡ false
     → HasDots (record { at = s.position; image = image_of sheets s.text c } ∷ line setup before) bitmap → HasDots (line setup (Character c ∷ before)) bitmap
-placed_last setup before c s sheets bitmap e k free h =
-    let here : record { at = s.position; image = image_of sheets s.text c } ∷ line setup before ≡ line setup (Character c ∷ before) = rw (e, k, free) refl in
-    subst (λ (placed : List Placed). HasDots placed bitmap) here h
+placed_last setup before c s sheets bitmap e k free h = grind arith
 
 same_on : (old s t : Settings) (n : ℕ) → s ≡ record old { position = s.position; is_open = s.is_open; height = s.height; right_edge = s.right_edge }
     → t ≡ record s { position = n; is_open = t.is_open; height = t.height; right_edge = t.right_edge }
     → t ≡ record old { position = t.position; is_open = t.is_open; height = t.height; right_edge = t.right_edge }
-same_on old s t n e f =
-    f ∙ ap (λ (q : Settings). record q { position = n; is_open = t.is_open; height = t.height; right_edge = t.right_edge }) e
-    ∙ ap (λ m. record old { position = m; is_open = t.is_open; height = t.height; right_edge = t.right_edge }) (sym (ap (λ (q : Settings). q.position) f))
+same_on old s t n e f = grind arith
 
 -- a character goes into the line
 pub has_room : (old : Settings) (sheets : Sheets) (empty : List (List ℕ)) (text : List ℕ) (left : ℕ) (s : Settings) (bitmap : List (List ℕ)) → Put old sheets empty text (suc left) s bitmap
     → s.position + cell_width s.text.font (style_of s.text) ≤ settings_length s
-has_room old sheets empty text left s bitmap p =
-    let wide : cell_width s.text.font (style_of s.text) ≡ cell_width old.text.font (style_of old.text) = ap (λ (q : Settings). cell_width q.text.font (style_of q.text)) p.same in
-    let long : settings_length s ≡ settings_length old = ap settings_length p.same in
-    let some : 0 < cell_width old.text.font (style_of old.text) = subst (λ n. 0 < n) wide (wide_some s.text.font s.text.right_spacing s.text.wide p.fit.text.wide_some) in
-    let fits : s.position + cell_width old.text.font (style_of old.text) ≤ settings_length old = room_one left _ _ s.position p.room some in
-    omega (arith, wide, long)
+has_room old sheets empty text left s bitmap p = grind (arith, wide_some, room_one)
 
 -- a character more
 pub character_put : (old : Settings) (sheets : Sheets) (empty : List (List ℕ)) (text : List ℕ) (left : ℕ) (s t : Settings) (bitmap new : List (List ℕ)) (b : ℕ) → 0x20 ≤ b
@@ -199,20 +149,13 @@ text_first b text before =
     ∙ append_assoc (reverse (text_items text)) (single_item b ∷ []) before
 
 ignored_ends : (r : Raster) (item : EscItem) (before : List EscItem) → is_ignored item ≡ true → IsGathering r [] → IsGathering r (item ∷ before)
-ignored_ends r CarriageReturn before h g = record { scale = g.scale; bytes = g.bytes; rows = g.rows; got = g.got; row = g.row }
-ignored_ends r (Control b) before h g = record { scale = g.scale; bytes = g.bytes; rows = g.rows; got = g.got; row = g.row }
-ignored_ends r (QrIgnored bytes) before h g = record { scale = g.scale; bytes = g.bytes; rows = g.rows; got = g.got; row = g.row }
-ignored_ends r (WithoutEffect lead bytes) before h g = record { scale = g.scale; bytes = g.bytes; rows = g.rows; got = g.got; row = g.row }
-ignored_ends r _ before h g = cc
+ignored_ends r item before h g = grind arith
 
 character_ends : (r : Raster) (b : ℕ) (before : List EscItem) → IsGathering r [] → IsGathering r (Character b ∷ before)
 character_ends r b before g = record { scale = g.scale; bytes = g.bytes; rows = g.rows; got = g.got; row = g.row }
 
 one_ends : (r : Raster) (b : ℕ) (before : List EscItem) → is_text b ≡ true → IsGathering r [] → IsGathering r (single_item b ∷ before)
-one_ends r b before t g = ⊎_elim
-    (λ (h : b < 32). ignored_ends r (single_item b) before (control_is b h t) g)
-    (λ (h : 32 ≤ b). subst (λ (i : EscItem). IsGathering r (i ∷ before)) (sym (character_is b h)) (character_ends r b before g))
-    (cases_lt b 32)
+one_ends r b before t g = grind (arith, ignored_ends, control_is, character_is, character_ends)
 
 -- it ends the raster that came
 pub text_ends : (r : Raster) (text : List ℕ) (before : List EscItem) → AllByRecursion (λ b. is_text b ≡ true) text → 0 < length text → IsGathering r [] → IsGathering r (text_after text before)
