@@ -253,14 +253,15 @@ impl<A: Small> Block<'_, A> {
             return;
         }
         let last = *kept;
-        *kept = *other;
-        *other = last;
-        if line.is_like(kept.line) {
+        if line.is_like(other.line) {
+            *kept = *other;
+            *other = last;
             return;
         }
         let mut rows = [0; 24];
         let drawn = self.add_rows(line, at, &mut rows);
         *counter = counter.saturating_add(u64::from(drawn));
+        *other = last;
         *kept = Kept {
             line,
             shown: Shown::of(rows),
