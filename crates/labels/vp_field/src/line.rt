@@ -83,8 +83,8 @@ pub fn paint_over(op: Op, line: &[u8], row: &mut [u8])
     paint_into(op, line, 0, row);
 }
 
-/// Applies the operation to the dots of a row of a label on which line v of the ink has ink: of how many pieces
-/// the line was painted.
+/// Applies the operation to the dots of a row of a label on which line v of the ink has ink: of how many
+/// pieces the line was painted.
 pub fn paint_line<I: Pieces>(ink: &I, v: u32, op: Op, axis: Axis, row: &mut [u8]) -> u64
     requires near { IsWithin (2 ^ 41) axis }
     requires row { length row.old ≡ BAND_BYTES }
