@@ -56,10 +56,10 @@ text_bytes (Text t) = t.bytes.len
 text_bytes (Block b) = b.text.bytes.len
 text_bytes _ = 0
 
--- in a band a field takes at most 16,416, or 43,960 where its lines lie across the rows, and with that 262 times
--- the bytes of its text and twice those of its codes, which are no more than a format has room for; so a copy
--- takes at most 43,960 for each pair of a field and a band that it meets, and in each band 262 times the bytes
--- of all texts and twice those of all codes
+-- in a band a field takes at most 16,416, or 43,960 where its lines lie across the rows, and with that 262
+-- times the bytes of its text and twice those of its codes, which are no more than a format has room for; so
+-- a copy takes at most 43,960 for each pair of a field and a band that it meets, and in each band 262 times
+-- the bytes of all texts and twice those of all codes
 pub record CostsAtMost : Type 0 where
   pub along : (o : Orientation) (c : Content) → lines_of (orientation_of o c) ≡ Along
       → most_work o c ≤ BAND_ROWS * (1 + 512) + 262 * text_bytes c + 2 * code_bytes c

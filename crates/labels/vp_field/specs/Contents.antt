@@ -194,14 +194,14 @@ abbrev pub seen_dots : Lines → ℕ
 seen_dots Along = 8 * BAND_BYTES
 seen_dots Across = BAND_ROWS
 
--- what lines take on a band at most that have so many pieces where so many dots can be seen: each counts once,
--- and each of its pieces
+-- what lines take on a band at most that have so many pieces where so many dots can be seen: each counts
+-- once, and each of its pieces
 abbrev pub lines_cost : Lines → (ℕ → ℕ) → ℕ
 lines_cost lines pieces = most_lines lines * (1 + pieces (seen_dots lines))
 
--- and a block whose text has so many lines and cells. Those above the band are passed once. Along the rows of
--- the band, the others are walked and painted for each row; where they meet, first for all rows, once for each
--- row of the sheet. Across, they are walked and drawn once for all columns, which are then laid
+-- and a block whose text has so many lines and cells. Those above the band are passed once. Along the rows
+-- of the band, the others are walked and painted for each row; where they meet, first for all rows, at most
+-- once for each and once more. Across, they are walked and drawn once for all columns, which are then laid
 abbrev pub block_cost : Lines → ℕ → ℕ
 block_cost Along pieces = pieces + 2 * (ROWS + 1) * pieces + lines_cost Along (λ d. 2 * pieces)
 block_cost Across pieces = pieces + 2 * pieces + (2 * WIDEST + 8)

@@ -1,6 +1,6 @@
 //! Ink whose lines lie across the rows of a band: 128 columns are turned at once, and a run of one line is
 //! painted row by row.
-ghost use Rattle.std.specs.Prelude.{◌≡◌, ℕ, ◌+◌, ◌-◌, ◌*◌, ◌<◌, ◌≤◌, ◌^◌, ◌&&◌, nat_lt, pos, slice_index};
+ghost use Rattle.std.specs.Prelude.{◌≡◌, ℕ, ◌+◌, ◌-◌, ◌*◌, ◌<◌, ◌≤◌, ◌^◌, ◌&&◌, min, nat_lt, pos, slice_index};
 ghost use Rattle.vp_dots.specs.Dots.{dot, span};
 ghost use Rattle.vp_dots.specs.Painting.{Painted};
 ghost use Rattle.vp_dots.specs.Places.{RowsPainted};
@@ -131,13 +131,11 @@ fn paint_columns<I: Pieces, A: Small>(
     ensures ink { pen.new.ink ≡ pen.old.ink }
     ensures within { ArePieces (I.most_pieces pen.new.ink.now BAND_ROWS) pen.new.lines pen.new.pieces }
     ensures counted { pen.old.lines < pen.new.lines }
-    ensures few { pen.new.lines ≤ pen.old.lines + result }
-    ensures lines { pen.new.lines ≤ pen.old.lines + (end - x) }
+    ensures lines { pen.new.lines ≤ pen.old.lines + min result (end - x) }
 {
     let shown = pen.shown(columns, x, end);
     if shown.places >= RUN {
-        let line = pen.on(shown, rows, first);
-        paint_run(op, line, x, x + shown.places, band);
+        paint_run(op, pen.on(shown, rows, first), x, x + shown.places, band);
         return shown.places;
     }
     let left = halves_of(pen, columns, rows, x, end, first);

@@ -133,7 +133,8 @@ fn encode(stored: &[u8], bars: BarSymbol, marks: &mut Marks)
     }
 }
 
-/// Paints a linear symbol and its text, nothing where the data have none: how many lines of ink it drew, and pieces of them.
+/// Paints a linear symbol and its text, nothing where the data have none: how many lines of ink it drew, and
+/// pieces of them.
 fn paint_bars<A: Small>(
     sheets: &Sheets<A>,
     stored: &[u8],
@@ -258,7 +259,7 @@ fn paint_content<A: Small>(
 /// those that earlier bands left in its picture, or none, so that not all rows above are read again; more are
 /// left for the bands that come later, and of a symbol its modules or characters. What that took comes back:
 /// of a picture how many bytes of its codes were read, rows passed, and rows painted; of all else how many
-/// lines of ink were drawn.
+/// lines of ink were drawn, and pieces of them.
 pub fn paint_field<A: Small>(
     sheets: &Sheets<A>,
     stored: &[u8],

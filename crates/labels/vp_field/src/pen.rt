@@ -143,8 +143,8 @@ impl<'a, I: Pieces, const BYTES: usize> Pen<'a, I, BYTES> {
         ensures within { ArePieces (I.most_pieces self.new.ink.now (8 * BYTES)) self.new.lines
             self.new.pieces }
         ensures some { (p : ℕ) → p < 8 * BAND_BYTES → unwrap_or (option_map
-            (λ v. at_place (λ u. I.ink_at self.old.ink.now u v) (dot_on dots (pos p))) shown.line) false ≡ true
-            → self.old.pieces < self.new.pieces }
+            (λ v. at_place (λ u. I.ink_at self.old.ink.now u v) (dot_on dots (pos p))) shown.line) false
+            ≡ true → self.old.pieces < self.new.pieces }
         ensures painted { Painted op (λ p. unwrap_or (option_map
             (λ v. at_place (λ u. I.ink_at self.old.ink.now u v) (dot_on dots (pos p))) shown.line) false)
             row.old row.new }

@@ -25,8 +25,8 @@ abbrev pub all_texts : List Field → ℕ
 all_texts fields = sum_by (λ f. text_bytes f.content) fields
 
 -- these are no more bytes than were read. A field is of six of them or more, a command that says its content
--- and one that closes it, and its text or its codes are data. So a copy takes at most 7,327 for each of them in
--- each band: a sixth of the 43,960 of a field and a band, which is more than a byte of a text or of codes takes.
+-- and one that closes it, and its text or its codes are data. So a copy takes at most 7,327 for each of them
+-- in each band: a sixth of the 43,960 of a field and a band, which is more than the 262 of a byte of a text.
 -- A label has at most 250 bands.
 pub record BytesCostAtMost : Type 0 where
   pub read : (bytes : List ℕ) → format_bytes (reverse (items bytes)) ≤ length bytes

@@ -27,7 +27,7 @@ loop-x-preserved g c =
     record {
       ink = now.ink ∙ old.ink;
       painted = columns_more c.args.op (λ x k. ltb x c.max-end.result && laid Across c.args.columns c.args.rows (λ u v. g.I.Ink.ink_at c.args.ink.ink.now u v) (pos x) (pos (c.args.first + k))) c.loop-x.x c.paint_columns-x.result _ _ _ old.painted (rw old.ink at now.painted);
-      lines = omega (arith, old.lines, now.lines, now.few);
+      lines = omega (arith, old.lines, now.lines);
       counted = now.within;
       some = λ h. omega (arith, now.counted);
     }

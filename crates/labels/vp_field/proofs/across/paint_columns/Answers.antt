@@ -8,10 +8,10 @@ pub returns-then-shown-ge-RUN-clause-painted : goal.returns-then-shown-ge-RUN-cl
 returns-then-shown-ge-RUN-clause-painted g c =
     let ink = λ (u v : ℕ). g.I.Ink.ink_at c.args.pen.now.ink.now u v in
     let dots = λ (d k : ℕ). laid Across c.args.columns c.args.rows ink (pos d) (pos (c.args.first + k)) in
-    columns_alike c.args.op (λ d k. ltb d c.args.end && dots d k) c.on-line.result c.args.x c.shown-shown.result.places _ _
+    columns_alike c.args.op (λ d k. ltb d c.args.end && dots d k) c.on.result c.args.x c.shown-shown.result.places _ _
     (λ d k h a b.
     let there : c.args.x + (d - c.args.x) ≡ d = omega arith in
-    c.on-line.ensures.dots k (omega arith) ∙ sym (c.shown-shown.ensures.line (d - c.args.x) (omega arith) (dot_on c.args.rows (pos (c.args.first + k))))
+    c.on.ensures.dots k (omega arith) ∙ sym (c.shown-shown.ensures.line (d - c.args.x) (omega arith) (dot_on c.args.rows (pos (c.args.first + k))))
     ∙ ap (λ n. dots n k) there ∙ sym (before_end d c.args.end (dots d k) (omega (arith, b, c.shown-shown.ensures.within)))) c.paint_run.ensures
 
 -- the columns end in the first square
