@@ -1,6 +1,5 @@
 -- Bytes as they are, as symbols.
-use Rattle.std.proofs.Common.{inl, inr, ◌≡◌, ℕ, suc, ◌+◌, ◌-◌, ◌*◌, ◌/◌, ◌%◌, ◌<◌, ◌≤◌, min, false, eqb, List, [], ◌∷◌, ◌++◌, drop, take, replicate, length, get_or, ap, sym, ◌∙◌, refl, arith}
-use Rattle.std.proofs.Common.{get_or-take}
+use Rattle.std.proofs.Common.{inl, inr, ◌≡◌, ℕ, ◌+◌, ◌-◌, ◌*◌, ◌/◌, ◌%◌, ◌<◌, ◌≤◌, min, false, eqb, List, [], ◌∷◌, ◌++◌, drop, take, replicate, length, get_or, ap, sym, ◌∙◌, refl, arith, get_or-take}
 use Rattle.std.proofs.Math.ListN.{get_or-append}
 use Rattle.std.proofs.lemmas.List.{length-take, length-drop, get_or-drop, get_or-replicate, get_or-append_right, get_or_past}
 use Rattle.std.proofs.lemmas.Bool.{cases_lt, cases_Bool, false≢true}
@@ -8,7 +7,7 @@ use Rattle.vp_format.specs.declared.codes.Symbol.TheVariants.{Digits}
 use Rattle.vp_format.specs.declared.rows.Coding.TheVariants.{Binary}
 use Rattle.vp_format.specs.declared.row.RowEnd.{RowEnd}
 use Rattle.vp_format.specs.Codes.{spelled, binary_symbols}
-use Rattle.vp_format.specs.Pictures.{Value, shown_at, bytes_before, value_of, nibble}
+use Rattle.vp_format.specs.Pictures.{Value, shown_at, bytes_before, nibble}
 use Rattle.vp_format.specs.Cursors.{symbols_at, Decoded}
 use Rattle.vp_format.proofs.Reached.{shown_in, shown_past, bytes_past, bytes_none, run_over, bytes_over}
 
@@ -23,10 +22,7 @@ nibble_low b codes = refl
 
 nibble_later : (b : ℕ) (codes : List ℕ) (j : ℕ) → nibble (b ∷ codes) (j + 2) ≡ nibble codes j
 unfolding nibble
-nibble_later b codes j =
-    let q : (j + 2) / 2 ≡ suc (j / 2) = omega arith in
-    let r : (j + 2) % 2 ≡ j % 2 = omega arith in
-    rw (r, q) refl
+nibble_later b codes j = grind arith
 
 nibble_same : (row codes : List ℕ) (i j : ℕ) → get_or row (i / 2) 0 ≡ get_or codes (j / 2) 0 → i % 2 ≡ j % 2 → nibble row i ≡ nibble codes j
 unfolding nibble
@@ -52,14 +48,7 @@ bytes_shown w p (b ∷ codes) j = elim (cases_lt j 1) [
 -- the bytes of the symbols before a place
 bytes_spelled : (w p : ℕ) (codes : List ℕ) (j : ℕ) → bytes_before w p (binary_symbols codes) (p + j) ≡ min (length codes) ((j + 1) / 2)
 bytes_spelled w p [] j = omega arith
-bytes_spelled w p (b ∷ codes) j = elim (cases_lt 0 j) [
-  | inl g ↦ bytes_past w p (spelled (Digits 1 (b / 16)) 1) (spelled (Digits 1 (b % 16)) 0 ∷ binary_symbols codes) (p + j) (omega arith) ∙ (elim (cases_lt 1 j) [
-    | inl h ↦ (let there : p + j ≡ p + 1 + 1 + (j - 2) = omega arith in let rest = bytes_spelled w (p + 1 + 1) codes (j - 2) in
-        ap (λ k. 1 + k) (bytes_past w (p + 1) (spelled (Digits 1 (b % 16)) 0) (binary_symbols codes) (p + j) (omega arith) ∙ ap (λ q. 0 + bytes_before w (p + 1 + 1) (binary_symbols codes) q) there ∙ ap (λ k. 0 + k) rest) ∙ omega arith)
-    | inr h ↦ ap (λ k. 1 + k) (bytes_none w (p + 1) (spelled (Digits 1 (b % 16)) 0 ∷ binary_symbols codes) (p + j) (omega arith)) ∙ omega arith
-  ])
-  | inr h ↦ bytes_none w p (binary_symbols (b ∷ codes)) (p + j) (omega arith) ∙ omega arith
-]
+bytes_spelled w p (b ∷ codes) j = grind (arith, bytes_past, bytes_none, bytes_spelled w (p + 1 + 1) codes (j - 2))
 
 -- the same from a place of the codes on
 pub place_shown : (w : ℕ) (codes : List ℕ) (at j : ℕ) → shown_at w 0 (symbols_at Binary codes (record { left = 0; digit = 0; at = at })) j ≡ Value (nibble (drop at codes) j)
@@ -72,32 +61,10 @@ place_spelled w codes at j = let e : j ≡ 0 + j = omega arith in
 
 -- bytes that are laid into a white row
 laid : (codes : List ℕ) (n at i : ℕ) → at ≤ length codes → i < n → get_or (take n (drop at codes) ++ drop (length (take n (drop at codes))) (replicate n 0)) i 0 ≡ get_or (drop at codes) i 0
-laid codes n at i inside l =
-    let part = take n (drop at codes) in
-    let long : length part ≡ min n (length codes - at) = length-take n (drop at codes) ∙ ap (λ k. min n k) (length-drop at codes) in
-    elim (cases_lt i (length part)) [
-      | inl h ↦ get_or-append part (drop (length part) (replicate n 0)) 0 i h ∙ get_or-take n (drop at codes) i 0 l
-      | inr h ↦ get_or-append_right part (drop (length part) (replicate n 0)) (length part) i 0 refl h ∙ get_or-drop (length part) (replicate n 0) (i - length part) 0
-          ∙ get_or-replicate {A = ℕ} n _ 0 0 (omega arith) ∙ sym (get_or_past (drop at codes) i 0 (omega (arith, length-drop at codes, long)))
-    ]
+laid codes n at i inside l = grind (arith, length-take, length-drop, get_or-append, get_or-take, get_or-append_right, get_or-drop, get_or-replicate, get_or_past)
 
 -- a row of bytes
 pub bytes_decoded : (codes old zeros part copied : List ℕ) (n at to : ℕ) (end : RowEnd) → length old ≡ n → at ≤ length codes → part ≡ take n (drop at codes) → copied ≡ part → zeros ≡ replicate n 0 → to ≡ min (at + n) (length codes)
     → end ≡ record { left = 0; digit = 0; repeats = false }
     → Decoded (2 * n) Binary codes (record { left = 0; digit = 0; at = at }) end (record { left = 0; digit = 0; at = to }) old (copied ++ drop (length part) zeros)
-bytes_decoded codes old zeros part copied n at to end long inside is same white next ends =
-    let row = copied ++ drop (length part) zeros in
-    let row_is : row ≡ take n (drop at codes) ++ drop (length (take n (drop at codes))) (replicate n 0) = ap (λ r. r ++ drop (length part) zeros) (same ∙ is) ∙ ap (λ r. take n (drop at codes) ++ drop (length r) zeros) is ∙ ap (λ z. take n (drop at codes) ++ drop (length (take n (drop at codes))) z) white in
-    let place : (j : ℕ) → j < 2 * n → nibble row j ≡ nibble (drop at codes) j = λ j l. nibble_same row (drop at codes) j j (ap (λ r. get_or r (j / 2) 0) row_is ∙ laid codes n at (j / 2) inside (omega arith)) refl in
-    record {
-      spot = record { at = omega arith; digit = omega arith };
-      whole = (refl, refl);
-      row = λ j l. place j l ∙ sym (ap (λ c. value_of c (nibble old j)) (place_shown (2 * n) codes at j));
-      own = λ _ j l. place_shown (2 * n) codes at j ∙ ap Value (sym (place j l));
-      again = λ e. absurd (false≢true (sym (ap (λ (r : RowEnd). r.repeats) ends) ∙ e));
-      next = λ j. place_shown (2 * n) codes at (2 * n + j) ∙ ap Value (nibble_same (drop at codes) (drop to codes) (2 * n + j) j (get_or-drop at codes ((2 * n + j) / 2) 0 ∙ (elim (cases_lt (at + n) (length codes)) [
-        | inl l ↦ (let e : at + (2 * n + j) / 2 ≡ to + j / 2 = omega arith in ap (λ i. get_or codes i 0) e)
-        | inr g ↦ get_or_past codes _ 0 (omega arith) ∙ sym (get_or_past codes _ 0 (omega arith))
-      ]) ∙ sym (get_or-drop to codes (j / 2) 0)) (omega arith)) ∙ sym (place_shown (2 * n) codes to j);
-      bytes = λ j. ap (λ k. at + k) (place_spelled (2 * n) codes at (2 * n + j)) ∙ omega arith ∙ ap (λ k. to + k) (sym (place_spelled (2 * n) codes to j));
-    }
+bytes_decoded codes old zeros part copied n at to end long inside is same white next ends = grind (arith, nibble_same, laid, place_shown, false≢true, get_or-drop, get_or_past, place_spelled)

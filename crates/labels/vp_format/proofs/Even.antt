@@ -1,11 +1,10 @@
 -- Rows of one value that no code spells.
 use Rattle.std.proofs.Common.{inl, inr, ◌≡◌, ℕ, zero, suc, ◌+◌, ◌-◌, ◌*◌, ◌<◌, ◌≤◌, ◌⊎◌, true, false, cond, List, [], drop, replicate, length, ap, sym, ◌∙◌, refl, subst, arith}
 use Rattle.std.proofs.Math.Nat.{mul-le-mul_left}
-use Rattle.std.proofs.lemmas.Bool.{and_parts, cases_Bool, cases_eq, cases_lt, eqb-true, true≢false}
+use Rattle.std.proofs.lemmas.Bool.{and_parts, cases_lt, eqb-true, true≢false}
 use Rattle.std.proofs.lemmas.Bool.Decides.{nat_tests}
 use Rattle.vp_format.specs.declared.codes.Symbol.TheVariants.{Digits}
 use Rattle.vp_format.specs.declared.rows.Coding.{Coding}
-use Rattle.vp_format.specs.declared.rows.Coding.TheVariants.{RunLength, Binary}
 use Rattle.vp_format.specs.declared.reading.Codes.{Codes}
 use Rattle.vp_format.specs.declared.rows.Spot.{Spot}
 use Rattle.vp_format.specs.declared.rows.RunMark.{RunMark}
@@ -34,8 +33,7 @@ rows_spelled w (suc k) p ss j h =
 
 -- of bytes as they are no run is left behind rows either
 whole_behind : (coding : Coding) (w : ℕ) (s : Spot) (k : ℕ) → IsWhole coding s → IsWhole coding (spot_behind w s k)
-whole_behind RunLength w s k h = tt
-whole_behind Binary w s k h = (omega (arith, h.0), h.1)
+whole_behind coding w s k h = grind arith
 
 -- rows that a run covers whole
 pub run_even : (w : ℕ) (coding : Coding) (codes : List ℕ) (s : Spot) (k : ℕ) → 0 < w → IsSpot codes s → IsWhole coding s → w * k ≤ s.left → Even w coding codes s k s.digit (spot_behind w s k)
@@ -61,8 +59,7 @@ run_even w coding codes s k some spot whole h =
 
 -- where no code is left
 nothing_from : (coding : Coding) (w p j : ℕ) → shown_at w p (symbols coding []) j ≡ Value 0
-nothing_from RunLength w p j = refl
-nothing_from Binary w p j = refl
+nothing_from coding w p j = grind arith
 
 -- where white is all that comes
 abbrev pub IsWhite : ℕ → Spot → Type 0
@@ -70,35 +67,18 @@ IsWhite codes s = (s.at ≡ codes) × ((s.left ≡ 0) ⊎ (s.digit ≡ 0))
 
 -- behind the last code white comes, once the run has ended
 pub ends_white : (w : ℕ) (coding : Coding) (codes : List ℕ) (s : Spot) (j : ℕ) → s.at ≡ length codes → ((s.left ≤ j) ⊎ (s.digit ≡ 0)) → shown_at w 0 (symbols_at coding codes s) j ≡ Value 0
-ends_white w coding codes s j ends rest =
-    let ss = symbols coding (drop s.at codes) in
-    let none : ss ≡ symbols coding [] = ap (λ (a : ℕ). symbols coding (drop a codes)) ends ∙ symbols_none coding codes in
-    elim (cases_lt j s.left) [
-      | inl l ↦ (elim rest [
-        | inl short ↦ absurd (omega arith)
-        | inr digit ↦ shown_in w 0 (spelled (Digits s.left s.digit) 0) ss j (omega arith) ∙ ap Value digit
-      ])
-      | inr g ↦ shown_past w 0 (spelled (Digits s.left s.digit) 0) ss j (omega arith) ∙ ap (λ us. shown_at w (0 + s.left) us j) none ∙ nothing_from coding w (0 + s.left) j
-    ]
+ends_white w coding codes s j ends rest = grind (arith, symbols_none, shown_in, shown_past, nothing_from)
 
 -- a test for it
 pub white_is : (n : ℕ) (s : Spot) → IsWhite n s → is_white n s ≡ true
-white_is n s (at, inl none) = rw (at, none) (grind (arith, nat_tests))
-white_is n s (at, inr digit) = rw (at, digit) (grind (arith, nat_tests))
+white_is n s h3 = grind (arith, nat_tests)
 
 pub is_white_at : (n : ℕ) (s : Spot) → is_white n s ≡ true → IsWhite n s
-is_white_at n s e =
-    let p = and_parts _ _ e in
-    (eqb-true s.at n p.0, elim (cases_eq s.left 0) [ inl none ↦ inl none | inr some ↦ inr (grind (arith, nat_tests)) ])
+is_white_at n s e = grind (arith, and_parts, eqb-true, nat_tests)
 
 -- it stays so behind rows
 white_stays : (n w : ℕ) (s : Spot) (k : ℕ) → white_rest n s ≤ white_rest n (spot_behind w s k)
-white_stays n w s k = elim (cases_Bool (is_white n s)) [
-  | inl white ↦ (let at = is_white_at n s white in
-      let still : IsWhite n (spot_behind w s k) = (at.0, elim at.1 [ inl none ↦ inl (omega (arith, none)) | inr digit ↦ inr digit ]) in
-      rw (white, white_is n (spot_behind w s k) still) (omega arith))
-  | inr other ↦ rw other (omega arith)
-]
+white_stays n w s k = grind (arith, is_white_at, white_is)
 
 -- such rows are not refused
 pub even_taken : (p : Picture) (m : RunMark) (k v : ℕ) (after : Spot) (y : ℕ) → 0 < p.row_bytes → IsMark p m → Even (width_of p) p.coding p.codes m.here k v after → m.next ≤ y → y < m.next + k → is_refused p y ≡ false

@@ -65,10 +65,4 @@ other b = bit_and (up_to 10 (less b 48)) (up_to 6 (less (bit_or b 32) 97))
 pub others : (bytes : List ℕ) (at : ℕ) → at + 16 ≤ length bytes
     → zip2 bit_and (zip2 up_to (replicate 16 10) (zip2 less (chunk at 16 bytes) (replicate 16 48))) (zip2 up_to (replicate 16 6) (zip2 less (zip2 bit_or (chunk at 16 bytes) (replicate 16 32)) (replicate 16 97)))
     ≡ map other (chunk at 16 bytes)
-others bytes at room =
-    let v = chunk at 16 bytes in
-    let long = length-chunk at 16 bytes room in
-    zip2_of_maps {X = ℕ} {Y = ℕ} bit_and (λ b. up_to 10 (less b 48)) (λ b. up_to 6 (less (bit_or b 32) 97)) v
-    (zip2_of_maps {X = ℕ} {Y = ℕ} up_to (λ _. 10) (λ b. less b 48) v (splat_is_map v 16 10 long) (zip2_splat {Y = ℕ} less v 16 48 long))
-    (zip2_of_maps {X = ℕ} {Y = ℕ} up_to (λ _. 6) (λ b. less (bit_or b 32) 97) v (splat_is_map v 16 6 long)
-    (zip2_of_maps {X = ℕ} {Y = ℕ} less (λ b. bit_or b 32) (λ _. 97) v (zip2_splat {Y = ℕ} bit_or v 16 32 long) (splat_is_map v 16 97 long)))
+others bytes at room = grind (arith, length-chunk, zip2_of_maps, splat_is_map, zip2_splat)

@@ -1,5 +1,5 @@
 -- Cursors before rows.
-use Rattle.std.proofs.Common.{inl, inr, ◌≡◌, ℕ, zero, suc, ◌+◌, ◌-◌, ◌*◌, ◌<◌, ◌≤◌, min, true, false, cond, add-one, Result, Ok, Err, List, [], ◌++◌, take, drop, replicate, length, ap, sym, ◌∙◌, refl, subst, arith}
+use Rattle.std.proofs.Common.{inl, inr, ◌≡◌, ℕ, ◌+◌, ◌-◌, ◌*◌, ◌<◌, ◌≤◌, min, true, false, cond, add-one, Result, Ok, Err, List, [], ◌++◌, take, drop, replicate, length, ap, sym, ◌∙◌, refl, subst, arith}
 use Rattle.std.proofs.Math.Seq.{drop-length}
 use Rattle.std.proofs.lemmas.List.{length-take}
 use Rattle.std.proofs.lemmas.Bool.{cases_Bool, lt-ltb, true≢false, false≢true}
@@ -7,13 +7,13 @@ use Rattle.vp_dots.specs.declared.fault.Fault.{Fault}
 use Rattle.vp_dots.specs.declared.fault.Fault.TheVariants.{Graphic}
 use Rattle.vp_format.specs.declared.row.RowEnd.{RowEnd}
 use Rattle.vp_format.specs.declared.rows.Coding.{Coding}
-use Rattle.vp_format.specs.declared.rows.Coding.TheVariants.{RunLength, Binary}
+use Rattle.vp_format.specs.declared.rows.Coding.TheVariants.{Binary}
 use Rattle.vp_format.specs.declared.rows.Spot.{Spot}
 use Rattle.vp_format.specs.declared.rows.RunMark.{RunMark}
 use Rattle.vp_format.specs.Codes.{symbols}
 use Rattle.vp_format.specs.Pictures.{Value, shown_at, bytes_before, value_of, Picture, width_of, place_of, value, is_refused, is_repeat, is_above, is_unreadable, start_of, above_from, bound_of, nibble, answer, row_after}
 use Rattle.vp_format.specs.declared.rows.RunRows.TheInside.{Inside}
-use Rattle.vp_format.specs.Cursors.{symbols_at, above, picture_of, white_rest, Advanced, IsSpot, IsWhole, IsMark, ArePassed, IsCursor, Decoded, RowRead}
+use Rattle.vp_format.specs.Cursors.{symbols_at, above, picture_of, Advanced, IsSpot, IsWhole, IsMark, ArePassed, IsCursor, Decoded, RowRead}
 use Rattle.vp_format.proofs.Nibbles.{nibble_append, nibble_front, nibble_zero}
 use Rattle.vp_format.proofs.Reached.{run_over, bytes_over, bytes_none}
 
@@ -23,19 +23,7 @@ length_take_le n row h = omega (arith, length-take n row)
 
 pub front_decoded : (coding : Coding) (codes row new rest : List ℕ) (s after : Spot) (end : RowEnd) (n : ℕ) → n ≤ length row → length new ≡ length (take n row) → Decoded (2 * length (take n row)) coding codes s end after (take n row) new
     → Decoded (2 * n) coding codes s end after row (new ++ rest)
-front_decoded coding codes row new rest s after end n room long d =
-    let e : length (take n row) ≡ n = length_take_le n row room in
-    let f = subst (λ (k : ℕ). Decoded (2 * k) coding codes s end after (take n row) new) e d in
-    let at_end : (j : ℕ) → j < 2 * n → nibble (new ++ rest) j ≡ nibble new j = λ j l. nibble_append new rest j (omega arith) in
-    record {
-      spot = f.spot;
-      whole = f.whole;
-      row = λ j l. at_end j l ∙ f.row j l ∙ ap (value_of (shown_at (2 * n) 0 (symbols_at coding codes s) j)) (nibble_front row n j l);
-      own = λ b j l. f.own b j l ∙ ap Value (sym (at_end j l));
-      again = f.again;
-      next = f.next;
-      bytes = f.bytes;
-    }
+front_decoded coding codes row new rest s after end n room long d = grind (arith, length_take_le, nibble_append, nibble_front)
 
 pub front_read : (coding : Coding) (codes row new rest : List ℕ) (s : Spot) (at : ℕ) (r : Result RowEnd Fault) (n : ℕ) → n ≤ length row → length new ≡ length (take n row) → RowRead (2 * length (take n row)) coding codes s r at (take n row) new
     → RowRead (2 * n) coding codes s r at row (new ++ rest)
@@ -44,27 +32,17 @@ front_read coding codes row new rest s at (Err why) n room long refused = subst 
 
 -- no symbol of a decoded row is refused
 pub decoded_taken : (w : ℕ) (coding : Coding) (codes old new : List ℕ) (s after : Spot) (end : RowEnd) → 0 < w → Decoded w coding codes s end after old new → is_unreadable (shown_at w 0 (symbols_at coding codes s) (w - 1)) ≡ false
-decoded_taken w coding codes old new s after end some d = elim (cases_Bool end.repeats) [
-  | inl e ↦ ap is_unreadable (d.again e (w - 1) (omega arith))
-  | inr e ↦ ap is_unreadable (d.own e (w - 1) (omega arith))
-]
+decoded_taken w coding codes old new s after end some d = grind arith
 
 -- bytes as they are, whose rows start without a run
 pub whole_decoded : (coding : Coding) (codes row new : List ℕ) (s : Spot) (end : RowEnd) (n at to : ℕ) → coding ≡ Binary → IsWhole coding s → at ≡ s.at → end ≡ record { left = 0; digit = 0; repeats = false }
     → Decoded (2 * n) Binary codes (record { left = 0; digit = 0; at = at }) end (record { left = 0; digit = 0; at = to }) row new → Decoded (2 * n) coding codes s end (record { left = end.left; digit = end.digit; at = to }) row new
-whole_decoded coding codes row new s end n at to is whole here ends d =
-    let w : (s.left ≡ 0) × (s.digit ≡ 0) = subst (λ (k : Coding). IsWhole k s) is whole in
-    let a = subst (λ (i : ℕ). Decoded (2 * n) Binary codes (record { left = 0; digit = 0; at = i }) end (record { left = 0; digit = 0; at = to }) row new) here d in
-    let b = subst (λ (i : ℕ). Decoded (2 * n) Binary codes (record { left = 0; digit = i; at = s.at }) end (record { left = 0; digit = 0; at = to }) row new) (sym w.1) a in
-    let e = subst (λ (i : ℕ). Decoded (2 * n) Binary codes (record { left = i; digit = s.digit; at = s.at }) end (record { left = 0; digit = 0; at = to }) row new) (sym w.0) b in
-    let f = subst (λ (k : Coding). Decoded (2 * n) k codes s end (record { left = 0; digit = 0; at = to }) row new) (sym is) e in
-    subst (λ (r : RowEnd). Decoded (2 * n) coding codes s end (record { left = r.left; digit = r.digit; at = to }) row new) (sym ends) f
+whole_decoded coding codes row new s end n at to is whole here ends d = grind arith
 
 -- a value, by the one above it
 pub value-at : (p : Picture) (y j : ℕ) → value p y j ≡ value_of (place_of p y j) (above p y j)
 unfolding value
-value-at p zero j = refl
-value-at p (suc y) j = refl
+value-at p y j = grind arith
 
 -- what a marked row shows
 pub marked_place : (p : Picture) (m : RunMark) (j : ℕ) → IsMark p m → place_of p m.next j ≡ shown_at (width_of p) 0 (symbols_at p.coding p.codes m.here) j
@@ -78,10 +56,7 @@ marked_refusal p m h = ap is_unreadable (marked_place p m (width_of p - 1) h)
 -- where a marked row starts
 pub marked_start : (p : Picture) (m : RunMark) → IsMark p m → start_of p m.next ≡ m.here.at
 unfolding start_of
-marked_start p m h =
-    let w = width_of p in
-    let e : w * m.next ≡ w * m.next + 0 = omega arith in
-    ap (bytes_before w 0 (symbols p.coding p.codes)) e ∙ h.bytes_is 0 ∙ ap (λ k. m.here.at + k) (bytes_none w 0 (symbols_at p.coding p.codes m.here) 0 (omega arith)) ∙ omega arith
+marked_start p m h = grind (arith, bytes_none)
 
 -- a row that repeats, and one that doesn't
 pub marked_repeat : (p : Picture) (m : RunMark) → IsMark p m → is_repeat p m.next ≡ is_above (shown_at (width_of p) 0 (symbols_at p.coding p.codes m.here) 0)
@@ -93,16 +68,13 @@ pub symbols_none : (coding : Coding) (codes : List ℕ) → symbols coding (drop
 symbols_none coding codes = ap (symbols coding) (drop-length codes)
 
 pub nothing_shown : (coding : Coding) (w j : ℕ) → shown_at w 0 (symbols coding []) j ≡ Value 0
-nothing_shown RunLength w j = refl
-nothing_shown Binary w j = refl
+nothing_shown coding w j = grind arith
 
 pub nothing_spelled : (coding : Coding) (w j : ℕ) → bytes_before w 0 (symbols coding []) j ≡ 0
-nothing_spelled RunLength w j = refl
-nothing_spelled Binary w j = refl
+nothing_spelled coding w j = grind arith
 
 whole_start : (coding : Coding) (at : ℕ) → IsWhole coding (record { left = 0; digit = 0; at = at })
-whole_start RunLength at = tt
-whole_start Binary at = (refl, refl)
+whole_start coding at = grind arith
 
 pub first_mark : (p : Picture) → IsMark p (record { next = 0; here = record { left = 0; digit = 0; at = 0 }; before = record { left = 0; digit = 0; at = length p.codes } })
 unfolding above_from
@@ -179,16 +151,12 @@ answer_row p y h e = rw (lt-ltb y p.rows h, e) (refl, refl)
 
 -- reading the row at the place before gives the row above
 pub above_read : (p : Picture) (m : RunMark) (r : Result RowEnd Fault) (at : ℕ) (old new : List ℕ) (j : ℕ) → IsMark p m → RowRead (width_of p) p.coding p.codes m.before r at old new → j < width_of p → nibble new j ≡ above p m.next j
-above_read p m (Ok end) at old new j h d l = d.row j l ∙ ap (λ c. value_of c (nibble old j)) (h.above_is j l)
-above_read p m (Err f) at old new j h e l = absurd (true≢false (sym e ∙ ap is_unreadable (h.above_is (width_of p - 1) (omega arith))))
+above_read p m r at old new j h d l = grind (arith, true≢false)
 
 -- no byte stands before the bound of the first row
 pub first_bound : (p : Picture) → bound_of p 0 ≡ 0
 unfolding bound_of above_from start_of
-first_bound p =
-    let e : width_of p * 0 ≡ 0 = omega arith in
-    let none = ap (bytes_before (width_of p) 0 (symbols p.coding p.codes)) e ∙ bytes_none (width_of p) 0 (symbols p.coding p.codes) 0 (omega arith) in
-    omega (arith, none)
+first_bound p = grind (arith, bytes_none)
 
 -- and reads as many bytes as its symbols have
 pub above_reads : (p : Picture) (m : RunMark) (r : Result RowEnd Fault) (at : ℕ) (old new : List ℕ) → 0 < p.row_bytes → IsMark p m → RowRead (width_of p) p.coding p.codes m.before r at old new
@@ -287,24 +255,4 @@ next_cursor c n end i going goes a d coding row_bytes rows first next here befor
 -- the cursor behind a refused row
 pub stopped_cursor : (c n : Inside) → IsCursor c → c.refused ≡ false → n.refused ≡ true → Advanced c.codes n.codes → is_unreadable (shown_at (2 * c.row_bytes) 0 (symbols_at c.coding c.codes.bytes.now c.mark.here) (2 * c.row_bytes - 1)) ≡ true
     → n.coding ≡ c.coding → n.row_bytes ≡ c.row_bytes → n.rows ≡ c.rows → n.first ≡ c.first → n.mark ≡ c.mark → n.passed ≡ c.passed → IsCursor n
-stopped_cursor c n i going stops a refused coding row_bytes rows first mark passed =
-    let p = picture_of c in
-    let same : picture_of n ≡ p = rw (coding, row_bytes, rows, a.bytes) refl in
-    let there : n.mark.here.at ≡ c.mark.here.at = ap (λ (m : RunMark). m.here.at) mark in
-    let start = ap (λ q. start_of q n.first) same ∙ ap (start_of p) first in
-    let bound = ap (λ q. bound_of q n.first) same ∙ ap (bound_of p) first in
-    record {
-      some = subst (λ k. 0 < k) (sym row_bytes) i.some;
-      short = subst (λ k. k ≤ 1024) (sym row_bytes) i.short;
-      mark = subst (λ q. IsMark q n.mark) (sym same) (subst (IsMark p) (sym mark) i.mark);
-      kept = λ e. absurd (true≢false (sym stops ∙ e));
-      place = λ e. absurd (true≢false (sym stops ∙ e));
-      stopped = λ _. ap (λ q. is_refused q n.mark.next) same ∙ ap (λ (m : RunMark). is_refused p m.next) mark ∙ marked_refusal p c.mark i.mark ∙ refused;
-      reading = a.reading;
-      least = omega (arith, start, there, i.least, a.read, a.at);
-      most = omega (arith, bound, i.most, a.read);
-      passed = record {
-        bytes = omega (arith, passed, start, there, i.passed.bytes, ap (λ (m : RunMark). white_rest (length c.codes.bytes.now) m.here) mark, ap (λ (b : List ℕ). white_rest (length b) n.mark.here) a.bytes);
-        rows = omega (arith, passed, first, i.passed.rows, ap (λ (m : RunMark). m.next) mark);
-      };
-    }
+stopped_cursor c n i going stops a refused coding row_bytes rows first mark passed = grind (arith, true≢false, marked_refusal)

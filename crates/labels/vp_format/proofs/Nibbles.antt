@@ -1,9 +1,8 @@
 -- Places of a row of bytes, two to a byte.
-use Rattle.std.proofs.Common.{inl, inr, ◌≡◌, ℕ, ◌+◌, ◌*◌, ◌/◌, ◌%◌, ◌<◌, eqb, cond, List, length, get_or, ◌++◌, take, replicate, ap, ◌∙◌, refl, arith, ◌-◌, ◌≤◌}
-use Rattle.std.proofs.Common.{get_or-take}
+use Rattle.std.proofs.Common.{inl, inr, ◌≡◌, ℕ, ◌+◌, ◌*◌, ◌/◌, ◌%◌, ◌<◌, eqb, cond, List, length, get_or, ◌++◌, take, replicate, ap, ◌∙◌, refl, arith, ◌-◌, ◌≤◌, get_or-take}
 use Rattle.std.proofs.Math.ListN.{get_or-append}
 use Rattle.std.proofs.lemmas.List.{get_or-replicate, get_or-append_right, length-take, length-replicate}
-use Rattle.std.proofs.lemmas.Bool.{cases_eq, cases_Bool}
+use Rattle.std.proofs.lemmas.Bool.{cases_Bool}
 use Rattle.vp_format.specs.Pictures.{nibble}
 
 -- the front of a row, and a row with more behind it
@@ -33,19 +32,14 @@ nibble_twice n v j small h = nibble_of_twice (replicate n (v * 16 + v)) v j smal
 
 -- the two places of a byte that was put together
 pub nibble_of_values : (row : List ℕ) (f : ℕ → ℕ) (j : ℕ) → get_or row (j / 2) 0 ≡ f (2 * (j / 2)) * 16 + f (2 * (j / 2) + 1) → f (2 * (j / 2) + 1) < 16 → nibble row j ≡ f j
-nibble_of_values row f j e small = nibble_of_byte row _ j e ∙ (elim (cases_eq (j % 2) 0) [
-  | inl t ↦ (let i : 2 * (j / 2) ≡ j = omega arith in ap (λ r. cond (eqb r 0) ((f (2 * (j / 2)) * 16 + f (2 * (j / 2) + 1)) / 16) ((f (2 * (j / 2)) * 16 + f (2 * (j / 2) + 1)) % 16)) t ∙ omega arith ∙ ap f i)
-  | inr t ↦ (let r : j % 2 ≡ 1 = omega arith in let i : 2 * (j / 2) + 1 ≡ j = omega arith in ap (λ r. cond (eqb r 0) ((f (2 * (j / 2)) * 16 + f (2 * (j / 2) + 1)) / 16) ((f (2 * (j / 2)) * 16 + f (2 * (j / 2) + 1)) % 16)) r ∙ omega arith ∙ ap f i)
-])
+nibble_of_values row f j e small = grind (arith, nibble_of_byte)
 
 pub nibble_of_pair : (row places : List ℕ) (j : ℕ) → get_or row (j / 2) 0 ≡ get_or places (2 * (j / 2)) 0 * 16 + get_or places (2 * (j / 2) + 1) 0 → get_or places (2 * (j / 2) + 1) 0 < 16 → nibble row j ≡ get_or places j 0
 nibble_of_pair row places j e small = nibble_of_values row (λ k. get_or places k 0) j e small
 
 -- a row of which the front stays, and a value stands twice in each byte behind it
 pub nibble_kept : (row mid rest : List ℕ) (n j : ℕ) → n ≤ length row → j < 2 * n → nibble (take n row ++ (mid ++ rest)) j ≡ nibble row j
-nibble_kept row mid rest n j room l =
-    let front : length (take n row) ≡ n = omega (arith, length-take n row) in
-    nibble_append (take n row) (mid ++ rest) j (rw front (omega arith)) ∙ nibble_front row n j l
+nibble_kept row mid rest n j room l = grind (arith, length-take, nibble_append, nibble_front)
 
 pub nibble_behind : (row mid rest : List ℕ) (n k v j : ℕ) → n ≤ length row → mid ≡ replicate k (v * 16 + v) → v < 16 → 2 * n ≤ j → j < 2 * (n + k) → nibble (take n row ++ (mid ++ rest)) j ≡ v
 nibble_behind row mid rest n k v j room e small l m =

@@ -1,14 +1,14 @@
 -- Codes that are passed by where their symbols end, and what passing all rows answers.
-use Rattle.std.proofs.Common.{inl, inr, ◌≡◌, ℕ, zero, suc, ◌+◌, ◌-◌, ◌*◌, ◌/◌, ◌%◌, ◌<◌, ◌≤◌, true, false, Ok, Err, cond, List, [], ◌∷◌, drop, length, get_or, Some, subst, ap, sym, ◌∙◌, refl, arith}
+use Rattle.std.proofs.Common.{◌≡◌, ℕ, zero, suc, ◌+◌, ◌-◌, ◌*◌, ◌/◌, ◌%◌, ◌<◌, ◌≤◌, true, false, Ok, Err, cond, List, ◌∷◌, drop, length, get_or, Some, subst, ap, ◌∙◌, refl, arith}
 use Rattle.std.proofs.Math.Seq.{drop-length}
-use Rattle.std.proofs.Math.Nat.{lt-div-mul-add, div-mul-le_self, mod-eq-sub-div-mul, div-lt_iff_lt-mul, mul-le-mul_left, mul_comm}
-use Rattle.std.proofs.lemmas.Bool.{cases_lt, lt-ltb, ne_eqb}
+use Rattle.std.proofs.Math.Nat.{lt-div-mul-add, div-mul-le_self, div-lt_iff_lt-mul, mul-le-mul_left, mul_comm}
+use Rattle.std.proofs.lemmas.Bool.{lt-ltb, ne_eqb}
 use Rattle.vp_dots.specs.declared.fault.Fault.TheVariants.{Graphic}
 use Rattle.vp_format.specs.declared.codes.Symbol.{Symbol}
 use Rattle.vp_format.specs.declared.codes.Symbol.TheVariants.{Digits, Again, Refused}
 use Rattle.vp_format.specs.declared.reading.Codes.{Codes}
 use Rattle.vp_format.specs.Codes.{code_of, Spelled, spelled, joined, symbols, symbols_behind}
-use Rattle.vp_format.specs.Pictures.{AsAbove, Unreadable, shown_at, shows, end_of, is_unreadable, Picture, width_of, place_of, is_refused, row_after, unless_fault, passing}
+use Rattle.vp_format.specs.Pictures.{AsAbove, Unreadable, shows, end_of, is_unreadable, Picture, width_of, place_of, is_refused, row_after, unless_fault, passing}
 use Rattle.vp_format.specs.Cursors.{digit_value, symbols_from, InHand, IsReading, Passed, PassesOn}
 use Rattle.vp_format.proofs.Reached.{shown_in, shown_past, in_hand}
 use Rattle.vp_format.proofs.Quick.{plain_symbol}
@@ -20,26 +20,16 @@ passed_at w all x y ss left d e r = subst (λ q. Passed w all q left) d (subst (
 
 -- a symbol that isn't refused
 symbol_passed : (w : ℕ) (all : List Spelled) (x k : ℕ) (s : Symbol) (left : List Spelled) → x ≤ end_of w x s → is_unreadable (shows w x s) ≡ false → Passed w all x (spelled s k ∷ left) → Passed w all (end_of w x s) left
-symbol_passed w all x k s left order taken r = record {
-  taken = λ j l. elim (cases_lt j x) [ inl b ↦ r.taken j b | inr b ↦ ap is_unreadable (r.ahead j b ∙ shown_in w x (spelled s k) left j l) ∙ taken ];
-  ahead = λ j l. r.ahead j (omega (arith, order, l)) ∙ shown_past w x (spelled s k) left j l;
-}
+symbol_passed w all x k s left order taken r = grind (arith, shown_in, shown_past)
 
 pub digits_passed : (w : ℕ) (all : List Spelled) (x n v k : ℕ) (left : List Spelled) → Passed w all x (spelled (Digits n v) k ∷ left) → Passed w all (x + n) left
 digits_passed w all x n v k left r = symbol_passed w all x k (Digits n v) left (omega arith) refl r
-
--- the end of the row that holds a place
-row_end : (w x : ℕ) → (x / w + 1) * w ≡ x - x % w + w
-row_end w x = omega (arith, mod-eq-sub-div-mul x w, div-mul-le_self x w)
 
 -- so many plain digits
 pub plain_passed : (w : ℕ) (all : List Spelled) (x : ℕ) (codes : List ℕ) (at k : ℕ) → at + k ≤ length codes → ((i : ℕ) → i < k → digit_value (code_of (get_or codes (at + i) 0)) < 16)
     → Passed w all x (symbols_from codes at) → Passed w all (x + k) (symbols_from codes (at + k))
 plain_passed w all x codes at zero inside digit r = let e : x ≡ x + 0 = omega arith in let f : at ≡ at + 0 = omega arith in passed_at w all x (x + 0) _ _ e (ap (symbols_from codes) f) r
-plain_passed w all x codes at (suc k) inside digit r =
-    let before = plain_passed w all x codes at k (omega (arith, inside)) (λ i l. digit i (omega (arith, l))) r in
-    let next = passed_at w all (x + k) (x + k) _ _ refl (plain_symbol codes (at + k) (omega (arith, inside)) (digit k (omega arith))) before in
-    passed_at w all (x + k + 1) (x + suc k) _ _ (omega arith) (ap (symbols_from codes) (omega arith)) (digits_passed w all (x + k) 1 _ _ (symbols_from codes (at + k + 1)) next)
+plain_passed w all x codes at (suc k) inside digit r = grind (arith, passed_at, plain_symbol, digits_passed, plain_passed w all x codes at k (omega (arith, inside)) (λ i l. digit i (omega (arith, l))) r)
 
 pub plain_on : (codes : List ℕ) (x at k : ℕ) → at + k ≤ length codes → ((i : ℕ) → i < k → digit_value (code_of (get_or codes (at + i) 0)) < 16) → PassesOn codes x at (x + k) (at + k)
 plain_on codes x at k inside digit = record { behind = omega arith; inside = inside; passed = λ w all. plain_passed w all x codes at k inside digit }
@@ -64,11 +54,7 @@ end_passed p x left some ends r = all_taken p (λ y l. r.taken (width_of p * y +
 -- or no code is left for the others
 pub codes_passed : (p : Picture) (x at : ℕ) → 0 < width_of p → at ≡ length p.codes → Passed (width_of p) (symbols p.coding p.codes) x (symbols_from p.codes at) → passing p 0 p.rows ≡ Ok tt
 unfolding is_refused place_of
-codes_passed p x at some ends r = all_taken p (λ y l.
-    let w = width_of p in
-    let j = w * y + (w - 1) in
-    let none : symbols_from p.codes at ≡ [] = ap (λ k. symbols_from p.codes k) ends ∙ ap (λ cs. symbols_behind cs 0 0) (drop-length p.codes) in
-    elim (cases_lt j x) [ inl b ↦ r.taken j b | inr b ↦ ap is_unreadable (r.ahead j b ∙ ap (λ ss. shown_at w x ss j) none) ])
+codes_passed p x at some ends r = grind (arith, all_taken, drop-length)
 
 -- a refused symbol starts in one of the rows
 refused_passed : (p : Picture) (x k : ℕ) (s : Symbol) (left : List Spelled) → 0 < width_of p → x < width_of p * p.rows → end_of (width_of p) x s ≡ (x / width_of p + 1) * width_of p → shows (width_of p) x s ≡ Unreadable
@@ -99,7 +85,4 @@ inside_passed p x k left some inside within r = refused_passed p x k Again left 
 -- the symbol that begins with the byte in hand
 pub hand_passed : (w : ℕ) (all : List Spelled) (x : ℕ) (codes : List ℕ) (old c e : Codes) (b k : ℕ) (s : Symbol) → c.bytes.now ≡ codes → e.bytes.now ≡ codes → c.at ≡ old.at + 1 → InHand c (Some b) → IsReading c
     → joined (code_of b) 0 0 (symbols_behind (drop c.at c.bytes.now)) ≡ spelled s k ∷ symbols_from e.bytes.now e.at → Passed w all x (symbols_from codes old.at) → Passed w all x (spelled s k ∷ symbols_from codes e.at)
-hand_passed w all x codes old c e b k s same kept next hand reading is r =
-    let back : old.at ≡ c.at - 1 = omega arith in
-    passed_at w all x x _ _ refl
-    (ap (λ cs. symbols_from cs old.at) (sym same) ∙ ap (symbols_from c.bytes.now) back ∙ in_hand c.bytes.now c.at b hand.0 reading.at hand.1 ∙ is ∙ ap (λ cs. spelled s k ∷ symbols_from cs e.at) kept) r
+hand_passed w all x codes old c e b k s same kept next hand reading is r = grind (arith, passed_at, in_hand)

@@ -1,17 +1,17 @@
 -- Rows that are passed by their codes.
-use Rattle.std.proofs.Common.{inl, inr, ◌≡◌, ◌⊎◌, ℕ, zero, suc, ◌+◌, ◌*◌, ◌/◌, ◌%◌, ◌<◌, ◌≤◌, max, true, false, List, [], ◌∷◌, drop, length, length-drop, ap, sym, ◌∙◌, refl, arith}
+use Rattle.std.proofs.Common.{inl, inr, ◌≡◌, ◌⊎◌, ℕ, zero, suc, ◌+◌, ◌*◌, ◌/◌, ◌%◌, ◌<◌, ◌≤◌, true, false, List, [], ◌∷◌, drop, length, length-drop, ap, sym, ◌∙◌, refl, arith}
 use Rattle.std.specs.Prelude.{◌==◌}
 use Rattle.std.proofs.lemmas.Bool.{cases_Bool, cases_lt}
 use Rattle.std.proofs.lemmas.Bool.Decides.{nat_tests}
 use Rattle.vp_format.specs.declared.codes.Code.{Code}
-use Rattle.vp_format.specs.declared.codes.Code.TheVariants.{Digit, Count, Fill, Above, Other}
-use Rattle.vp_format.specs.declared.codes.Symbol.TheVariants.{Digits, ToEnd, Again, Refused}
+use Rattle.vp_format.specs.declared.codes.Code.TheVariants.{Count}
+use Rattle.vp_format.specs.declared.codes.Symbol.TheVariants.{Digits, Refused}
 use Rattle.vp_format.specs.declared.row.RowEnd.{RowEnd}
 use Rattle.vp_format.specs.declared.rows.Coding.{Coding}
 use Rattle.vp_format.specs.declared.rows.Coding.TheVariants.{RunLength, Binary}
 use Rattle.vp_format.specs.declared.rows.Spot.{Spot}
 use Rattle.vp_format.specs.declared.rows.RunRows.TheInside.{Inside}
-use Rattle.vp_format.specs.Codes.{code_of, spelled, alone, joined, symbols, symbols_behind, binary_symbols}
+use Rattle.vp_format.specs.Codes.{code_of, spelled, joined, symbols, symbols_behind, binary_symbols}
 use Rattle.vp_format.specs.Pictures.{Value, shown_at, bytes_before, start_of}
 use Rattle.vp_format.specs.Cursors.{symbols_at, picture_of, is_white, white_rest, Advanced, Decoded, ArePassed, IsCursor}
 use Rattle.vp_format.proofs.Even.{white_is, is_white_at, ends_white}
@@ -29,11 +29,7 @@ count_some b m e = grind (arith, nat_tests)
 -- the symbol at a code, or behind the counts from it on, has some bytes
 some_joined : (codes : List ℕ) (c : Code) (n k w p : ℕ) → ((m : ℕ) → c ≡ Count m → 0 < m) → ((n k : ℕ) → 0 < n → 0 < k → 0 < bytes_before w p (symbols_behind codes n k) w) → p < w
     → 0 < bytes_before w p (joined c n k (symbols_behind codes)) w
-some_joined codes (Digit v) n k w p counts later l = omega (arith, bytes_past w p (spelled (Digits (max n 1) v) (k + 1)) (symbols_behind codes 0 0) w l)
-some_joined codes (Count m) n k w p counts later l = later (n + m) (k + 1) (omega (arith, counts m refl)) (omega arith)
-some_joined codes (Fill v) n k w p counts later l = omega (arith, bytes_past w p (spelled (alone n (ToEnd v)) (k + 1)) (symbols_behind codes 0 0) w l)
-some_joined codes Above n k w p counts later l = omega (arith, bytes_past w p (spelled (alone n Again) (k + 1)) (symbols_behind codes 0 0) w l)
-some_joined codes Other n k w p counts later l = omega (arith, bytes_past w p (spelled Refused (k + 1)) (symbols_behind codes 0 0) w l)
+some_joined codes c n k w p counts later l = grind (arith, bytes_past)
 
 some_behind : (codes : List ℕ) (w p : ℕ) → p < w → (n k : ℕ) → 0 < n → 0 < k → 0 < bytes_before w p (symbols_behind codes n k) w
 some_behind [] w p l (suc n) k counts some = let t : (suc n == 0) ≡ false = grind (arith, nat_tests) in rw t (omega (arith, bytes_past w p (spelled Refused k) [] w l))

@@ -3,8 +3,8 @@ use Rattle.std.proofs.Common.{◌≡◌, ◌≢◌, ℕ, zero, suc, ◌+◌, ◌
 use Rattle.std.proofs.lemmas.Bool.{ne_eqb, true≢false}
 use Rattle.std.proofs.Math.Nat.{lt-div-mul-add}
 use Rattle.vp_format.specs.declared.codes.Code.{Code}
-use Rattle.vp_format.specs.declared.codes.Code.TheVariants.{Digit, Count, Fill, Above, Other}
-use Rattle.vp_format.specs.declared.codes.Symbol.TheVariants.{Digits, ToEnd, Again, Refused}
+use Rattle.vp_format.specs.declared.codes.Code.TheVariants.{Digit, Count}
+use Rattle.vp_format.specs.declared.codes.Symbol.TheVariants.{Digits, Again, Refused}
 use Rattle.vp_format.specs.Codes.{code_of, Spelled, spelled, joined, symbols_behind}
 use Rattle.vp_format.specs.Pictures.{Value, AsAbove, Unreadable, shown_at}
 use Rattle.vp_format.specs.Reads.{AreDigits, no_digit, digit, AreCounts, no_count, count, goes_on, ReadTo, start, run, row, again}
@@ -29,17 +29,7 @@ symbols_cut m i (count c d n counts g r) h = symbols_at_code c m i (Count d) cou
 
 -- counts that something else stands behind
 symbols_counted : {counts : List ℕ} {n : ℕ} (back : List ℕ) (m i b : ℕ) → AreCounts counts n → 0 < m + n → goes_on (code_of b) ≡ false → symbols_behind (counts ++ b ∷ back) m i ≡ spelled Refused (i + length counts + 1) ∷ symbols back
-symbols_counted back m i b no_count h e = of_code (code_of b) e ∙ ap (λ q. spelled Refused q ∷ symbols back) (omega arith)
-  where
-    few : eqb m 0 ≡ false
-    few = ne_eqb m 0 (omega arith)
-
-    of_code : (c : Code) → goes_on c ≡ false → joined c m i (symbols_behind back) ≡ spelled Refused (i + 1) ∷ symbols back
-    of_code (Digit v) f = absurd (true≢false f)
-    of_code (Count k) f = absurd (true≢false f)
-    of_code (Fill v) f = ap (λ t. spelled (cond t (ToEnd v) Refused) (i + 1) ∷ symbols back) few
-    of_code Above f = ap (λ t. spelled (cond t Again Refused) (i + 1) ∷ symbols back) few
-    of_code Other f = refl
+symbols_counted back m i b no_count h e = grind (arith, ne_eqb, true≢false)
 symbols_counted back m i b (count c d n counts g r) h e = symbols_at_code c m i (Count d) (counts ++ b ∷ back) g ∙ symbols_counted back (m + d) (i + 1) b r (omega arith) e ∙ ap (λ q. spelled Refused q ∷ symbols back) (omega arith)
 
 -- a row's end lies behind each of its places
@@ -49,22 +39,15 @@ end_behind w q h = let e : (q / w + 1) * w ≡ q / w * w + w = omega arith in rw
 -- behind accepted codes the others begin at their place
 pub read_on : (width : ℕ) {front : List ℕ} {place : ℕ} (back : List ℕ) (j : ℕ) → 0 < width → ReadTo width front place → place ≤ j → shown_at width 0 (symbols (front ++ back)) j ≡ shown_at width place (symbols back) j
 read_on width back j w start h = refl
-read_on width back j w (run front counts n b v q r g e) h =
-    ap (λ codes. shown_at width 0 (symbols codes) j) (append_assoc front (counts ++ b ∷ []) back ∙ ap (λ codes. front ++ codes) (append_assoc counts (b ∷ []) back))
-    ∙ read_on width (counts ++ b ∷ back) j w r (omega arith) ∙ ap (λ ss. shown_at width q ss j) (symbols_run back 0 0 n b v g e (omega arith)) ∙ shown_past width q (spelled (Digits (max n 1) v) (0 + length counts + 1)) (symbols back) j h
-read_on width back j w (row front b v q r e) h =
-    ap (λ codes. shown_at width 0 (symbols codes) j) (append_assoc front (b ∷ []) back)
-    ∙ read_on width (b ∷ back) j w r (omega (arith, end_behind width q w)) ∙ ap (λ ss. shown_at width q ss j) (symbols_at_code b 0 0 (Fill v) back e) ∙ shown_past width q (spelled (ToEnd v) 1) (symbols back) j h
-read_on width back j w (again front b q r e s) h =
-    ap (λ codes. shown_at width 0 (symbols codes) j) (append_assoc front (b ∷ []) back)
-    ∙ read_on width (b ∷ back) j w r (omega (arith, end_behind width q w)) ∙ ap (λ ss. shown_at width q ss j) (symbols_at_code b 0 0 Above back e) ∙ shown_past width q (spelled Again 1) (symbols back) j h
+read_on width back j w (run front counts n b v q r g e) h = grind (arith, append_assoc, symbols_run, shown_past, read_on width (counts ++ b ∷ back) j w r (omega arith))
+read_on width back j w (row front b v q r e) h = grind (arith, append_assoc, end_behind, symbols_at_code, shown_past, read_on width (b ∷ back) j w r (omega (arith, end_behind width q w)))
+read_on width back j w (again front b q r e s) h = grind (arith, append_assoc, end_behind, symbols_at_code, shown_past, read_on width (b ∷ back) j w r (omega (arith, end_behind width q w)))
 
 -- digits alone
 pub digits_shown : {codes values : List ℕ} (width at k : ℕ) → AreDigits codes values → shown_at width at (symbols codes) (at + k) ≡ Value (get_or values k 0)
 digits_shown width at k no_digit = refl
 digits_shown width at zero (digit b v codes values e h) = ap (λ ss. shown_at width at ss (at + 0)) (symbols_at_code b 0 0 (Digit v) codes e) ∙ shown_in width at (spelled (Digits 1 v) 1) (symbols codes) (at + 0) (omega arith)
-digits_shown width at (suc k) (digit b v codes values e h) = ap (λ ss. shown_at width at ss (at + suc k)) (symbols_at_code b 0 0 (Digit v) codes e) ∙ shown_past width at (spelled (Digits 1 v) 1) (symbols codes) (at + suc k) (omega arith)
-    ∙ ap (shown_at width (at + 1) (symbols codes)) (omega arith) ∙ digits_shown width (at + 1) k h
+digits_shown width at (suc k) (digit b v codes values e h) = grind (arith, symbols_at_code, shown_past, digits_shown width (at + 1) k h)
 
 -- what the codes behind accepted ones show
 pub run_read : (width : ℕ) (front counts back : List ℕ) (q n b v j : ℕ) → 0 < width → ReadTo width front q → AreCounts counts n → code_of b ≡ Digit v → q ≤ j → j < q + max n 1 → shown_at width 0 (symbols (front ++ (counts ++ b ∷ back))) j ≡ Value v

@@ -108,9 +108,4 @@ digits_more bytes at i w before next k l = elim (cases_lt k (2 * i)) [
 -- a byte of two of them, by its place in the row
 pub byte_behind : (bytes row : List ℕ) (at i k : ℕ) → i ≤ k → get_or row (i + (k - i)) 0 ≡ digit_value (code_of (get_or bytes (at + 2 * i + 2 * (k - i)) 0)) * 16 + digit_value (code_of (get_or bytes (at + 2 * i + (2 * (k - i) + 1)) 0))
     → get_or row k 0 ≡ digit_value (code_of (get_or bytes (at + 2 * k) 0)) * 16 + digit_value (code_of (get_or bytes (at + (2 * k + 1)) 0))
-byte_behind bytes row at i k order h =
-    let here : i + (k - i) ≡ k = omega arith in
-    let high : at + 2 * i + 2 * (k - i) ≡ at + 2 * k = omega arith in
-    let low : at + 2 * i + (2 * (k - i) + 1) ≡ at + (2 * k + 1) = omega arith in
-    sym (ap (λ j. get_or row j 0) here) ∙ h ∙ ap (λ j. digit_value (code_of (get_or bytes j 0)) * 16 + digit_value (code_of (get_or bytes (at + 2 * i + (2 * (k - i) + 1)) 0))) high
-    ∙ ap (λ j. digit_value (code_of (get_or bytes (at + 2 * k) 0)) * 16 + digit_value (code_of (get_or bytes j 0))) low
+byte_behind bytes row at i k order h = grind arith

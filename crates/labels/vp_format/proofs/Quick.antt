@@ -1,5 +1,5 @@
 -- Codes that are read in a quick way: digits one after the other, and short runs.
-use Rattle.std.proofs.Common.{inl, inr, ◌≡◌, ℕ, Bool, true, false, cond, bit_or, ltb, zero, suc, ◌+◌, ◌-◌, ◌<◌, ◌≤◌, max, List, ◌∷◌, drop, take, map, length, get_or, Result, Ok, Err, ap, sym, ◌∙◌, refl, arith}
+use Rattle.std.proofs.Common.{inl, inr, ◌≡◌, ℕ, Bool, true, cond, bit_or, ltb, zero, suc, ◌+◌, ◌-◌, ◌<◌, ◌≤◌, max, List, ◌∷◌, drop, take, map, length, get_or, Result, Ok, Err, ap, sym, ◌∙◌, refl, arith}
 use Rattle.std.proofs.lemmas.List.{drop_more, get_or-map}
 use Rattle.std.proofs.lemmas.Simd.{length-chunk, get_or-chunk}
 use Rattle.vp_dots.specs.declared.fault.Fault.{Fault}
@@ -8,10 +8,10 @@ use Rattle.vp_format.specs.declared.rows.Coding.TheVariants.{RunLength}
 use Rattle.std.proofs.lemmas.Bool.{cases_lt, lt-ltb, ltb-true, agree_below_at, true≢false}
 use mir.Val.{bool_byte}
 use Rattle.vp_format.specs.declared.codes.Code.{Code}
-use Rattle.vp_format.specs.declared.codes.Code.TheVariants.{Digit, Count, Fill, Above, Other}
+use Rattle.vp_format.specs.declared.codes.Code.TheVariants.{Digit, Count}
 use Rattle.vp_format.specs.declared.codes.Symbol.TheVariants.{Digits}
 use Rattle.vp_format.specs.Codes.{code_of, Spelled, spelled, joined, symbols_behind}
-use Rattle.vp_format.specs.Pictures.{Value, shown_at, value_of, is_above, nibble}
+use Rattle.vp_format.specs.Pictures.{Value, shown_at, value_of, nibble}
 use Rattle.vp_format.specs.declared.row.RowEnd.{RowEnd}
 use Rattle.vp_format.specs.Cursors.{count_value, digit_value, symbols_from, symbols_at, Filled, Reached, ReadsOn, Decoded, RowRead}
 use Rattle.vp_format.proofs.Reached.{run_over, run_reached, run_done, reached_at, start_reached, digit_is, digit_in_hand}
@@ -19,20 +19,13 @@ use Rattle.vp_format.proofs.Reached.{run_over, run_reached, run_done, reached_at
 -- places from x on may be overwritten
 pub reached_same : (w : ℕ) (all : List Spelled) (from : ℕ) (old new : List ℕ) (x : ℕ) (left : List Spelled) (at : ℕ) → ((j : ℕ) → j < x → get_or new j 0 ≡ get_or old j 0)
     → Reached w all from old x left at → Reached w all from new x left at
-reached_same w all from old new x left at kept r = record {
-  so_far = λ j l. r.so_far j l ∙ ap Value (sym (kept j l));
-  small = λ j l. omega (arith, kept j l, r.small j l);
-  ahead = r.ahead;
-  bytes = r.bytes;
-}
+reached_same w all from old new x left at kept r = grind arith
 
 -- digits in the bytes from a place on, whose values stand in the places
 pub digits_reached : (w : ℕ) (all : List Spelled) (from : ℕ) (old new : List ℕ) (x : ℕ) (codes : List ℕ) (at k : ℕ) → ((j : ℕ) → j < x → get_or new j 0 ≡ get_or old j 0) → at + k ≤ length codes
     → ((i : ℕ) → i < k → digit_value (code_of (get_or codes (at + i) 0)) < 16) → ((i : ℕ) → i < k → get_or new (x + i) 0 ≡ digit_value (code_of (get_or codes (at + i) 0)))
     → Reached w all from old x (symbols_from codes at) at → Reached w all from new (x + k) (symbols_from codes (at + k)) (at + k)
-digits_reached w all from old new x codes at zero kept inside few put r =
-    let e : x ≡ x + 0 = omega arith in let f : at ≡ at + 0 = omega arith in
-    reached_at w all from new x (x + 0) _ _ at (at + 0) e (ap (symbols_from codes) f) f (reached_same w all from old new x _ at kept r)
+digits_reached w all from old new x codes at zero kept inside few put r = grind (arith, reached_at, reached_same)
 digits_reached w all from old new x codes at (suc k) kept inside few put r =
     let before = digits_reached w all from old new x codes at k kept (omega (arith, inside)) (λ i l. few i (omega (arith, l))) (λ i l. put i (omega (arith, l))) r in
     let b = get_or codes (at + k) 0 in
@@ -93,11 +86,7 @@ unfolding code_of
 count_few b h = let below = ltb-true (count_value (code_of b)) 1001 (agree_below_at (λ b. ltb (count_value (code_of b)) 1001) (λ _. true) 256 b refl h) in omega (arith, below)
 
 count_is : (c : Code) → small_digit c ≡ true → 16 ≤ digit_value c → count_value c < 1000 → c ≡ Count (count_value c)
-count_is (Digit v) s h l = absurd (omega (arith, ltb-true v 16 s, h))
-count_is (Count n) s h l = refl
-count_is (Fill v) s h l = absurd (omega (arith, l))
-count_is Above s h l = absurd (omega (arith, l))
-count_is Other s h l = absurd (omega (arith, l))
+count_is c s h l = grind (arith, ltb-true)
 
 pub digit_adds : (c : Code) → digit_value c < 16 → count_value c ≡ 0
 digit_adds c h = ap count_value (digit_is c (digit_value c) refl h)
@@ -105,11 +94,7 @@ digit_adds c h = ap count_value (digit_is c (digit_value c) refl h)
 -- one more count
 count_taken : (codes : List ℕ) (begun at n sum : ℕ) → at < length codes → get_or codes at 0 < 256 → begun ≤ at → 16 ≤ digit_value (code_of (get_or codes at 0)) → sum ≡ n + count_value (code_of (get_or codes at 0)) → sum < 1000
     → symbols_from codes begun ≡ symbols_behind (drop at codes) n (at - begun) → symbols_from codes begun ≡ symbols_behind (drop (at + 1) codes) sum (at + 1 - begun)
-count_taken codes begun at n sum inside byte ordered big is few pending =
-    let c = code_of (get_or codes at 0) in
-    let e : at - begun + 1 ≡ at + 1 - begun = omega (arith, ordered) in
-    pending ∙ behind_next codes at n (at - begun) inside ∙ ap (λ d. joined d n (at - begun) (symbols_behind (drop (at + 1) codes))) (count_is c (small_digits (get_or codes at 0) byte) big (omega (arith, is, few)))
-    ∙ ap (λ m. symbols_behind (drop (at + 1) codes) m (at - begun + 1)) (sym is) ∙ ap (λ k. symbols_behind (drop (at + 1) codes) sum k) e
+count_taken codes begun at n sum inside byte ordered big is few pending = grind (arith, behind_next, count_is, small_digits)
 
 -- one count or none, from a byte on
 one_counted : (codes : List ℕ) (at n next : ℕ) → at < length codes → get_or codes at 0 < 256 → n ≡ count_value (code_of (get_or codes at 0)) → n < 1000 → (0 < n → next ≡ at + 1) → (n ≡ 0 → next ≡ at)
@@ -130,10 +115,7 @@ one_counted codes at n next inside byte is few one none =
 -- a digit behind counts
 digit_behind : (codes : List ℕ) (at n next v m to : ℕ) → next < length codes → at ≤ next → v ≡ digit_value (code_of (get_or codes next 0)) → v < 16 → m ≡ max n 1 → to ≡ next + 1 → symbols_from codes at ≡ symbols_behind (drop next codes) n (next - at)
     → symbols_from codes at ≡ spelled (Digits m v) (to - at) ∷ symbols_from codes to
-digit_behind codes at n next v m to inside ordered shows digit takes there counted =
-    let long : next - at + 1 ≡ to - at = omega (arith, there, ordered) in
-    counted ∙ behind_next codes next n (next - at) inside ∙ ap (λ d. joined d n (next - at) (symbols_behind (drop (next + 1) codes))) (digit_is (code_of (get_or codes next 0)) v shows digit)
-    ∙ ap (λ k. spelled (Digits k v) (next - at + 1) ∷ symbols_from codes (next + 1)) (sym takes) ∙ ap (λ k. spelled (Digits m v) k ∷ symbols_from codes (next + 1)) long ∙ ap (λ k. spelled (Digits m v) (to - at) ∷ symbols_from codes k) (sym there)
+digit_behind codes at n next v m to inside ordered shows digit takes there counted = grind (arith, behind_next, digit_is)
 
 -- a plain digit
 pub plain_symbol : (codes : List ℕ) (at : ℕ) → at < length codes → digit_value (code_of (get_or codes at 0)) < 16 → symbols_from codes at ≡ spelled (Digits 1 (digit_value (code_of (get_or codes at 0)))) (at + 1 - at) ∷ symbols_from codes (at + 1)
@@ -155,10 +137,7 @@ second_symbol codes at n next sum v m to inside ordered bytes is one none big ad
 -- a short run in the places
 pub run_taken : (w : ℕ) (all : List Spelled) (from : ℕ) (old new : List ℕ) (x n v k : ℕ) (left : List Spelled) (at to : ℕ) → 0 < n → n ≤ 32 → v < 16 → at ≤ to → k ≡ to - at → Filled x (x + 32) v old new
     → Reached w all from old x (spelled (Digits n v) k ∷ left) at → Reached w all from new (x + n) left to
-run_taken w all from old new x n v k left at to some short few ordered long f r =
-    let filled : Filled x (x + n) v old new = record { kept = f.kept; filled = λ j l m. f.filled j l (omega (arith, m, short)) } in
-    let run = run_reached w all from old new x (x + n) n v k left at (omega (arith, some)) (omega arith) few r filled in
-    reached_at w all from new (x + n) (x + n) _ _ (at + k) to refl refl (omega (arith, ordered, long)) (run_done w all from new (x + n) _ v left (at + k) (omega arith) run)
+run_taken w all from old new x n v k left at to some short few ordered long f r = grind (arith, run_reached, reached_at, run_done)
 
 -- the byte behind a count, and that of a digit
 pub behind_count : (b n r at : ℕ) → b < 256 → n ≡ count_value (code_of b) → n < 1000 → r ≡ bool_byte (ltb 102 (bit_or b 32)) → (0 < n → at + r ≡ at + 1) × (n ≡ 0 → at + r ≡ at)
@@ -172,30 +151,19 @@ behind_count b n r at h is few e =
     (λ l. ap (λ k. at + k) (so ∙ ap bool_byte (lt-ltb 0 n l)), λ z. omega (arith, so ∙ ap (λ m. bool_byte (ltb 0 m)) z))
 
 pub one_most : (r : ℕ) (b : Bool) → r ≡ bool_byte b → r ≤ 1
-one_most r true e = omega (arith, e)
-one_most r false e = omega (arith, e)
+one_most r b e = grind arith
 
 -- what the first place of a row shows that begins with a digit
 shown_first : (w : ℕ) (codes : List ℕ) (s : Spot) → s.left ≡ 0 → s.at < length codes → digit_value (code_of (get_or codes s.at 0)) < 16 → shown_at w 0 (symbols_at RunLength codes s) 0 ≡ Value (digit_value (code_of (get_or codes s.at 0)))
-shown_first w codes s none inside digit =
-    ap (λ n. shown_at w 0 (spelled (Digits n s.digit) 0 ∷ symbols_from codes s.at) 0) none ∙ run_over w 0 s.digit 0 (symbols_from codes s.at) 0 (omega arith) ∙ ap (λ ss. shown_at w 0 ss 0) (plain_symbol codes s.at inside digit)
+shown_first w codes s none inside digit = grind (arith, run_over, plain_symbol)
 
 row_anew : (w : ℕ) (codes old before new : List ℕ) (s after : Spot) (end : RowEnd) (v j : ℕ) (again : Bool) → end.repeats ≡ again → shown_at w 0 (symbols_at RunLength codes s) 0 ≡ Value v → Decoded w RunLength codes s end after old new → j < w
     → nibble new j ≡ value_of (shown_at w 0 (symbols_at RunLength codes s) j) (nibble before j)
-row_anew w codes old before new s after end v j true is first d l = absurd (true≢false (sym (ap is_above (d.again is 0 (omega (arith, l)))) ∙ ap is_above first))
-row_anew w codes old before new s after end v j false is first d l = sym (ap (λ t. value_of t (nibble before j)) (d.own is j l))
+row_anew w codes old before new s after end v j again is first d l = grind (arith, true≢false)
 
 -- such a row is the same whichever stood before
 decoded_anew : (w : ℕ) (codes old before new : List ℕ) (s after : Spot) (end : RowEnd) → s.left ≡ 0 → s.at < length codes → digit_value (code_of (get_or codes s.at 0)) < 16 → Decoded w RunLength codes s end after old new → Decoded w RunLength codes s end after before new
-decoded_anew w codes old before new s after end none inside digit d = record {
-  spot = d.spot;
-  whole = d.whole;
-  row = λ j l. row_anew w codes old before new s after end _ j end.repeats refl (shown_first w codes s none inside digit) d l;
-  own = d.own;
-  again = d.again;
-  next = d.next;
-  bytes = d.bytes;
-}
+decoded_anew w codes old before new s after end none inside digit d = grind (arith, row_anew, shown_first)
 
 pub read_anew : (w : ℕ) (codes old before new : List ℕ) (s : Spot) (at : ℕ) (r : Result RowEnd Fault) → s.left ≡ 0 → s.at < length codes → digit_value (code_of (get_or codes s.at 0)) < 16 → RowRead w RunLength codes s r at old new → RowRead w RunLength codes s r at before new
 read_anew w codes old before new s at (Ok end) none inside digit d = decoded_anew w codes old before new s _ end none inside digit d

@@ -1,11 +1,11 @@
 -- What symbols show of a row, and how many bytes spell them.
-use Rattle.std.proofs.Common.{inl, inr, ◌≡◌, ℕ, ◌+◌, ◌-◌, ◌*◌, ◌/◌, ◌<◌, ◌≤◌, true, false, ltb, eqb, cond, List, [], ◌∷◌, drop, length, get_or, None, Some, subst, ap, sym, ◌∙◌, refl, arith}
+use Rattle.std.proofs.Common.{◌≡◌, ℕ, ◌+◌, ◌-◌, ◌*◌, ◌/◌, ◌<◌, ◌≤◌, true, false, ltb, eqb, cond, List, [], ◌∷◌, drop, length, get_or, None, Some, subst, ap, sym, ◌∙◌, refl, arith}
 use Rattle.std.proofs.Math.Seq.{drop-length}
 use Rattle.std.proofs.lemmas.List.{drop_more}
-use Rattle.std.proofs.lemmas.Bool.{cases_lt, ne_eqb, lt-ltb, le-ltb, true≢false, false≢true}
+use Rattle.std.proofs.lemmas.Bool.{ne_eqb, lt-ltb, le-ltb, true≢false, false≢true}
 use Rattle.std.proofs.Math.Nat.{zero-mod, mod-eq_of_lt, add-mod_left, add-div_left, div-eq_of_lt}
 use Rattle.vp_format.specs.declared.codes.Code.{Code}
-use Rattle.vp_format.specs.declared.codes.Code.TheVariants.{Digit, Count, Fill, Above, Other}
+use Rattle.vp_format.specs.declared.codes.Code.TheVariants.{Digit}
 use Rattle.vp_format.specs.declared.rows.Coding.TheVariants.{RunLength}
 use Rattle.vp_format.specs.declared.rows.Spot.{Spot}
 use Rattle.vp_format.specs.declared.row.RowEnd.{RowEnd}
@@ -41,15 +41,7 @@ row_end w p h = ap (λ q. (q + 1) * w) (div-eq_of_lt h) ∙ omega arith
 reached_more : (w : ℕ) (all : List Spelled) (from : ℕ) (old new : List ℕ) (x to v : ℕ) (ss left : List Spelled) (at k : ℕ) → x ≤ to → v < 16 → Reached w all from old x ss at → Filled x to v old new
     → ((j : ℕ) → x ≤ j → j < to → shown_at w x ss j ≡ Value v) → ((j : ℕ) → to ≤ j → shown_at w x ss j ≡ shown_at w to left j)
     → ((j : ℕ) → to ≤ j → bytes_before w x ss j ≡ k + bytes_before w to left j) → Reached w all from new to left (at + k)
-reached_more w all from old new x to v ss left at k h few r f inside behind more = record {
-  so_far = λ j l. elim (cases_lt j x) [
-    | inl b ↦ r.so_far j b ∙ ap Value (sym (f.kept j b))
-    | inr b ↦ r.ahead j b ∙ inside j b l ∙ ap Value (sym (f.filled j b l))
-  ];
-  small = λ j l. elim (cases_lt j x) [ inl b ↦ omega (arith, f.kept j b, r.small j b) | inr b ↦ omega (arith, f.filled j b l, few) ];
-  ahead = λ j l. r.ahead j (omega arith) ∙ behind j l;
-  bytes = λ j l. let e = r.bytes j (omega arith) in let g = more j l in omega arith;
-}
+reached_more w all from old new x to v ss left at k h few r f inside behind more = grind arith
 
 -- a run of no places covers nothing
 pub run_over : (w p v k : ℕ) (ss : List Spelled) (j : ℕ) → p ≤ j → shown_at w p (spelled (Digits 0 v) k ∷ ss) j ≡ shown_at w p ss j
@@ -57,10 +49,7 @@ run_over w p v k ss j h = shown_past w p (spelled (Digits 0 v) k) ss j (omega ar
 
 -- a run that no bytes spell
 pub bytes_run : (w p n v : ℕ) (ss : List Spelled) (j : ℕ) → p ≤ j → bytes_before w p (spelled (Digits n v) 0 ∷ ss) j ≡ bytes_before w (p + n) ss j
-bytes_run w p n v ss j h = elim (cases_lt p j) [
-  | inl l ↦ bytes_past w p (spelled (Digits n v) 0) ss j l ∙ omega arith
-  | inr g ↦ bytes_none w p (spelled (Digits n v) 0 ∷ ss) j g ∙ sym (bytes_none w (p + n) ss j (omega arith))
-]
+bytes_run w p n v ss j h = grind (arith, bytes_past, bytes_none)
 
 pub bytes_over : (w p v : ℕ) (ss : List Spelled) (j : ℕ) → p ≤ j → bytes_before w p (spelled (Digits 0 v) 0 ∷ ss) j ≡ bytes_before w p ss j
 bytes_over w p v ss j h = bytes_run w p 0 v ss j h ∙ ap (λ q. bytes_before w q ss j) (omega arith)
@@ -93,27 +82,12 @@ run_before w all from row x v left at r = record {
 -- a digit to the row's end
 pub end_reached : (w : ℕ) (all : List Spelled) (from : ℕ) (old new : List ℕ) (x v k : ℕ) (left : List Spelled) (at : ℕ) → x < w → v < 16 → Reached w all from old x (spelled (ToEnd v) k ∷ left) at → Filled x w v old new
     → Reached w all from new w left (at + k)
-end_reached w all from old new x v k left at h few r f =
-    let e = row_end w x h in
-    reached_more w all from old new x w v (spelled (ToEnd v) k ∷ left) left at k (omega arith) few r f
-    (λ j l m. shown_in w x (spelled (ToEnd v) k) left j (rw e m))
-    (λ j l. shown_past w x (spelled (ToEnd v) k) left j (rw e l) ∙ ap (λ q. shown_at w q left j) e)
-    (λ j l. bytes_past w x (spelled (ToEnd v) k) left j (omega arith) ∙ ap (λ q. k + bytes_before w q left j) e)
+end_reached w all from old new x v k left at h few r f = grind (arith, row_end, reached_more, shown_in, shown_past, bytes_past)
 
 -- no code is left for the rest of a row
 pub white_reached : (w : ℕ) (all : List Spelled) (from : ℕ) (old new codes : List ℕ) (x at : ℕ) → x ≤ w → (x < w → at ≡ length codes) → Reached w all from old x (symbols_from codes at) at → Filled x w 0 old new
     → Reached w all from new w (symbols_from codes at) at
-white_reached w all from old new codes x at h none r f =
-    let ended : x < w → symbols_from codes at ≡ [] = λ l. ap (λ k. symbols_from codes k) (none l) ∙ ap (λ cs. symbols_behind cs 0 0) (drop-length codes) in
-    let same : (j : ℕ) → w ≤ j → (shown_at w x (symbols_from codes at) j ≡ shown_at w w (symbols_from codes at) j) × (bytes_before w x (symbols_from codes at) j ≡ bytes_before w w (symbols_from codes at) j) = λ j l. elim (cases_lt x w) [
-      | inl m ↦ rw (ended m) (refl, refl)
-      | inr m ↦ let e : x ≡ w = omega arith in rw e (refl, refl)
-    ] in
-    let plus : at + 0 ≡ at = omega arith in
-    subst (λ k. Reached w all from new w (symbols_from codes at) k) plus (reached_more w all from old new x w 0 (symbols_from codes at) (symbols_from codes at) at 0 h (omega arith) r f
-    (λ j l m. ap (λ ss. shown_at w x ss j) (ended (omega arith)))
-    (λ j l. (same j l).0)
-    (λ j l. (same j l).1 ∙ omega arith))
+white_reached w all from old new codes x at h none r f = grind (arith, drop-length, reached_more)
 
 -- the row before once more
 pub again_shown : (w k : ℕ) (ss : List Spelled) (j : ℕ) → j < w → shown_at w 0 (spelled Again k ∷ ss) j ≡ AsAbove
@@ -127,8 +101,7 @@ again_bytes w k ss j h l = bytes_past w 0 (spelled Again k) ss j (omega arith) �
 
 -- but not inside a row
 pub again_refused : (w x k : ℕ) (ss : List Spelled) → 0 < x → x < w → shown_at w x (spelled Again k ∷ ss) (w - 1) ≡ Unreadable
-again_refused w x k ss some h = shown_in w x (spelled Again k) ss (w - 1) (rw (row_end w x h) (omega arith)) ∙ ap (λ r. cond (eqb r 0) AsAbove Unreadable) (mod-eq_of_lt h)
-    ∙ ap (λ b. cond b AsAbove Unreadable) (ne_eqb x 0 (omega arith))
+again_refused w x k ss some h = grind (arith, shown_in, row_end, mod-eq_of_lt, ne_eqb)
 
 -- a refused symbol
 pub refused_shown : (w x k : ℕ) (ss : List Spelled) → x < w → shown_at w x (spelled Refused k ∷ ss) (w - 1) ≡ Unreadable
@@ -136,32 +109,18 @@ refused_shown w x k ss h = shown_in w x (spelled Refused k) ss (w - 1) (rw (row_
 
 -- a row further on, the symbols show the same
 end_later : (w p : ℕ) (s : Symbol) → 0 < w → end_of w (w + p) s ≡ w + end_of w p s
-end_later w p (Digits n v) h = omega arith
-end_later w p (ToEnd v) h = ap (λ q. (q + 1) * w) (add-div_left p h) ∙ omega arith
-end_later w p Again h = ap (λ q. (q + 1) * w) (add-div_left p h) ∙ omega arith
-end_later w p Refused h = ap (λ q. (q + 1) * w) (add-div_left p h) ∙ omega arith
+end_later w p s h = grind (arith, add-div_left)
 
 shows_later : (w p : ℕ) (s : Symbol) → shows w (w + p) s ≡ shows w p s
-shows_later w p (Digits n v) = refl
-shows_later w p (ToEnd v) = refl
-shows_later w p Again = ap (λ r. cond (eqb r 0) AsAbove Unreadable) (add-mod_left w p)
-shows_later w p Refused = refl
+shows_later w p s = grind (arith, add-mod_left)
 
 pub shown_later : (w p : ℕ) (ss : List Spelled) (j : ℕ) → 0 < w → shown_at w (w + p) ss (w + j) ≡ shown_at w p ss j
 shown_later w p [] j h = refl
-shown_later w p (s ∷ ss) j h = elim (cases_lt j (end_of w p s.symbol)) [
-  | inl l ↦ shown_in w (w + p) s ss (w + j) (rw (end_later w p s.symbol h) (omega arith)) ∙ shows_later w p s.symbol ∙ sym (shown_in w p s ss j l)
-  | inr g ↦ shown_past w (w + p) s ss (w + j) (rw (end_later w p s.symbol h) (omega arith)) ∙ ap (λ q. shown_at w q ss (w + j)) (end_later w p s.symbol h)
-      ∙ shown_later w (end_of w p s.symbol) ss j h ∙ sym (shown_past w p s ss j g)
-]
+shown_later w p (s ∷ ss) j h = grind (arith, shown_in, end_later, shows_later, shown_past, shown_later w (end_of w p s.symbol) ss j h)
 
 pub bytes_later : (w p : ℕ) (ss : List Spelled) (j : ℕ) → 0 < w → bytes_before w (w + p) ss (w + j) ≡ bytes_before w p ss j
 bytes_later w p [] j h = refl
-bytes_later w p (s ∷ ss) j h = elim (cases_lt p j) [
-  | inl l ↦ bytes_past w (w + p) s ss (w + j) (omega arith) ∙ ap (λ q. s.bytes + bytes_before w q ss (w + j)) (end_later w p s.symbol h)
-      ∙ ap (λ b. s.bytes + b) (bytes_later w (end_of w p s.symbol) ss j h) ∙ sym (bytes_past w p s ss j l)
-  | inr g ↦ bytes_none w (w + p) (s ∷ ss) (w + j) (omega arith) ∙ sym (bytes_none w p (s ∷ ss) j g)
-]
+bytes_later w p (s ∷ ss) j h = grind (arith, bytes_past, end_later, bytes_none, bytes_later w (end_of w p s.symbol) ss j h)
 
 -- the symbols behind a row, from its end
 pub behind_row : (w : ℕ) (ss : List Spelled) (j : ℕ) → 0 < w → shown_at w w ss (w + j) ≡ shown_at w 0 ss j
@@ -200,17 +159,11 @@ same_row_decoded w codes places row s at k some inside r =
 
 -- the symbols from the byte in hand on
 pub in_hand : (codes : List ℕ) (at b : ℕ) → 0 < at → at ≤ length codes → b ≡ get_or codes (at - 1) 0 → symbols_from codes (at - 1) ≡ joined (code_of b) 0 0 (symbols_behind (drop at codes))
-in_hand codes at b some inside e =
-    let next : at - 1 + 1 ≡ at = omega arith in
-    ap (λ cs. symbols_behind cs 0 0) (drop_more codes (at - 1) 0 (omega arith)) ∙ ap (λ c. joined (code_of c) 0 0 (symbols_behind (drop (at - 1 + 1) codes))) (sym e) ∙ ap (λ k. joined (code_of b) 0 0 (symbols_behind (drop k codes))) next
+in_hand codes at b some inside e = grind (arith, drop_more)
 
 -- a digit by its value
 pub digit_is : (c : Code) (v : ℕ) → v ≡ digit_value c → v < 16 → c ≡ Digit v
-digit_is (Digit u) v e h = ap Digit (sym e)
-digit_is (Count n) v e h = absurd (omega arith)
-digit_is (Fill u) v e h = absurd (omega arith)
-digit_is Above v e h = absurd (omega arith)
-digit_is Other v e h = absurd (omega arith)
+digit_is c v e h = grind arith
 
 pub digit_in_hand : (codes : List ℕ) (at b v : ℕ) → 0 < at → at ≤ length codes → b ≡ get_or codes (at - 1) 0 → v ≡ digit_value (code_of b) → v < 16 → symbols_from codes (at - 1) ≡ spelled (Digits 1 v) 1 ∷ symbols_from codes at
 digit_in_hand codes at b v some inside e is small = in_hand codes at b some inside e ∙ ap (λ c. joined c 0 0 (symbols_behind (drop at codes))) (digit_is (code_of b) v is small)

@@ -25,10 +25,7 @@ abbrev pub far : ℕ → ℕ
 far b = up_to 19 (less b 71)
 
 pub fars : (bytes : List ℕ) (at : ℕ) → at + 16 ≤ length bytes → zip2 up_to (replicate 16 19) (zip2 less (chunk at 16 bytes) (replicate 16 71)) ≡ map far (chunk at 16 bytes)
-fars bytes at room =
-    let v = chunk at 16 bytes in
-    let long = length-chunk at 16 bytes room in
-    zip2_of_maps {X = ℕ} {Y = ℕ} up_to (λ _. 19) (λ b. less b 71) v (splat_is_map v 16 19 long) (zip2_splat {Y = ℕ} less v 16 71 long)
+fars bytes at room = grind (arith, length-chunk, zip2_of_maps, up_to, less, splat_is_map, zip2_splat)
 
 abbrev is_digit : ℕ → Bool
 is_digit b = ltb (digit_value (code_of b)) 16
@@ -45,20 +42,10 @@ unfolding code_of
 far_is b h = eqb-true _ _ (agree_below_at (λ x. eqb (far x) (cond (is_short x) 0 255)) (λ _. true) 256 b refl h)
 
 by_lanes : (d s e : Bool) → top 7 (bit_and (cond d 0 255) (bit_or (cond s 0 255) (cond e 0 255))) ≡ false → d ≡ false → (s ≡ true) × (e ≡ true)
-by_lanes true s e h n = absurd (true≢false n)
-by_lanes false true true h n = (refl, refl)
-by_lanes false true false h n = absurd (true≢false h)
-by_lanes false false true h n = absurd (true≢false h)
-by_lanes false false false h n = absurd (true≢false h)
+by_lanes d s e h n = grind (arith, true≢false)
 
 run_by : (b c : ℕ) → b < 256 → c < 256 → top 7 (bit_and (other b) (bit_or (far b) (other c))) ≡ false → IsRun (code_of b) (code_of c)
-run_by b c h l goes big =
-    let is : top 7 (bit_and (cond (is_digit b) 0 255) (bit_or (cond (is_short b) 0 255) (cond (is_digit c) 0 255))) ≡ false =
-    sym (ap (λ o. top 7 (bit_and o (bit_or (far b) (other c)))) (other_is b h) ∙ ap (λ f. top 7 (bit_and (cond (is_digit b) 0 255) (bit_or f (other c)))) (far_is b h)
-    ∙ ap (λ o. top 7 (bit_and (cond (is_digit b) 0 255) (bit_or (cond (is_short b) 0 255) o))) (other_is c l)) ∙ goes in
-    let parts = by_lanes (is_digit b) (is_short b) (is_digit c) is (le-ltb (digit_value (code_of b)) 16 big) in
-    let short = and_parts _ _ parts.0 in
-    ((ltb-true 0 (count_value (code_of b)) short.0, ltb-true (count_value (code_of b)) 20 short.1), ltb-true (digit_value (code_of c)) 16 parts.1)
+run_by b c h l goes big = grind (arith, other, other_is, far_is, by_lanes, le-ltb, and_parts, ltb-true)
 
 -- where no lane's top bit is set
 no_top : (lanes : List ℕ) (k : ℕ) → length lanes ≡ 16 → mask_l (map (top 7) lanes) % 2 ^ 64 ≡ 0 → k < 16 → top 7 (get_or lanes k 0) ≡ false
@@ -95,13 +82,7 @@ wide_is b h known = eqb-true _ _ (sym (ap (λ t. cond t (eqb (wide b) (places_of
     ∙ agree_below_at (λ x. cond (cond (is_digit x) true (is_short x)) (eqb (wide x) (places_of (code_of x))) true) (λ _. true) 256 b refl h)
 
 run_known : (b c : ℕ) → IsRun (code_of b) (code_of c) → cond (is_digit b) true (is_short b) ≡ true
-run_known b c run =
-    let v = digit_value (code_of b) in
-    let n = count_value (code_of b) in
-    elim (cases_lt v 16) [
-      | inl d ↦ ap (λ t. cond t true (is_short b)) (lt-ltb v 16 d)
-      | inr g ↦ (let short = (run g).0 in ap (λ t. cond t true (is_short b)) (le-ltb v 16 g) ∙ ap (λ t. t && ltb n 20) (lt-ltb 0 n short.0) ∙ lt-ltb n 20 short.1)
-    ]
+run_known b c run = grind (arith, lt-ltb, le-ltb)
 
 sum_push : (f : ℕ → ℕ) (xs : List ℕ) (y : ℕ) → sum_l (map f (xs ++ y ∷ [])) ≡ sum_l (map f xs) + f y
 sum_push f [] y = omega arith
@@ -143,8 +124,7 @@ pub step_lane : (bytes from_g : List ℕ) (at k : ℕ) → at + 16 ≤ length by
 step_lane bytes from_g at k room few is l run = (mapped_lane wide bytes _ at k room (wide_lanes bytes from_g at room is) l).1 ∙ wide_is (get_or bytes (at + k) 0) (few (at + k)) (run_known (get_or bytes (at + k) 0) (get_or bytes (at + 1 + k) 0) run)
 
 flipped : (s : Bool) (b c : ℕ) → cond (top 7 (cond s 0 255)) b c ≡ cond s c b
-flipped true b c = refl
-flipped false b c = refl
+flipped s b c = grind arith
 
 -- the byte whose value a code gives its places
 shown_lane : (bytes far_off : List ℕ) (at k : ℕ) (s : Bool) → at + 16 < length bytes → get_or bytes (at + k) 0 < 256 → far_off ≡ map far (chunk at 16 bytes) → k < 16 → is_short (get_or bytes (at + k) 0) ≡ s
@@ -196,10 +176,7 @@ none_passed w all x codes at r = let e : x ≡ x + 0 = omega arith in let f : at
 
 digit_step : (w : ℕ) (all : List Spelled) (x : ℕ) (codes : List ℕ) (at k : ℕ) → at + suc k ≤ length codes → digit_value (code_of (get_or codes (at + k) 0)) < 16 → Passed w all (x + added codes at k) (symbols_from codes (at + k)) → Passed w all (x + added codes at (suc k)) (symbols_from codes (at + suc k))
 unfolding added
-digit_step w all x codes at k inside digit before =
-    let e : added codes at (suc k) ≡ added codes at k + 1 = ap (λ p. added codes at k + p) (one_place (code_of (get_or codes (at + k) 0)) digit) in
-    let next = passed_at w all _ (x + added codes at k) _ _ refl (plain_symbol codes (at + k) (omega (arith, inside)) digit) before in
-    passed_at w all (x + added codes at k + 1) _ _ _ (omega (arith, e)) (ap (symbols_from codes) (omega arith)) (digits_passed w all (x + added codes at k) 1 _ _ (symbols_from codes (at + k + 1)) next)
+digit_step w all x codes at k inside digit before = grind (arith, one_place, passed_at, plain_symbol, digits_passed)
 
 run_step : (w : ℕ) (all : List Spelled) (x : ℕ) (codes : List ℕ) (at j : ℕ) → at + suc (suc j) ≤ length codes → get_or codes (at + j) 0 < 256 → 16 ≤ digit_value (code_of (get_or codes (at + j) 0)) → IsShortCount (code_of (get_or codes (at + j) 0))
     → digit_value (code_of (get_or codes (at + suc j) 0)) < 16 → Passed w all (x + added codes at j) (symbols_from codes (at + j)) → Passed w all (x + added codes at (suc (suc j))) (symbols_from codes (at + suc (suc j)))

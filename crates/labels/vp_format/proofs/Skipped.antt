@@ -1,14 +1,13 @@
 -- So many readings, one after the other.
-use Rattle.std.proofs.Common.{inl, inr, ◌≡◌, ℕ, zero, suc, ◌+◌, ◌-◌, ◌<◌, ◌≤◌, true, false, Ok, Err, subst, ap, sym, ◌∙◌, refl, arith}
-use Rattle.std.proofs.lemmas.Bool.{cases_lt, cases_Bool, lt-ltb, le-ltb}
+use Rattle.std.proofs.Common.{◌≡◌, ℕ, zero, suc, ◌+◌, ◌-◌, ◌<◌, ◌≤◌, true, false, Ok, Err, subst, ap, sym, ◌∙◌, refl, arith}
+use Rattle.std.proofs.lemmas.Bool.{lt-ltb, le-ltb}
 use Rattle.vp_dots.specs.declared.fault.Fault.{Fault}
 use Rattle.vp_format.specs.Pictures.{Picture, Cursor, is_refused, answer, row_after, unless_fault, passing, rows_after}
 
 -- one reading, and those behind it
 pub first_read : (p : Picture) (y n : ℕ) → 0 < n → (passing p y n ≡ unless_fault (answer p y) (passing p (row_after p y) (n - 1))) × (rows_after p y n ≡ rows_after p (row_after p y) (n - 1))
 unfolding passing rows_after
-first_read p y zero h = absurd (omega arith)
-first_read p y (suc n) h = let e : suc n - 1 ≡ n = omega arith in rw e (refl, refl)
+first_read p y n h = grind arith
 
 -- behind the last row nothing more is read
 pub none_read : (p : Picture) (y n : ℕ) → p.rows ≤ y → (passing p y n ≡ Ok tt) × (rows_after p y n ≡ y)
@@ -27,10 +26,7 @@ pub rows_read : (p : Picture) (y n k : ℕ) → k ≤ n → y + k ≤ p.rows →
 unfolding passing rows_after
 rows_read p y n zero few room taken = let e : y + 0 ≡ y = omega arith in let f : n - 0 ≡ n = omega arith in rw (e, f) (refl, refl)
 rows_read p y zero (suc k) few room taken = absurd (omega arith)
-rows_read p y (suc n) (suc k) few room taken =
-    let e : y + suc k ≡ y + 1 + k = omega arith in
-    let f : suc n - suc k ≡ n - k = omega arith in
-    rw (lt-ltb y p.rows (omega arith), taken y (omega arith) (omega arith), e, f) (rows_read p (y + 1) n k (omega arith) (omega arith) (λ z l m. taken z (omega arith) (omega arith)))
+rows_read p y (suc n) (suc k) few room taken = grind (arith, lt-ltb, rows_read p (y + 1) n k (omega arith) (omega arith) (λ z l m. taken z (omega arith) (omega arith)))
 
 -- up to a row
 pub read_to : (p : Picture) (y to : ℕ) → y ≤ to → to ≤ p.rows → ((z : ℕ) → y ≤ z → z < to → is_refused p z ≡ false) → (passing p y (to - y) ≡ Ok tt) × (rows_after p y (to - y) ≡ to)
@@ -53,15 +49,11 @@ at_row a y = record { picture = a.picture; first = a.first; next = y }
 -- it is there
 pub way_done : (a b : Cursor) (rows left : ℕ) → OnWay a b rows left → left ≡ 0 → (Ok tt ≡ passing a.picture a.next rows) × (b ≡ record { picture = a.picture; first = a.first; next = rows_after a.picture a.next rows })
 unfolding passing rows_after
-way_done a b rows left w none =
-    (sym (w.answer ∙ ap (passing a.picture b.next) none), w.same ∙ ap (at_row a) (sym (w.row ∙ ap (rows_after a.picture b.next) none)))
+way_done a b rows left w none = grind arith
 
 -- it is behind the last row
 pub way_ended : (a b : Cursor) (rows left : ℕ) → OnWay a b rows left → b.picture.rows ≤ b.next → (Ok tt ≡ passing a.picture a.next rows) × (b ≡ record { picture = a.picture; first = a.first; next = rows_after a.picture a.next rows })
-way_ended a b rows left w ends =
-    let all = ap (λ (v : Cursor). v.picture.rows) w.same in
-    let none = none_read a.picture b.next left (omega arith) in
-    (sym (w.answer ∙ none.0), w.same ∙ ap (at_row a) (sym none.1 ∙ sym w.row))
+way_ended a b rows left w ends = grind (arith, none_read)
 
 -- rows are passed of which none is refused
 pub way_even : (a b d : Cursor) (rows left k : ℕ) → OnWay a b rows left → k ≤ left → b.next + k ≤ b.picture.rows → d ≡ record { picture = b.picture; first = b.first; next = b.next + k }
@@ -80,23 +72,8 @@ way_even a b d rows left k w few room is taken =
 -- a fault stops it
 fault_stays : (p : Picture) (y n : ℕ) (why : Fault) → Err why ≡ answer p y → rows_after p (row_after p y) n ≡ row_after p y
 unfolding rows_after
-fault_stays p y n why e = elim (cases_lt y p.rows) [
-  | inl l ↦ (elim (cases_Bool (is_refused p y)) [
-    | inl r ↦ rw (lt-ltb y p.rows l, r) (stopped_at p y n l r)
-    | inr r ↦ absurd (let no : Err why ≡ Ok true = e ∙ rw (lt-ltb y p.rows l, r) refl in cc)
-  ])
-  | inr g ↦ absurd (let no : Err why ≡ Ok false = e ∙ rw (le-ltb y p.rows g) refl in cc)
-]
+fault_stays p y n why e = grind (arith, lt-ltb, stopped_at, le-ltb)
 
 pub way_stopped : (a b d : Cursor) (rows left : ℕ) (why : Fault) → OnWay a b rows left → 0 < left → Err why ≡ answer b.picture b.next → d ≡ record { picture = b.picture; first = b.first; next = row_after b.picture b.next }
     → (Err why ≡ passing a.picture a.next rows) × (d ≡ record { picture = a.picture; first = a.first; next = rows_after a.picture a.next rows })
-way_stopped a b d rows left why w some read is =
-    let picture = ap (λ (v : Cursor). v.picture) w.same in
-    let first = ap (λ (v : Cursor). v.first) w.same in
-    let told : Err why ≡ answer a.picture b.next = read ∙ ap (λ (p : Picture). answer p b.next) picture in
-    let step = first_read a.picture b.next left some in
-    let there : rows_after a.picture a.next rows ≡ row_after a.picture b.next = w.row ∙ step.1 ∙ fault_stays a.picture b.next (left - 1) why told in (
-      sym (w.answer ∙ step.0 ∙ ap (λ r. unless_fault r (passing a.picture (row_after a.picture b.next) (left - 1))) (sym told)),
-      is ∙ ap (λ (p : Picture). let v : Cursor = record { picture = p; first = b.first; next = row_after p b.next } in v) picture
-          ∙ ap (λ (f : ℕ). let v : Cursor = record { picture = a.picture; first = f; next = row_after a.picture b.next } in v) first ∙ ap (at_row a) (sym there),
-    )
+way_stopped a b d rows left why w some read is = grind (arith, first_read, fault_stays)

@@ -1,5 +1,5 @@
 -- The byte that makes a name whole.
-use Rattle.std.proofs.Common.{◌≡◌, ℕ, Option, Some, List, [], ◌∷◌, ◌++◌, refl, sym, ap, ◌∙◌, arith}
+use Rattle.std.proofs.Common.{◌≡◌, ℕ, Some, List, [], ◌∷◌, ◌++◌, refl, sym, ap, ◌∙◌, arith}
 use Rattle.vp_zpl.specs.declared.name.Kind.{Kind}
 use Rattle.vp_zpl.specs.declared.name.Name.{Name}
 use Rattle.vp_zpl.specs.declared.reader.ZplReader.{ZplReader}
@@ -7,17 +7,14 @@ use Rattle.vp_zpl.specs.declared.reader.Phase.TheVariants.{AfterFirst}
 use Rattle.vp_zpl.specs.Spelling.{kept, kept_of}
 use Rattle.vp_zpl.specs.Shown.{shown_part, shown_parts}
 use Rattle.vp_zpl.specs.Commands.{kind, kind_named, is_whole, in_format, in_format_by, indicator, indicator_by}
-use Rattle.vp_zpl.specs.Items.{text_known, name_of, given, given_named}
+use Rattle.vp_zpl.specs.Items.{name_of, given, given_named}
 use Rattle.vp_zpl.specs.Reader.{Named, StandsIn, Goes, in_phase, indicator_at, at_name, phase_behind, indicator_behind}
 use Rattle.vp_zpl.proofs.Named.{opened-is, indicator-is}
 use Rattle.vp_zpl.proofs.Phases.{carry, at_indicator}
 
-no_text : (o : Option ℕ) → text_known o [] ≡ []
-no_text o = grind arith
-
 name_gives : (k : Kind) (before : List (List ℕ)) (name : Name) → given_named k before name [] ≡ at_name k name
 unfolding is_whole
-name_gives k before name = grind (arith, no_text)
+name_gives k before name = grind arith
 
 behind_indicates : (k : Kind) (command : List ℕ) (before : List (List ℕ)) → indicator (command ∷ before) ≡ indicator_by (Some k) command (in_format before) (indicator before)
     → indicator_behind k (indicator before) ≡ indicator_at (phase_behind k) command before

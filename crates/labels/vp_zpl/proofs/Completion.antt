@@ -1,5 +1,5 @@
 -- More bytes bring the reader to rest.
-use Rattle.std.proofs.Common.{◌≡◌, ℕ, ◌+◌, ◌-◌, ◌<◌, ◌≤◌, Bool, true, false, ◌&&◌, zero, suc, List, [], ◌∷◌, ◌++◌, length, refl, sym, ap, ◌∙◌, append_assoc, arith, nat_lt}
+use Rattle.std.proofs.Common.{◌≡◌, ℕ, ◌+◌, ◌-◌, ◌<◌, ◌≤◌, Bool, true, false, zero, suc, List, [], ◌∷◌, ◌++◌, length, refl, sym, ap, ◌∙◌, append_assoc, arith, nat_lt}
 use Rattle.std.proofs.lemmas.Bool.Decides.{nat_tests}
 use Rattle.std.proofs.lemmas.List.{length_push}
 use Rattle.std.specs.List.{AllByRecursion}
@@ -15,12 +15,9 @@ abbrev pub short_by : List ℕ → ℕ
 short_by (sign ∷ a ∷ b ∷ args) = count_of (head args) - length (behind_commas 4 args)
 short_by _ = 0
 
-all_true : (x y z : Bool) → (x && y && z) ≡ true → (x ≡ true) × (z ≡ true)
-all_true x y z e = grind arith
-
 short_is : (args : List ℕ) → is_short args ≡ true → (is_whole args ≡ true) × (length (behind_commas 4 args) < count_of (head args))
 unfolding is_short
-short_is args e = grind (arith, all_true, nat_lt, nat_tests)
+short_is args e = grind (arith, nat_lt, nat_tests)
 
 named_short : (k : Kind) (args : List ℕ) → wants_binary_named k args ≡ true → is_short args ≡ true
 named_short k args e = grind arith

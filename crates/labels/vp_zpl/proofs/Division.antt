@@ -3,7 +3,7 @@ use Rattle.std.proofs.Common.{◌≡◌, ℕ, Bool, true, false, List, [], ◌�
 use Rattle.std.proofs.lemmas.Bool.Decides.{nat_tests}
 use Rattle.vp_zpl.specs.Spelling.{is_sign, is_line_end}
 use Rattle.vp_zpl.specs.Commands.{Cut, cut, cut_back, with_byte, longer, wants_binary}
-use Rattle.vp_zpl.specs.Laws.{Follows, GoesOn, IsCommand, AreCommands, IsCutOf, IsCut, cut_of}
+use Rattle.vp_zpl.specs.Laws.{Follows, GoesOn, IsCommand, IsCut, cut_of}
 use Rattle.vp_zpl.proofs.Cuts.{cut-push, with-byte, taken}
 use Rattle.vp_zpl.proofs.Phases.{carry}
 
@@ -39,20 +39,8 @@ goes_more : (front more : List ℕ) (c : ℕ) → GoesOn front more → Follows 
 goes_more front [] c g f = (carry (λ x. Follows (wants_binary x) c) (front ++ []) front (nothing_after front) f, tt)
 goes_more front (m ∷ more) c g f = grind (arith, carry, append_assoc, goes_more (front ++ m ∷ []) more c g.1 (carry (λ x. Follows (wants_binary x) c) (front ++ m ∷ more) ((front ++ m ∷ []) ++ more) (sym (append_assoc front (m ∷ []) more)) f))
 
-command_more : (command : List ℕ) (c : ℕ) → IsCommand command → Follows (wants_binary command) c → IsCommand (longer command c)
-command_more command c i f = grind (arith, goes_more)
-
-cut_more : (before : List (List ℕ)) (command : List ℕ) (c : ℕ) → IsCutOf before command → Follows (wants_binary command) c → IsCutOf before (longer command c)
-cut_more before command c i f = grind (arith, command_more)
-
-are_more : (command : List ℕ) (before : List (List ℕ)) → IsCommand command → wants_binary command ≡ false → AreCommands before → AreCommands (command ∷ before)
-are_more command before i w a = grind arith
-
-cut_sign : (before : List (List ℕ)) (command : List ℕ) (c : ℕ) → IsCutOf before command → wants_binary command ≡ false → is_sign c ≡ true → IsCutOf (command ∷ before) (c ∷ [])
-cut_sign before command c i w e = grind (arith, are_more)
-
 byte_by : (wants ends signs : Bool) (s : Cut) (c : ℕ) → wants_binary s.open_one ≡ wants → is_line_end c ≡ ends → is_sign c ≡ signs → IsCut s → IsCut (taken wants ends signs s c)
-byte_by wants ends signs s c w e g i = grind (arith, cut_more, carry, cut_sign)
+byte_by wants ends signs s c w e g i = grind (arith, goes_more, carry)
 
 cut_back_is : (bytes : List ℕ) → IsCut (cut_back bytes)
 cut_back_is [] = tt

@@ -33,13 +33,9 @@ ended_gives : (k : Kind) (before : List (List ℕ)) (name : Name) (args : List �
     → at_end_named k before name args ≡ item_of k name (kept_of (parameters args)) ∷ []
 ended_gives k before name args t w = grind arith
 
-hex_indicates : (command : List ℕ) (ps : List Kept) (opened : Bool) (was : Option ℕ) → ps ≡ kept_of (parameters (drop 3 command))
-    → indicator_with kinds.FieldHex ps opened was ≡ indicator_by (Some kinds.FieldHex) command opened was
-hex_indicates command ps opened was e = grind arith
-
 with_indicates : (k : Kind) (command : List ℕ) (ps : List Kept) (opened : Bool) (was : Option ℕ) → has_parameters k ≡ true → ps ≡ kept_of (parameters (drop 3 command))
     → indicator_with k ps (in_format_by (Some k) opened) was ≡ indicator_by (Some k) command opened was
-with_indicates k command ps opened was t e = grind (arith, hex_indicates)
+with_indicates k command ps opened was t e = grind arith
 
 pub parameters_end : (r new : ZplReader) (before : List (List ℕ)) (command : List ℕ) (k : Kind) (sign : ℕ) → StandsIn r before command → r.phase ≡ Parameters k
     → Ended r new → new.in_format ≡ r.in_format → new.phase ≡ AfterSign sign

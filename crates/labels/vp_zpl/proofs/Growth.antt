@@ -4,8 +4,8 @@ use Rattle.vp_zpl.specs.declared.name.Kind.{Kind}
 use Rattle.vp_zpl.specs.declared.name.Kind.TheVariants as kinds
 use Rattle.vp_zpl.specs.declared.name.Name.{Name}
 use Rattle.vp_zpl.specs.Spelling.{behind_commas, undecided}
-use Rattle.vp_zpl.specs.Commands.{Cut, longer, is_whole, is_b, head, count_of, indicator}
-use Rattle.vp_zpl.specs.Items.{Item, items, items_in, item_of, data_items, graphic, picture, is_code, text_known, given, given_named, at_end, at_end_named, all_ended}
+use Rattle.vp_zpl.specs.Commands.{longer, is_whole, is_b, head, count_of, indicator}
+use Rattle.vp_zpl.specs.Items.{Item, items, item_of, data_items, graphic, picture, is_code, text_known, given, given_named, at_end, at_end_named, all_ended}
 use Rattle.vp_zpl.proofs.Cuts.{cut-push, items-is, with-byte}
 use Rattle.vp_zpl.proofs.Texts.{step, out}
 use Rattle.vp_zpl.proofs.Heads.{still, code_more}
@@ -82,17 +82,8 @@ ended_is command before = refl
 within : (before : List (List ℕ)) (small big : List Item) → Grows small big → Grows (all_ended before ++ small) (all_ended before ++ big)
 within before small big g = record { added = g.added; is = ap (λ x. all_ended before ++ x) g.is ∙ sym (append_assoc (all_ended before) small g.added) }
 
-longer_grows : (s : Cut) (c : ℕ) → Grows (items_in s) (items_in (record s { open_one = longer s.open_one c }))
-longer_grows s c = within s.before (given s.before s.open_one) (given s.before (longer s.open_one c)) (given_grows s.before s.open_one c)
-
-sign_grows : (s : Cut) (c : ℕ) → Grows (items_in s) (items_in (record { before = s.open_one ∷ s.before; open_one = c ∷ [] }))
-sign_grows s c = grind (arith, within, end_grows, no_name, nothing_more, ended_is)
-
-byte_by : (wants ends signs : Bool) (s : Cut) (c : ℕ) → Grows (items_in s) (items_in (Rattle.vp_zpl.proofs.Cuts.taken wants ends signs s c))
-byte_by wants ends signs s c = grind (arith, longer_grows, same, sign_grows)
-
 one_more : (bytes : List ℕ) (c : ℕ) → Grows (items bytes) (items (bytes ++ c ∷ []))
-one_more bytes c = grind (arith, byte_by, items-is, cut-push, with-byte)
+one_more bytes c = grind (arith, within, given_grows, same, end_grows, no_name, nothing_more, ended_is, items-is, cut-push, with-byte)
 
 nothing_after : (xs : List ℕ) → xs ++ [] ≡ xs
 nothing_after [] = refl

@@ -5,7 +5,7 @@ use Rattle.vp_zpl.specs.declared.name.Kind.{Kind}
 use Rattle.vp_zpl.specs.declared.name.Kind.TheVariants as kinds
 use Rattle.vp_zpl.specs.declared.name.Name.{Name}
 use Rattle.vp_zpl.specs.Spelling.{behind_commas, decoded, known, could_spell, spelled, or_itself}
-use Rattle.vp_zpl.specs.Commands.{Cut, cut, cut_back, longer, with_byte, is_whole, indicator}
+use Rattle.vp_zpl.specs.Commands.{Cut, cut, cut_back, with_byte, is_whole, indicator}
 use Rattle.vp_zpl.specs.Items.{Item, items, data_items, graphic, picture, is_code, text_known, text_at_end, given, given_named, at_end, at_end_named, all_ended, least_bytes}
 use Rattle.vp_zpl.proofs.Cuts.{items-is}
 
@@ -101,14 +101,8 @@ all_few (command ∷ before) = omega (arith, least_append (all_ended before) (at
 abbrev cut_bytes : Cut → ℕ
 cut_bytes s = all_bytes s.before + length s.open_one
 
-longer_few : (bytes : List ℕ) (c : ℕ) → length (longer bytes c) ≤ length bytes + 1
-longer_few bytes c = grind (arith, lit≤, length_push)
-
-cuts : (b : Bool) (s t : Cut) (n : ℕ) → cut_bytes s ≤ n → cut_bytes t ≤ n → cut_bytes (cond b s t) ≤ n
-cuts b s t n h k = grind arith
-
 byte_few : (s : Cut) (c : ℕ) → cut_bytes (with_byte s c) ≤ cut_bytes s + 1
-byte_few s c = grind (arith, longer_few, cuts)
+byte_few s c = grind (arith, lit≤, length_push)
 
 back_few : (bytes : List ℕ) → cut_bytes (cut_back bytes) ≤ length bytes
 back_few [] = lit≤ tt

@@ -51,9 +51,6 @@ is_indicator _ = false
 pub same_by : (k : Kind) (a b : List ℕ) (opened : Bool) (was : Option ℕ) → is_indicator k ≡ false → indicator_by (Some k) a opened was ≡ indicator_by (Some k) b opened was
 same_by k a b opened was e = grind arith
 
-alone_wants : (k : Kind) (args : List ℕ) → is_alone k ≡ true → wants_binary_named k args ≡ false
-alone_wants k args e = grind arith
-
 pub alone_not : (k : Kind) → is_alone k ≡ true → is_indicator k ≡ false
 alone_not k e = grind arith
 
@@ -61,12 +58,9 @@ parameters_want : (k : Kind) (args : List ℕ) → (k ≡ kinds.Graphic → is_w
 unfolding is_short
 parameters_want k args e = grind arith
 
-more_left : (a b : ℕ) → nat_lt a b ≡ nat_lt 0 (b - a)
-more_left a b = grind (arith, nat_tests)
-
 pub wants_in : (p : Phase) (r : ZplReader) (o : List ℕ) → in_phase p r o → wants_binary o ≡ nat_lt 0 (left_of p)
 unfolding wants_binary is_short
-wants_in p r o e = grind (arith, alone_wants, parameters_want, more_left)
+wants_in p r o e = grind (arith, parameters_want, nat_tests)
 
 carry : {A : Type 0} (P : A → Type 0) (a b : A) → a ≡ b → P a → P b
 carry P a b e x = rw e at x

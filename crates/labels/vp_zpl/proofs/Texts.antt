@@ -1,5 +1,5 @@
 -- The data of ^FD behind ^FH, by one byte more.
-use Rattle.std.proofs.Common.{◌≡◌, ℕ, ◌==◌, Bool, ◌&&◌, cond, if◌then◌else◌, Option, None, List, [], ◌∷◌, ◌++◌, refl, arith}
+use Rattle.std.proofs.Common.{◌≡◌, ℕ, ◌==◌, Bool, ◌&&◌, cond, if◌then◌else◌, Option, List, [], ◌∷◌, ◌++◌, refl, arith}
 use Rattle.vp_zpl.specs.Spelling.{known, undecided, decoded, spelled, or_itself, or_later, is_hex, hex_of, hex_pair}
 
 -- what a byte makes known, and what is left undecided, behind this that was
@@ -34,23 +34,9 @@ one_leaves t x a c = grind arith
 one : (x a c : ℕ) → Step x (a ∷ []) c
 one x a c = record { makes = one_makes (a == x) x a c; leaves = one_leaves (a == x) x a c }
 
-out_if : (z : Bool) (x c : ℕ) (u v : List ℕ) → cond z (out x u c) (out x v c) ≡ out x (cond z u v) c
-out_if z x c u v = grind arith
-
-left_if : (z : Bool) (x c : ℕ) (u v : List ℕ) → cond z (left_by x u c) (left_by x v c) ≡ left_by x (cond z u v) c
-left_if z x c u v = grind arith
-
-two_makes : (t w : Bool) (hb hc : Option ℕ) (a b : ℕ) (kc kb ob : List ℕ) → cond (w && is_hex hc) [] (b ∷ kc) ≡ kb ++ ob
-    → or_itself (cond t (hex_pair hb hc) None) [] a (cond (w && is_hex hc) [] (b ∷ kc)) ≡ cond (t && is_hex hb) [] (a ∷ kb) ++ cond (t && is_hex hb) (or_itself (hex_pair hb hc) [] a (b ∷ kc)) ob
-two_makes t w hb hc a b kc kb ob e = grind arith
-
-two_leaves : (t w : Bool) (hb hc : Option ℕ) (a b c : ℕ) (uc lb : List ℕ) → cond (w && is_hex hc) (b ∷ c ∷ []) uc ≡ lb
-    → or_later (cond t (hex_pair hb hc) None) [] (cond (w && is_hex hc) (b ∷ c ∷ []) uc) ≡ cond (t && is_hex hb) (or_later (hex_pair hb hc) [] uc) lb
-two_leaves t w hb hc a b c uc lb e = grind arith
-
 two : (x a b c : ℕ) → Step x (a ∷ b ∷ []) c
 unfolding spelled
-two x a b c = grind (arith, two_makes, out_if, two_leaves, left_if)
+two x a b c = grind arith
 
 pub step : (x : ℕ) (bytes : List ℕ) (c : ℕ) → Step x bytes c
 step x [] c = record { makes = refl; leaves = refl }

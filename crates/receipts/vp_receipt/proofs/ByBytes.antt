@@ -1,5 +1,5 @@
 -- What bytes lay on pages and wipe there at most.
-use Rattle.std.proofs.Common.{◌≡◌, ◌≤◌, ℕ, ◌+◌, ◌*◌, Bool, if◌then◌else◌, List, [], ◌∷◌, ◌++◌, length, arith, lit≤}
+use Rattle.std.proofs.Common.{◌≤◌, ◌+◌, ◌*◌, Bool, if◌then◌else◌, List, [], ◌∷◌, ◌++◌, length, arith, lit≤}
 use Rattle.vp_esc.specs.declared.item.EscItem.{EscItem}
 use Rattle.vp_esc.specs.declared.item.EscItem.TheVariants.{PageMode}
 use Rattle.vp_page.specs.declared.page.TheConstants.{PAGE_ROWS}
@@ -8,7 +8,6 @@ use Rattle.vp_receipt_settings.specs.Setup.{Setup}
 use Rattle.vp_receipt_settings.specs.Line.{begins_page, line, mode}
 use Rattle.vp_receipt.specs.Work.{most_work, most_by, most_in_all, begun_by, counts_anew, ended_counts}
 use Rattle.vp_receipt.proofs.Costs.{costs_at_most}
-use Rattle.vp_receipt.proofs.Work.{item_adds}
 
 begun_few : (b : Bool) → (if b then PAGE_ROWS else 0) ≤ PAGE_ROWS
 begun_few b = grind (arith, lit≤)
@@ -25,17 +24,10 @@ items_take setup (item ∷ more) before = grind (arith, item_takes, items_take s
 
 -- What was counted.
 
-ended : (anew : Bool) (old new by : ℕ) → new ≤ (if anew then 0 else old) + by → (if anew then old else 0) + new ≤ old + by
-ended anew old new by h = grind arith
-
-page_begun : (setup : Setup) (before : List EscItem) (begins : Bool) → begins_page (mode setup before) (line setup before) ≡ begins
-    → (if begins then most_work setup before else 0) + most_work setup (PageMode ∷ before) ≤ most_work setup before + (if begins then PAGE_ROWS else 0)
-page_begun setup before begins e = grind arith
-
 -- an item adds no more to all counts than it takes
 item_counts : (setup : Setup) (before : List EscItem) (item : EscItem) → (if counts_anew setup before item then most_work setup before else 0) + most_work setup (item ∷ before)
     ≤ most_work setup before + (most_by setup before item + begun_by setup before item)
-item_counts setup before item = grind (arith, page_begun, item_adds, ended)
+item_counts setup before item = grind arith
 
 pub counts : (setup : Setup) (before : List EscItem) → ended_counts setup before + most_work setup before ≤ PAGE_ROWS + most_in_all setup before
 counts setup [] = lit≤ tt

@@ -6,20 +6,18 @@ use Rattle.vp_dots.specs.Images.{Image}
 use Rattle.vp_esc.specs.declared.item.EscItem.{EscItem}
 use Rattle.vp_esc.specs.declared.item.EscItem.TheVariants.{PrintMode, Magnify, Initialize, Character, Column8, Column24, LineFeed, FeedDots, FeedLines, CutLeavingOnePoint, CutLeavingThreePoints, Cut, FeedAndCut, Symbol, QrPrint, Raster, RasterByte, StandardMode, VerticalPosition, MoveVerticalPosition, Area as SetArea, Direction as SetDirection, PrintPage, FormFeed, Cancel}
 use Rattle.vp_esc.specs.declared.item.Magnification.{Magnification}
-use Rattle.vp_esc.specs.declared.item.RasterScale.{RasterScale}
 use Rattle.vp_glyph.specs.Cells.{font_height}
 use Rattle.vp_glyph.specs.declared.cell.Font.{Font}
 use Rattle.vp_page.specs.declared.area.Area.{Area}
 use Rattle.vp_page.specs.declared.area.Direction.{Direction}
 use Rattle.vp_page.specs.declared.page.TheConstants.{PAGE_ROWS}
 use Rattle.vp_page.specs.Areas.{depth}
-use Rattle.vp_page.specs.Layers.{Mark}
 use Rattle.vp_page.specs.Work.{rows_laid, area_rows}
 use Rattle.vp_receipt_settings.specs.declared.text.TheConstants.{LINE_ROWS}
 use Rattle.vp_receipt_settings.specs.declared.width.Width.{Width}
 use Rattle.vp_receipt_settings.specs.Setup.{Setup, across}
 use Rattle.vp_receipt_settings.specs.Pages.{area, is_area, area_cut, is_vertical_move, whole_page}
-use Rattle.vp_receipt_settings.specs.Rasters.{draws, times_down}
+use Rattle.vp_receipt_settings.specs.Rasters.{draws}
 use Rattle.vp_receipt_settings.specs.Symbols.{symbol_image}
 use Rattle.vp_receipt_settings.specs.Texts.{high, font, height_or}
 use Rattle.vp_receipt_settings.specs.Line.{Placed, Layout, breaks, character, height, is_open, layout, layout_by, layout_length, line, on_page}
@@ -116,17 +114,11 @@ on_paper setup (_ ∷ before) = on_paper setup before
 few_deep : (a : Area) (d : Direction) → IsOnPaper a → depth a d ≤ PAGE_ROWS
 few_deep a d h = grind arith
 
-mark_few : (m : Mark) → IsOnPaper m.area → rows_laid m ≤ PAGE_ROWS
-mark_few m h = let deep = few_deep m.area m.direction h in omega arith
-
-scaled_few : (s : RasterScale) → times_down s ≤ 2
-scaled_few s = grind (arith, lit≤)
-
 symbol_few : (setup : Setup) (before : List EscItem) (image : Option Image) → mark_rows (symbol_mark_of setup before image) ≤ PAGE_ROWS
-symbol_few setup before image = grind (arith, lit≤, mark_few, on_paper)
+symbol_few setup before image = grind (arith, lit≤, few_deep, on_paper)
 
 row_few : (setup : Setup) (before : List EscItem) (row : List ℕ) (ends : Bool) → mark_rows (if ends then Some (raster_mark setup before row) else None) ≤ 2
-row_few setup before row ends = grind (arith, scaled_few, lit≤)
+row_few setup before row ends = grind (arith, lit≤)
 
 lined : (b : Bool) (n : ℕ) → n ≤ LINE_ROWS → (if b then n else 0) ≤ LINE_ROWS
 lined b n h = grind (arith, lit≤)

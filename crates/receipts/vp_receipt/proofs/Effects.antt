@@ -19,7 +19,7 @@ use Rattle.vp_receipt_settings.specs.Setup.{Setup}
 use Rattle.vp_receipt_settings.specs.Texts.{text_in_force}
 use Rattle.vp_receipt_settings.specs.Pages.{is_paged, is_area, area_cut, is_vertical_move, vertical_moved}
 use Rattle.vp_receipt_settings.specs.Rasters.{draws, scale_or, times_down}
-use Rattle.vp_receipt_settings.specs.Line.{Placed, Frame, line, mode, is_open}
+use Rattle.vp_receipt_settings.specs.Line.{Placed, line, mode, is_open}
 use Rattle.vp_receipt_settings.specs.Settings.{settings_of, settings_length}
 use Rattle.vp_receipt_settings.specs.Effects.{effect_of, feed_of, is_full_of, is_page, waits_of, runs_along}
 use Rattle.vp_strips.specs.LineDots.{HasOpen}
@@ -121,24 +121,10 @@ gathers_after setup before item sheets bitmap waiting placed h g = grind arith
 pub on_paper : (m : PrinterMode) (layers : List Layer) (page : Paged) → m ≡ Standard → HasPageIf m layers page
 on_paper m layers' page e = grind arith
 
-either_mode : (b : Bool) (f g : Frame) → f.mode ≡ Standard → g.mode ≡ Standard → (if b then f else g).mode ≡ Standard
-either_mode b f g h k = grind arith
-
-mode_begun : (o : Bool) (f g : Frame) → o ≡ false → g.mode ≡ Page → (if o then f else g).mode ≡ Page
-mode_begun o f g e h = grind arith
-
-mode_held : (o : Bool) (f g : Frame) → o ≡ true → f.mode ≡ Standard → (if o then f else g).mode ≡ Standard
-mode_held o f g e h = grind arith
-
-begun : (setup : Setup) (before : List EscItem) (page : Paged) (o : Bool) → is_open (line setup before) ≡ o → mode setup before ≡ Standard
-    → HasPageIf (mode_by setup before (effect_of (settings_of setup before) PageMode)) (layers_by setup before (effect_of (settings_of setup before) PageMode)) page
-    → HasPageIf (mode setup (PageMode ∷ before)) (layers setup (PageMode ∷ before)) page
-begun setup before page o e m h = grind (arith, on_paper, mode_held, mode_begun)
-
 pub paper_after : (setup : Setup) (before : List EscItem) (item : EscItem) (page : Paged) → mode setup before ≡ Standard
     → HasPageIf (mode_by setup before (effect_of (settings_of setup before) item)) (layers_by setup before (effect_of (settings_of setup before) item)) page
     → HasPageIf (mode setup (item ∷ before)) (layers setup (item ∷ before)) page
-paper_after setup before item page m h = grind (arith, begun, on_paper, either_mode)
+paper_after setup before item page m h = grind (arith, on_paper)
 
 mode_stays : (setup : Setup) (before : List EscItem) (effect : Effect) → mode setup before ≡ Page → mode_by setup before effect ≡ Page
 mode_stays setup before effect m = grind arith
@@ -153,16 +139,9 @@ page_after setup before item page Page e d h = grind (arith, page_kept, mode_sta
 pub paper_mode : (setup : Setup) (before : List EscItem) (effect : Effect) → (effect ≡ BeginsPage → ⊥) → mode setup before ≡ Standard → mode_by setup before effect ≡ Standard
 paper_mode setup before effect n m = grind arith
 
--- what puts no piece into the line leaves its bitmap
-if_open : (b : Bool) (placed : List Placed) (bitmap : List (List ℕ)) → HasOpen placed bitmap → HasOpen (if b then placed else []) bitmap
-if_open b placed bitmap h = grind arith
-
-unless_open : (b : Bool) (placed : List Placed) (bitmap : List (List ℕ)) → HasOpen placed bitmap → HasOpen (if b then [] else placed) bitmap
-unless_open b placed bitmap h = grind arith
-
 pub line_stays : (setup : Setup) (before : List EscItem) (effect : Effect) (s : Settings) (sheets : Sheets) (bitmap : List (List ℕ)) → ((piece : Piece) → effect ≡ Puts piece → ⊥)
     → s ≡ settings_of setup before → sheets ≡ setup.sheets → HasOpen (line setup before) bitmap → Gathers sheets s bitmap (waits_of effect) (line_by setup before effect)
-line_stays setup before effect s sheets bitmap n e k h = grind (arith, if_open, unless_open)
+line_stays setup before effect s sheets bitmap n e k h = grind arith
 
 -- by mode
 pub prints_of_strips : (setup : Setup) (before : List EscItem) (effect : Effect) → mode setup before ≡ Standard → strips_by setup before effect ≡ prints_by setup before effect

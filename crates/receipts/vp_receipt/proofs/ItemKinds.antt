@@ -1,5 +1,5 @@
 -- What items of some kinds leave alone.
-use Rattle.std.proofs.Common.{◌≡◌, ℕ, ◌<◌, Bool, true, false, ◌&&◌, refl, List, [], ◌∷◌, length, Option, Some, None, sym, subst, arith}
+use Rattle.std.proofs.Common.{◌≡◌, ℕ, ◌<◌, Bool, true, false, refl, List, [], ◌∷◌, length, Option, Some, None, sym, subst, arith}
 use Rattle.std.proofs.lemmas.List.{append-nil}
 use Rattle.vp_esc.specs.declared.item.EscItem.{EscItem}
 use Rattle.vp_esc.specs.declared.item.EscItem.TheVariants.{CarriageReturn, Control, QrIgnored, WithoutEffect, QrPrint, Symbol as SetSymbol, QrByte}
@@ -8,7 +8,6 @@ use Rattle.vp_esc.specs.declared.item.Spelled.{Spelled}
 use Rattle.vp_bar_code.specs.declared.BarCode.{BarCode}
 use Rattle.vp_dots.specs.Images.{Image}
 use Rattle.vp_glyph.specs.Sheets.{Sheets}
-use Rattle.vp_receipt_settings.specs.declared.page_mode.PrinterMode.{PrinterMode}
 use Rattle.vp_receipt_settings.specs.Setup.{Setup}
 use Rattle.vp_receipt_settings.specs.Tabs.{tab_stops}
 use Rattle.vp_receipt_settings.specs.Symbols.{qr_data, symbol_image, image_rows}
@@ -16,7 +15,6 @@ use Rattle.vp_receipt_settings.specs.declared.raster.Raster.{Raster}
 use Rattle.vp_receipt_settings.specs.Gathering.{IsGathering}
 use Rattle.vp_receipt_settings.specs.Runs.{stored_after}
 use Rattle.vp_receipt_settings.proofs.Storing.{stored_first}
-use Rattle.vp_receipt_settings.specs.Pages.{is_paged}
 use Rattle.vp_receipt_settings.specs.Line.{line, mode}
 use Rattle.vp_receipt_settings.specs.Settings.{settings_of}
 use Rattle.vp_strips.specs.declared.symbol.Symbol.{Symbol}
@@ -90,12 +88,8 @@ no_image setup before item h = grind arith
 pub no_refusal : (setup : Setup) (before : List EscItem) (item : EscItem) → is_symbol item ≡ false → refusal setup before item ≡ None
 no_refusal setup before item h = grind arith
 
--- one that prints a symbol
-no_page_of : (m : PrinterMode) → false ≡ is_paged m && false
-no_page_of m = grind arith
-
 pub no_page : (setup : Setup) (before : List EscItem) (item : EscItem) → is_symbol item ≡ true → false ≡ printed_page setup (item ∷ before)
-no_page setup before item h = grind (arith, no_page_of)
+no_page setup before item h = grind arith
 
 -- how many rows it has
 rows_of : (sheets : Sheets) (symbol : Symbol) (image : Option Image) → IsSymbolOf sheets (Some symbol) image → symbol_height sheets symbol ≡ image_rows image

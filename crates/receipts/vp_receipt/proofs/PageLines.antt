@@ -17,7 +17,7 @@ use Rattle.vp_receipt_settings.specs.declared.page_mode.PrinterMode.{PrinterMode
 use Rattle.vp_receipt_settings.specs.declared.page_mode.PrinterMode.TheVariants.{Page}
 use Rattle.vp_strips.specs.Held.{whole}
 use Rattle.vp_receipt.specs.Standing.{HasPageIf, IsSettled}
-use Rattle.vp_receipt_settings.specs.Line.{Placed, height, line, is_open, mode}
+use Rattle.vp_receipt_settings.specs.Line.{height, line, is_open, mode}
 use Rattle.vp_receipt_settings.specs.Settings.{settings_of}
 use Rattle.vp_strips.specs.LineDots.{HasDots}
 use Rattle.vp_receipt.specs.PageMarks.{HasRows, mark_of, line_dot, line_mark, laid_if, layers, layers_with}
@@ -33,10 +33,6 @@ use Rattle.vp_receipt_settings.specs.declared.text.TheConstants.{LINE_ROWS}
 -- a line of an area on the page is at most as long as the page is high
 pub length_small : (a : Area) (d : Direction) → a.x + a.dx ≤ PAPER_DOTS → a.y + a.dy ≤ PAGE_ROWS → length_on_page a d ≤ LINE_DOTS
 length_small a d h k = grind arith
-
--- the lowest rows of the line's bitmap are the line
-pub has_rows : (s : Settings) (placed : List Placed) (bitmap : List (List ℕ)) → s.height ≡ height placed → s.height ≤ LINE_ROWS → HasDots placed bitmap → HasRows s bitmap (line_dot placed)
-has_rows s placed bitmap e small has = grind (arith, raised, lt-ltb, ltb-true, and_parts)
 
 rows_up_to : (paper : Width) (f g : ℕ → ℕ → Bool) (y n : ℕ) → y + n ≤ PAGE_ROWS → ((x y : ℕ) → x < PAPER_DOTS → y < PAGE_ROWS → f x y ≡ g x y) → rows_text paper f y n ≡ rows_text paper g y n
 rows_up_to paper f g y zero l h = refl
@@ -70,7 +66,7 @@ pub line_laid : (setup : Setup) (before : List EscItem) (s : Settings) (bitmap :
     → (is_open (line setup before) ≡ true → HasDots (line setup before) bitmap)
     → (HasRows s bitmap (line_dot (line setup before)) → HasPage (Laid (mark_of s.page s.height (line_dot (line setup before))) ∷ layers) page)
     → HasPage (laid_if (is_open (line setup before)) (line_mark setup before) layers) page
-line_laid setup before s bitmap page layers' e small o has laid = grind (arith, has_rows)
+line_laid setup before s bitmap page layers' e small o has laid = grind (arith, raised, lt-ltb, ltb-true, and_parts)
 
 pub mode_is : (setup : Setup) (before : List EscItem) (s : Settings) (m : PrinterMode) → s ≡ settings_of setup before → s.page.mode ≡ m → mode setup before ≡ m
 mode_is setup before s m e is = sym (ap (λ (q : Settings). q.page.mode) e) ∙ is

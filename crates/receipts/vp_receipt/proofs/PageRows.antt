@@ -221,14 +221,8 @@ pub record Taken (r : Raster) (long n : ℕ) : Type 0 where
   pub bytes : n * r.bytes ≤ long
   pub rest : long - n * r.bytes ≤ room_of (record r { rows = r.rows - n })
 
-some_rows : (rows b got long : ℕ) → 0 < long → long ≤ rows * b - got → 0 < rows
-some_rows rows b got long some few = grind arith
-
-pub rest_room : (rows b n long : ℕ) (none : Bool) → eqb (rows - n) 0 ≡ none → n ≤ rows → long ≤ rows * b → long < n * b + b → long - n * b ≤ cond none 0 (b - 0 - 1)
-rest_room rows b n long none e few all more = grind (arith, nat_tests)
-
 pub taken : (r : Raster) (long n : ℕ) → IsPartRow r → r.got ≡ 0 → 0 < long → long ≤ left_of r → n ≡ min r.rows (long / r.bytes) → Taken r long n
-taken r long n part begins some room is = grind (arith, some_rows, div-le_of_le-mul, mul_comm, lt-div-mul-add, rest_room, div-mul-le_self)
+taken r long n part begins some room is = grind (arith, div-le_of_le-mul, mul_comm, lt-div-mul-add, nat_tests, div-mul-le_self)
 
 pub rest_fits : (r now : Raster) (bytes : List ℕ) (n wide : ℕ) → Taken r (length bytes) n → wide ≡ r.bytes → now ≡ record r { rows = r.rows - n }
     → length (take (length bytes - n * wide) (drop (n * wide) bytes)) ≤ room_of now

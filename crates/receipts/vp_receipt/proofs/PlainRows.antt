@@ -1,5 +1,5 @@
 -- Rows of a raster that are printed as they come.
-use Rattle.std.proofs.Common.{◌≡◌, ℕ, zero, suc, ◌+◌, ◌-◌, ◌*◌, ◌/◌, ◌<◌, ◌≤◌, ◌^◌, Bool, true, false, not, nat_lt, nat_le, ◌&&◌, List, [], ◌∷◌, ◌++◌, length, take, drop, min, refl, sym, ap, subst, ◌∙◌, append_assoc, arith, get_or}
+use Rattle.std.proofs.Common.{◌≡◌, ℕ, zero, suc, ◌+◌, ◌-◌, ◌*◌, ◌/◌, ◌<◌, ◌≤◌, ◌^◌, Bool, true, false, nat_lt, nat_le, ◌&&◌, List, [], ◌∷◌, ◌++◌, length, take, drop, min, refl, sym, ap, subst, ◌∙◌, append_assoc, arith, get_or}
 use Rattle.vp_page.specs.Pages.{Paged}
 use Rattle.std.proofs.Math.Nat.{suc-mul, mul_comm, div-le_of_le-mul, div-mul-le_self, lt-div-mul-add, div-lt_iff_lt-mul, mul-le-mul_right, le_trans}
 use Rattle.std.proofs.Math.Seq.{take-add}
@@ -12,9 +12,6 @@ use Rattle.vp_esc.specs.declared.item.EscItem.{EscItem}
 use Rattle.vp_esc.specs.declared.item.EscItem.TheVariants.{RasterByte}
 use Rattle.vp_esc.specs.declared.item.RasterScale.{RasterScale}
 use Rattle.vp_esc.specs.declared.item.RasterScale.TheVariants.{Normal}
-use Rattle.vp_glyph.specs.declared.block.Alignment.{Alignment}
-use Rattle.vp_glyph.specs.Blocks.{indent}
-use Rattle.vp_receipt_settings.specs.declared.page_mode.PrinterMode.{PrinterMode}
 use Rattle.vp_receipt_settings.specs.declared.page_mode.PrinterMode.TheVariants.{Standard}
 use Rattle.vp_receipt_settings.specs.declared.raster.Raster.{Raster}
 use Rattle.vp_receipt_settings.specs.declared.settings.Settings.{Settings}
@@ -22,18 +19,17 @@ use Rattle.vp_receipt_settings.proofs.Widths.{dots_across, some_bytes}
 use Rattle.vp_receipt_settings.specs.Gathering.{IsGathering, IsPartRow, left_of, room_of, run_of}
 use Rattle.vp_receipt_settings.specs.Line.{mode, left_margin}
 use Rattle.vp_receipt_settings.specs.Settings.{settings_of, paper_length, printed_at}
-use Rattle.vp_receipt_settings.specs.Pages.{is_paged}
 use Rattle.vp_receipt_settings.specs.Rasters.{raster_scale, raster_bytes, row_so_far, is_row_end, bytes_after, row_at, times_across, times_down}
 use Rattle.vp_receipt_settings.specs.Runs.{below}
 use Rattle.vp_receipt_settings.specs.Setup.{Setup, across, row_bytes}
 use Rattle.vp_receipt_settings.proofs.Runs.{after_first, settings_stay, run_inside, inside}
 use Rattle.vp_receipt_settings.proofs.WholeRows.{Lacks, at_end, not_end, goes, HaveRows, have_rows, fewer, are_whole, lacks_row, next_row, no_row, rows_below, after_both}
 use Rattle.vp_strips.specs.Rows.{paper_row, rows_text, raster_dot}
-use Rattle.vp_receipt.specs.Plain.{is_once, is_plain, rows_room, rows_put, IsOnPaper}
+use Rattle.vp_receipt.specs.Plain.{is_plain, rows_room, rows_put, IsOnPaper}
 use Rattle.vp_receipt.specs.PageMarks.{layers}
 use Rattle.vp_receipt.specs.Standing.{HasPageIf}
 use Rattle.vp_receipt.specs.Strips.{printed, prints, raster_row_text}
-use Rattle.vp_receipt.proofs.PageRows.{Taken, rest_room}
+use Rattle.vp_receipt.proofs.PageRows.{Taken}
 use Rattle.vp_receipt.proofs.RowEnds.{row_owned, row_printed}
 use Rattle.vp_receipt.proofs.Runs.{paper_stays}
 
@@ -64,12 +60,9 @@ still_plain : (setup : Setup) (bytes : List ℕ) (before : List EscItem) → IsP
 still_plain setup [] before h = h
 still_plain setup (b ∷ bytes) before h = grind (arith, after_first, still_plain setup bytes (RasterByte b ∷ before) (record { mode = h.mode; scale = h.scale; wide = h.wide; free = h.free }))
 
-none_shifted : (j : Alignment) → indent j 0 ≡ 0
-none_shifted j = grind arith
-
 -- nothing moves what is as wide as the paper
 at_left : (setup : Setup) (before : List EscItem) (wide : ℕ) → IsPlain setup before → wide ≡ across setup.width → printed_at setup before wide ≡ 0
-at_left setup before wide h e = grind (arith, some_bytes, dots_across, none_shifted)
+at_left setup before wide h e = grind (arith, some_bytes, dots_across)
 
 seen : (left long d : ℕ) (b c : Bool) → left ≡ 0 → d < long → b ≡ c → b ≡ (nat_le left d && nat_lt (d - left) long && c)
 seen left long d b c e h same = grind (arith, nat_tests)
@@ -131,14 +124,8 @@ pub record Told (s : Settings) (r : Raster) : Type 0 where
   pub free : min s.area_width (across s.paper - s.left_margin) ≡ across s.paper
   pub some : 0 < r.bytes
 
-on_paper : (m : PrinterMode) → not (is_paged m) ≡ true → m ≡ Standard
-on_paper m e = grind arith
-
-drawn_once : (k : RasterScale) → is_once k ≡ true → k ≡ Normal
-drawn_once k e = grind arith
-
 pub told : (s : Settings) (r : Raster) → is_plain s r ≡ true → Told s r
-told s r h = grind (arith, and_parts, eqb-true, some_bytes, on_paper, drawn_once)
+told s r h = grind (arith, and_parts, eqb-true, some_bytes)
 
 plain_of : (setup : Setup) (before : List EscItem) (s : Settings) (r : Raster) → Told s r → s ≡ settings_of setup before → IsGathering r before → IsPlain setup before
 plain_of setup before s r t e g = grind arith
@@ -149,7 +136,7 @@ all_whole r long n begins room is = grind (arith, div-le_of_le-mul, mul_comm)
 
 -- and what is left of one
 pub plain_taken : (r : Raster) (long n : ℕ) → 0 < r.bytes → r.got ≡ 0 → long ≤ left_of r → n ≡ min r.rows (long / r.bytes) → Taken r long n
-plain_taken r long n wide begins room is = grind (arith, all_whole, lt-div-mul-add, rest_room, div-mul-le_self)
+plain_taken r long n wide begins room is = grind (arith, all_whole, lt-div-mul-add, nat_tests, div-mul-le_self)
 
 -- the rows that are whole have room where they are put out
 pub put_fits : (w long output : ℕ) → 0 < w → long ≤ output / w * w + (w - 1) → long / w * w ≤ output

@@ -22,12 +22,9 @@ pub lengthened : (row : List ℕ) (m n u : ℕ) → m ≡ LINE_BYTES → n ≡ m
 unfolding dot
 lengthened row m n u wide e h = grind (arith, length-take-le, get_or_append_left, get_or-take, get_or-append_right, get_or-drop, get_or-replicate, get_or_past)
 
-once_drawn : (wide n : ℕ) (bytes : List ℕ) (y u : ℕ) → y < n → dot (row_at bytes wide y) u ≡ rows_dot Normal wide n bytes u y
-once_drawn wide n bytes y u few = grind (arith, row_is)
-
 -- a row that is drawn once each way, or none
 pub once_dots : (scale : RasterScale) (wide n : ℕ) (bytes : List ℕ) (y u : ℕ) → scale ≡ Normal → (ltb y n && dot (row_at bytes wide y) u) ≡ rows_dot scale wide n bytes u y
-once_dots scale wide n bytes y u once = grind (arith, lt-ltb, once_drawn, le-ltb)
+once_dots scale wide n bytes y u once = grind (arith, lt-ltb, row_is, le-ltb)
 
 -- one more of the lines
 pub line_set : (f : ℕ → ℕ → Bool) (lines : List (List ℕ)) (i : ℕ) (line : List ℕ) → i < length lines

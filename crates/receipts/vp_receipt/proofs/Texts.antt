@@ -1,27 +1,25 @@
 -- Text that doesn't break the line: what it puts into it, and leaves alone, item by item.
-use Rattle.std.proofs.Common.{◌≡◌, ℕ, ◌+◌, ◌-◌, ◌*◌, ◌/◌, ◌<◌, ◌≤◌, suc, Bool, true, false, not, if◌then◌else◌, ◌||◌, List, [], ◌∷◌, ◌++◌, length, reverse, refl, sym, ap, subst, ◌∙◌, append_assoc, arith}
+use Rattle.std.proofs.Common.{◌≡◌, ℕ, ◌+◌, ◌-◌, ◌*◌, ◌/◌, ◌<◌, ◌≤◌, suc, true, false, List, [], ◌∷◌, ◌++◌, length, reverse, sym, ap, subst, ◌∙◌, append_assoc, arith}
 use Rattle.std.proofs.lemmas.Bool.Decides.{nat_tests}
 use Rattle.std.specs.List.{AllByRecursion}
 use Rattle.std.proofs.lemmas.Bool.{and_parts, lt-ltb, le-ltb}
 use Rattle.std.proofs.Math.Nat.{div-mul-le_self, mul-le-mul_right, mul-pos, suc-mul}
 use Rattle.std.proofs.lemmas.List.{append-nil, map-append, reverse-append}
 use Rattle.vp_esc.specs.declared.item.EscItem.{EscItem}
-use Rattle.vp_esc.specs.declared.item.EscItem.TheVariants.{LineFeed, Tab, CarriageReturn, FormFeed, Cancel, Control, Character}
+use Rattle.vp_esc.specs.declared.item.EscItem.TheVariants.{Character}
 use Rattle.vp_esc.specs.Units.{single_item}
 use Rattle.vp_esc.specs.Reader.{is_text, text_items}
 use Rattle.vp_glyph.specs.Sheets.{Sheets}
-use Rattle.vp_glyph.specs.declared.cell.Font.{Font}
-use Rattle.vp_glyph.specs.Cells.{cell_width, font_width}
+use Rattle.vp_glyph.specs.Cells.{cell_width}
 use Rattle.vp_receipt_settings.specs.Setup.{Setup}
 use Rattle.vp_receipt_settings.specs.Texts.{style_of}
 use Rattle.vp_receipt_settings.specs.declared.settings.Settings.{Settings}
-use Rattle.vp_receipt_settings.specs.Line.{is_full, is_open, mode, line, Placed}
+use Rattle.vp_receipt_settings.specs.Line.{is_full, is_open, line, Placed}
 use Rattle.vp_receipt_settings.specs.Settings.{settings_of, settings_length, image_of, IsFit}
 use Rattle.vp_receipt_settings.specs.Gathering.{IsGathering}
 use Rattle.vp_receipt_settings.specs.declared.raster.Raster.{Raster}
 use Rattle.vp_receipt_settings.specs.Runs.{text_after}
 use Rattle.vp_strips.specs.LineDots.{HasDots, HasOpen}
-use Rattle.vp_receipt.specs.Strips.{printed, prints}
 use Rattle.vp_receipt.specs.Standing.{LeavesAlone}
 use Rattle.vp_receipt.proofs.Runs.{nothing_by}
 use Rattle.vp_receipt.proofs.ItemKinds.{is_ignored, does_nothing}
@@ -30,28 +28,18 @@ use Rattle.vp_receipt.proofs.ItemKinds.{is_ignored, does_nothing}
 pub text_more : (text : List ℕ) (b : ℕ) (before : List EscItem) → text_after (text ++ b ∷ []) before ≡ single_item b ∷ text_after text before
 text_more text b before = grind (arith, map-append, reverse-append)
 
-nothing_left : (setup : Setup) (before : List EscItem) → LeavesAlone setup before before
-nothing_left setup before = record { stops = refl; stored = refl; mode = refl; layers = refl; printed = refl }
-
 ignored_leaves : (setup : Setup) (item : EscItem) (after before : List EscItem) → is_ignored item ≡ true → LeavesAlone setup after before → LeavesAlone setup (item ∷ after) before
 ignored_leaves setup item after before h l = grind (arith, does_nothing, append-nil)
 
-character_prints : (setup : Setup) (before : List EscItem) (c : ℕ) → is_full setup before ≡ false → prints setup before (Character c) ≡ []
-character_prints setup before c e = rw e (nothing_by (mode setup before))
-
 character_leaves : (setup : Setup) (c : ℕ) (after before : List EscItem) → is_full setup after ≡ false → LeavesAlone setup after before → LeavesAlone setup (Character c ∷ after) before
-character_leaves setup c after before e l = grind (arith, character_prints, append-nil)
+character_leaves setup c after before e l = grind (arith, nothing_by, append-nil)
 
 -- text is characters, and controls that do nothing
 character_is : (b : ℕ) → 0x20 ≤ b → single_item b ≡ Character b
 character_is b h = grind (arith, nat_tests)
 
-control_by : (b : ℕ) (tab feed form cancel return small : Bool) → not (tab || feed || form || cancel) ≡ true → small ≡ true
-    → is_ignored (if feed then LineFeed else if tab then Tab else if return then CarriageReturn else if form then FormFeed else if cancel then Cancel else if small then Control b else Character b) ≡ true
-control_by b tab feed form cancel return small t h = grind arith
-
 control_is : (b : ℕ) → b < 0x20 → is_text b ≡ true → is_ignored (single_item b) ≡ true
-control_is b h t = grind (arith, control_by, and_parts, lt-ltb)
+control_is b h t = grind (arith, and_parts, lt-ltb)
 
 -- text was put into the line, and there is room for so many characters more
 pub record Put (old : Settings) (sheets : Sheets) (empty : List (List ℕ)) (text : List ℕ) (left : ℕ) (s : Settings) (bitmap : List (List ℕ)) : Type 0 where
@@ -63,21 +51,12 @@ pub record Put (old : Settings) (sheets : Sheets) (empty : List (List ℕ)) (tex
       → HasOpen (line setup (text_after text before)) bitmap
   pub others : (setup : Setup) (before : List EscItem) → old ≡ settings_of setup before → LeavesAlone setup (text_after text before) before
 
-room_for : (n m w : ℕ) → n ≤ m / w → n * w ≤ m
-room_for n m w h = omega (arith, mul-le-mul_right w h, div-mul-le_self m w)
-
 room_less : (left w l p q : ℕ) → suc left * w ≤ l - p → q ≡ p + w → left * w ≤ l - q
 room_less left w l p q h e = let one : suc left * w ≡ left * w + w = suc-mul left w in omega arith
 
-room_one : (left w l p : ℕ) → suc left * w ≤ l - p → 0 < w → p + w ≤ l
-room_one left w l p h some = let one : suc left * w ≡ left * w + w = suc-mul left w in omega arith
-
-wide_some : (font : Font) (spacing wm : ℕ) → 0 < wm → 0 < (font_width font + spacing) * wm
-wide_some font spacing wm h = grind (arith, mul-pos)
-
 pub none_put : (old : Settings) (sheets : Sheets) (bitmap : List (List ℕ)) (left : ℕ) → IsFit old → left ≤ (settings_length old - old.position) / cell_width old.text.font (style_of old.text)
     → Put old sheets bitmap [] left old bitmap
-none_put old sheets bitmap left fit room = grind (arith, room_for, nothing_left)
+none_put old sheets bitmap left fit room = grind (arith, mul-le-mul_right, div-mul-le_self)
 
 -- a control more
 pub control_put : (old : Settings) (sheets : Sheets) (empty : List (List ℕ)) (text : List ℕ) (left : ℕ) (s : Settings) (bitmap : List (List ℕ)) (b : ℕ) → b < 0x20 → is_text b ≡ true
@@ -112,7 +91,7 @@ same_on old s t n e f = grind arith
 -- a character goes into the line
 pub has_room : (old : Settings) (sheets : Sheets) (empty : List (List ℕ)) (text : List ℕ) (left : ℕ) (s : Settings) (bitmap : List (List ℕ)) → Put old sheets empty text (suc left) s bitmap
     → s.position + cell_width s.text.font (style_of s.text) ≤ settings_length s
-has_room old sheets empty text left s bitmap p = grind (arith, wide_some, room_one)
+has_room old sheets empty text left s bitmap p = grind (arith, mul-pos, suc-mul)
 
 -- a character more
 pub character_put : (old : Settings) (sheets : Sheets) (empty : List (List ℕ)) (text : List ℕ) (left : ℕ) (s t : Settings) (bitmap new : List (List ℕ)) (b : ℕ) → 0x20 ≤ b
@@ -148,14 +127,8 @@ text_first b text before =
     ap (λ (items : List EscItem). items ++ before) (reverse-append (single_item b ∷ []) (text_items text))
     ∙ append_assoc (reverse (text_items text)) (single_item b ∷ []) before
 
-ignored_ends : (r : Raster) (item : EscItem) (before : List EscItem) → is_ignored item ≡ true → IsGathering r [] → IsGathering r (item ∷ before)
-ignored_ends r item before h g = grind arith
-
-character_ends : (r : Raster) (b : ℕ) (before : List EscItem) → IsGathering r [] → IsGathering r (Character b ∷ before)
-character_ends r b before g = record { scale = g.scale; bytes = g.bytes; rows = g.rows; got = g.got; row = g.row }
-
 one_ends : (r : Raster) (b : ℕ) (before : List EscItem) → is_text b ≡ true → IsGathering r [] → IsGathering r (single_item b ∷ before)
-one_ends r b before t g = grind (arith, ignored_ends, control_is, character_is, character_ends)
+one_ends r b before t g = grind (arith, control_is, character_is)
 
 -- it ends the raster that came
 pub text_ends : (r : Raster) (text : List ℕ) (before : List EscItem) → AllByRecursion (λ b. is_text b ≡ true) text → 0 < length text → IsGathering r [] → IsGathering r (text_after text before)
