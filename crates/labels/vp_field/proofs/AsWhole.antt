@@ -1,8 +1,9 @@
 -- Halves of words that are black or white as a whole.
-use Rattle.std.proofs.Common.{inl, inr, ◌≡◌, ℕ, ◌+◌, ◌-◌, ◌*◌, ◌/◌, ◌%◌, ◌^◌, ◌<◌, ◌≤◌, ◌⊎◌, Bool, true, false, not, eqb, leb, ◌&&◌, refl, sym, ap, ◌∙◌, arith, List, take, drop}
-use Rattle.std.proofs.lemmas.Bool.{cases_lt, lt-ltb, le-ltb, lt-leb, le-leb}
+use Rattle.std.proofs.Common.{inl, inr, ◌≡◌, ℕ, ◌+◌, ◌-◌, ◌*◌, ◌/◌, ◌%◌, ◌^◌, ◌<◌, ◌≤◌, ◌⊎◌, Bool, true, false, not, eqb, ltb, leb, ◌&&◌, refl, sym, ap, ◌∙◌, arith, bit_or, List, take, drop}
+use Rattle.std.proofs.lemmas.Bool.{cases_lt, cases_eq, lt-ltb, le-ltb, lt-leb, le-leb}
 use Rattle.std.proofs.lemmas.List.{get_or-take, length-take}
-use Rattle.std.proofs.lemmas.Nat.Bits.{bit_at_ones}
+use Rattle.std.specs.Int.{bit_at, w32}
+use Rattle.std.proofs.lemmas.Nat.Bits.{bit_at_ones, bit_at_set_same, bit_at_set_other}
 use Rattle.vp_dots.specs.Dots.{bit, dot, span}
 use Rattle.vp_dots.specs.Painting.{paint}
 use Rattle.vp_dots.specs.Words.{word_dot}
@@ -66,4 +67,27 @@ cut_line from n row d white = elim (cases_lt d (8 * from)) [
         rw (le-leb (8 * from) d g) (dot_front n (drop from row) (d - 8 * from) (omega arith) ∙ dot-drop row from (d - 8 * from) ∙ ap (dot row) same)
     | inr o ↦ rw (le-leb (8 * from) d g) (front_end n (drop from row) (d - 8 * from) (omega arith) ∙ sym (white (rw (le-leb (8 * from) d g, le-ltb d (8 * (from + n)) o) refl)))
   ]
+]
+
+-- a dot more of half a word, black or white
+pub half_more : (f : ℕ → Bool) (old new x d : ℕ) → x < 32 → half_dot old d ≡ (ltb d x && f d) → new ≡ bit_or old (1 * 2 ^ (31 - x) % 2 ^ 32) → f x ≡ true
+    → half_dot new d ≡ (ltb d (x + 1) && f d)
+unfolding bit
+half_more f old new x d h p e t = elim (cases_lt d 32) [
+  | inr g ↦ rw (le-ltb d 32 g, le-ltb d (x + 1) (omega arith)) refl
+  | inl l ↦ elim (cases_eq d x) [
+    | inl y ↦ rw (y, e, lt-ltb x 32 h, lt-ltb x (x + 1) (omega arith), t) (ap (λ n. eqb n 1) (bit_at_set_same w32 old (31 - x) (omega arith)))
+    | inr n ↦
+      let other : bit_at new (31 - d) ≡ bit_at old (31 - d) = rw e (bit_at_set_other w32 old (31 - x) (omega arith) (31 - d) (λ same. n (omega (arith, same)))) in
+      rw other (p ∙ ap (λ b. b && f d) (one_less d x n))
+  ]
+]
+  where
+    one_less : (d x : ℕ) → (d ≡ x → ⊥) → ltb d x ≡ ltb d (x + 1)
+    one_less d x n = elim (cases_lt d x) [ inl y ↦ lt-ltb d x y ∙ sym (lt-ltb d (x + 1) (omega arith)) | inr g ↦ le-ltb d x g ∙ sym (le-ltb d (x + 1) (omega arith)) ]
+
+pub half_less : (f : ℕ → Bool) (half x d : ℕ) → half_dot half d ≡ (ltb d x && f d) → f x ≡ false → half_dot half d ≡ (ltb d (x + 1) && f d)
+half_less f half x d p t = p ∙ elim (cases_eq d x) [
+  | inl y ↦ (let s : f d ≡ false = ap f y ∙ t in rw (s, le-ltb d x (omega arith), lt-ltb d (x + 1) (omega arith)) refl)
+  | inr n ↦ elim (cases_lt d x) [ inl y ↦ rw (lt-ltb d x y, lt-ltb d (x + 1) (omega arith)) refl | inr g ↦ rw (le-ltb d x g, le-ltb d (x + 1) (omega arith)) refl ]
 ]

@@ -4,7 +4,7 @@ ghost use Rattle.vp_dots.specs.Words.{word_dot};
 ghost use Rattle.vp_dots.specs.declared.square.TheConstants.{SIDE};
 ghost use Rattle.vp_glyph.specs.Halves.{half_dot};
 
-use crate::square::square_of;
+use crate::square::{of_halves, square_of};
 use vp_dots::{SIDE, turned_square};
 
 /// 0 where half a word is white or black as a whole, 1 where it isn't.
@@ -29,19 +29,30 @@ pub fn mixed_halves(halves: &[u32; SIDE]) -> u32
     many
 }
 
+/// Half a word of which each dot is as one of 32 halves is, from one on.
+fn half_of_plain(halves: &[u32; SIDE], from: usize) -> u32
+    requires from { from + 32 ≤ SIDE }
+    requires plain { (i : ℕ) → i < SIDE
+        → (slice_index halves.now i ≡ 0) ⊎ (slice_index halves.now i ≡ 2 ^ 32 - 1) }
+    ensures { (i x : ℕ) → i < 32 → x < 32
+        → half_dot result i ≡ half_dot (slice_index halves.now (from + i)) x }
+{
+    let mut half = 0u32;
+    for i in 0..32u32 {
+        if halves[from + i as usize] != 0 {
+            half |= 1 << (31 - i);
+        }
+    }
+    half
+}
+
 /// A word of which each dot is as the half is that stands in its place.
 pub fn word_of_plain(halves: &[u32; SIDE]) -> u64
     requires { (i : ℕ) → i < SIDE
         → (slice_index halves.now i ≡ 0) ⊎ (slice_index halves.now i ≡ 2 ^ 32 - 1) }
     ensures { (i x : ℕ) → i < SIDE → x < 32 → word_dot result i ≡ half_dot (slice_index halves.now i) x }
 {
-    let mut word = 0u64;
-    for i in 0..SIDE {
-        if halves[i] != 0 {
-            word |= 1 << (63 - i);
-        }
-    }
-    word
+    of_halves(half_of_plain(halves, 0), half_of_plain(halves, 32))
 }
 
 /// A square whose upper rows are one word, and its lower rows another.

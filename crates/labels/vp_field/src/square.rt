@@ -27,7 +27,7 @@ pub fn are_white<const N: usize>(halves: &[u32; N]) -> bool
 
 /// A word of two halves.
 #[inline(always)]
-fn of_halves(left: u32, right: u32) -> u64
+pub fn of_halves(left: u32, right: u32) -> u64
     ensures left { (x : ℕ) → x < 32 → word_dot result x ≡ half_dot left x }
     ensures right { (x : ℕ) → x < 32 → word_dot result (32 + x) ≡ half_dot right x }
 {
