@@ -1,5 +1,5 @@
 -- Rows of one value that no code spells.
-use Rattle.std.proofs.Common.{inl, inr, ◌≡◌, ℕ, zero, suc, ◌+◌, ◌-◌, ◌*◌, ◌<◌, ◌≤◌, ◌⊎◌, true, false, cond, List, [], drop, replicate, length, ap, sym, ◌∙◌, refl, subst, arith}
+use Rattle.std.proofs.Common.{inl, inr, ◌≡◌, ℕ, zero, suc, ◌+◌, ◌-◌, ◌*◌, ◌<◌, ◌≤◌, ◌⊎◌, true, false, cond, List, drop, replicate, length, ap, sym, ◌∙◌, refl, subst, arith}
 use Rattle.std.proofs.Math.Nat.{mul-le-mul_left}
 use Rattle.std.proofs.lemmas.Bool.{and_parts, cases_lt, eqb-true, true≢false}
 use Rattle.std.proofs.lemmas.Bool.Decides.{nat_tests}
@@ -57,17 +57,13 @@ run_even w coding codes s k some spot whole h =
           ∙ sym (bytes_run w 0 n v ss j (omega arith) ∙ ap (λ q. bytes_before w q ss j) (omega arith));
     }
 
--- where no code is left
-nothing_from : (coding : Coding) (w p j : ℕ) → shown_at w p (symbols coding []) j ≡ Value 0
-nothing_from coding w p j = grind arith
-
 -- where white is all that comes
 abbrev pub IsWhite : ℕ → Spot → Type 0
 IsWhite codes s = (s.at ≡ codes) × ((s.left ≡ 0) ⊎ (s.digit ≡ 0))
 
 -- behind the last code white comes, once the run has ended
 pub ends_white : (w : ℕ) (coding : Coding) (codes : List ℕ) (s : Spot) (j : ℕ) → s.at ≡ length codes → ((s.left ≤ j) ⊎ (s.digit ≡ 0)) → shown_at w 0 (symbols_at coding codes s) j ≡ Value 0
-ends_white w coding codes s j ends rest = grind (arith, symbols_none, shown_in, shown_past, nothing_from)
+ends_white w coding codes s j ends rest = grind (arith, symbols_none, shown_in, shown_past)
 
 -- a test for it
 pub white_is : (n : ℕ) (s : Spot) → IsWhite n s → is_white n s ≡ true

@@ -11,7 +11,6 @@ use Rattle.vp_format.specs.declared.codes.Code.{Code}
 use Rattle.vp_format.specs.declared.codes.Code.TheVariants.{Digit, Count}
 use Rattle.vp_format.specs.declared.codes.Symbol.TheVariants.{Digits}
 use Rattle.vp_format.specs.Codes.{code_of, Spelled, spelled, joined, symbols_behind}
-use Rattle.vp_format.specs.Pictures.{Value, shown_at, value_of, nibble}
 use Rattle.vp_format.specs.declared.row.RowEnd.{RowEnd}
 use Rattle.vp_format.specs.Cursors.{count_value, digit_value, symbols_from, symbols_at, Filled, Reached, ReadsOn, Decoded, RowRead}
 use Rattle.vp_format.proofs.Reached.{run_over, run_reached, run_done, reached_at, start_reached, digit_is, digit_in_hand}
@@ -153,17 +152,9 @@ behind_count b n r at h is few e =
 pub one_most : (r : ℕ) (b : Bool) → r ≡ bool_byte b → r ≤ 1
 one_most r b e = grind arith
 
--- what the first place of a row shows that begins with a digit
-shown_first : (w : ℕ) (codes : List ℕ) (s : Spot) → s.left ≡ 0 → s.at < length codes → digit_value (code_of (get_or codes s.at 0)) < 16 → shown_at w 0 (symbols_at RunLength codes s) 0 ≡ Value (digit_value (code_of (get_or codes s.at 0)))
-shown_first w codes s none inside digit = grind (arith, run_over, plain_symbol)
-
-row_anew : (w : ℕ) (codes old before new : List ℕ) (s after : Spot) (end : RowEnd) (v j : ℕ) (again : Bool) → end.repeats ≡ again → shown_at w 0 (symbols_at RunLength codes s) 0 ≡ Value v → Decoded w RunLength codes s end after old new → j < w
-    → nibble new j ≡ value_of (shown_at w 0 (symbols_at RunLength codes s) j) (nibble before j)
-row_anew w codes old before new s after end v j again is first d l = grind (arith, true≢false)
-
 -- such a row is the same whichever stood before
 decoded_anew : (w : ℕ) (codes old before new : List ℕ) (s after : Spot) (end : RowEnd) → s.left ≡ 0 → s.at < length codes → digit_value (code_of (get_or codes s.at 0)) < 16 → Decoded w RunLength codes s end after old new → Decoded w RunLength codes s end after before new
-decoded_anew w codes old before new s after end none inside digit d = grind (arith, row_anew, shown_first)
+decoded_anew w codes old before new s after end none inside digit d = grind (arith, true≢false, run_over, plain_symbol)
 
 pub read_anew : (w : ℕ) (codes old before new : List ℕ) (s : Spot) (at : ℕ) (r : Result RowEnd Fault) → s.left ≡ 0 → s.at < length codes → digit_value (code_of (get_or codes s.at 0)) < 16 → RowRead w RunLength codes s r at old new → RowRead w RunLength codes s r at before new
 read_anew w codes old before new s at (Ok end) none inside digit d = decoded_anew w codes old before new s _ end none inside digit d

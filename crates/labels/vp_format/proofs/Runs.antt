@@ -41,11 +41,8 @@ far_is : (b : ℕ) → b < 256 → far b ≡ cond (is_short b) 0 255
 unfolding code_of
 far_is b h = eqb-true _ _ (agree_below_at (λ x. eqb (far x) (cond (is_short x) 0 255)) (λ _. true) 256 b refl h)
 
-by_lanes : (d s e : Bool) → top 7 (bit_and (cond d 0 255) (bit_or (cond s 0 255) (cond e 0 255))) ≡ false → d ≡ false → (s ≡ true) × (e ≡ true)
-by_lanes d s e h n = grind (arith, true≢false)
-
 run_by : (b c : ℕ) → b < 256 → c < 256 → top 7 (bit_and (other b) (bit_or (far b) (other c))) ≡ false → IsRun (code_of b) (code_of c)
-run_by b c h l goes big = grind (arith, other, other_is, far_is, by_lanes, le-ltb, and_parts, ltb-true)
+run_by b c h l goes big = grind (arith, other, other_is, far_is, true≢false, le-ltb, and_parts, ltb-true)
 
 -- where no lane's top bit is set
 no_top : (lanes : List ℕ) (k : ℕ) → length lanes ≡ 16 → mask_l (map (top 7) lanes) % 2 ^ 64 ≡ 0 → k < 16 → top 7 (get_or lanes k 0) ≡ false

@@ -24,8 +24,7 @@ abbrev pub Before : Seen → ℕ → Type 0
 Before so width = (so.width ≡ 0) ⊎ (so.width ≡ width)
 
 same_width : (w v : ℕ) → (w ≡ 0) ⊎ (w ≡ v) → is_other w v ≡ false
-same_width w v (inl e) = rw e refl
-same_width w v (inr e) = grind (arith, nat_tests, e)
+same_width w v h3 = grind (arith, nat_tests)
 
 other_width : (w v : ℕ) → 0 < w → v ≢ w → is_other w v ≡ true
 other_width w v h n = grind (arith, nat_tests, n)
@@ -44,8 +43,7 @@ begun_tall : (so : Seen) (w h : ℕ) (rest : List ℕ) → Before so w → great
 begun_tall so w h rest b l = rw (same_width so.width w b, lt-ltb greatest (so.height + h) l) refl
 
 some_rows : (w h : ℕ) → 0 < w → 0 < h → 0 < row_bytes w * h
-some_rows w (suc h) p q = omega (arith, wide_rows w p, mul_comm (row_bytes w) (suc h))
-some_rows w zero p q = absurd (omega (arith, q))
+some_rows w h p q = grind (arith, wide_rows, mul_comm)
 
 -- strips are read
 pub read_strips : (width : ℕ) (strips : List Strip) (so : Seen) (rest : List ℕ) → AreStrips width strips → Before so width → so.height + height_of strips ≤ greatest
@@ -114,9 +112,7 @@ told_cause Short width strips rest are l c =
 
 -- an offence is told
 pub told_offence : (text : List ℕ) (o : Offence) → IsOffence text o → (told text).offence ≡ Some o
-told_offence text o k =
-    ap (λ (t : Told). t.offence) (ap told k.begins.text_is ∙ read_strips k.width k.strips nothing k.rest k.begins.are (inl refl) (omega (arith, k.begins.height_fits)))
-    ∙ told_cause o k.width k.strips k.rest k.begins.are k.begins.height_fits k.cause
+told_offence text o k = grind (arith, read_strips, told_cause)
 
 -- images are told
 pub told_images : (text : List ℕ) (width : ℕ) (strips : List Strip) → BeginsWith width strips [] text → told text ≡ whole (after nothing strips)
@@ -148,15 +144,10 @@ decided_here so text end width l b r = record { width = width; strips = []; rest
 -- one strip more in front
 rest_more : (end : Option Offence) (so : Seen) (s : Strip) (width : ℕ) (strips : List Strip) (rest : List ℕ) → IsRest end (seen s.width (so.height + s.height) []) width strips rest
     → IsRest end so width (s ∷ strips) rest
-rest_more None so s width strips rest h = h
-rest_more (Some Header) so s width strips rest h = h
-rest_more (Some Width) so s width strips rest h = (h.0, h.1, h.2, h.3, h.4, inr (λ e. cc))
-rest_more (Some TooTall) so s width strips rest h = record { high = h.high; rest = h.rest; header = h.header; taller = omega (arith, h.taller) }
-rest_more (Some Short) so s width strips rest h = record { high = h.high; rest = h.rest; header = h.header; fits = omega (arith, h.fits); shorter = h.shorter }
+rest_more end so s width strips rest h = grind arith
 
 width_of_before : (w v : ℕ) → 0 < w → (w ≡ 0) ⊎ (w ≡ v) → w ≡ v
-width_of_before w v h (inl e) = absurd (omega (arith, e, h))
-width_of_before w v h (inr e) = e
+width_of_before w v h h4 = grind arith
 
 decided_more : (so : Seen) (text rest : List ℕ) (w h : ℕ) → HasHeader w h rest text → Before so w → h * row_bytes w ≤ length rest
     → Decided (seen w (so.height + h) []) (drop (h * row_bytes w) rest) → Decided so text
@@ -246,9 +237,7 @@ each_text text = let d = decide (length text) nothing text (omega arith) (omega 
 -- the bytes of the rows of strips
 pub length-rows_of : (width : ℕ) (strips : List Strip) → AreStrips width strips → length (strips_rows strips) ≡ height_of strips * row_bytes width
 length-rows_of width [] are = omega arith
-length-rows_of width (s ∷ strips) are =
-    let k : length s.rows ≡ s.height * row_bytes width = rw are.0.width_is at are.0.length_is in
-    omega (arith, length-append s.rows (strips_rows strips), k, length-rows_of width strips are.1)
+length-rows_of width (s ∷ strips) are = grind (arith, length-append, length-rows_of width strips are.1)
 
 -- a text with an offence is no images
 pub never_both : (text : List ℕ) (width : ℕ) (strips : List Strip) (o : Offence) → BeginsWith width strips [] text → IsOffence text o → ⊥

@@ -1,5 +1,5 @@
 -- Numbers and headers, digit by digit.
-use Rattle.std.proofs.Common.{inl, inr, ◌≡◌, ◌≢◌, ◌<◌, ◌≤◌, ◌+◌, ◌-◌, ◌*◌, ◌/◌, ◌%◌, ◌⊎◌, ℕ, zero, suc, true, false, cond, eqb, ltb, ◌&&◌, List, [], ◌∷◌, ◌++◌, refl, sym, ap, ◌∙◌, arith, append_assoc}
+use Rattle.std.proofs.Common.{inl, inr, ◌≡◌, ◌≢◌, ◌<◌, ◌≤◌, ◌+◌, ◌-◌, ◌*◌, ◌/◌, ◌%◌, ◌⊎◌, ℕ, true, false, cond, eqb, ltb, ◌&&◌, List, [], ◌∷◌, ◌++◌, refl, sym, ap, ◌∙◌, arith, append_assoc}
 use Rattle.std.specs.Fmt.{decimal}
 use Rattle.std.proofs.lemmas.Fmt.{decimal_by_steps, decimal_digit, decimal_step}
 use Rattle.std.proofs.lemmas.Bool.{cases_Bool, lt-ltb, le-ltb, ne_eqb}
@@ -50,20 +50,7 @@ is_digit : (n b : ℕ) → continues n b ≡ true → (48 ≤ b) × (b ≤ 57)
 is_digit n b e = (grind (arith, nat_tests), grind (arith, nat_tests))
 
 written_more : (n b : ℕ) → continues n b ≡ true → written n ++ b ∷ [] ≡ written (with_digit n b)
-written_more zero b e =
-    let d = is_digit 0 b e in
-    let k = continued_fits 0 b e in
-    let v : with_digit 0 b ≡ b - 48 = omega arith in
-    let w : 48 + (b - 48) ≡ b = omega (arith, d.0) in
-    sym (written_some (with_digit 0 b) k.least ∙ ap decimal v ∙ decimal_digit (b - 48) (omega (arith, d.0, d.1)) ∙ ap (λ x. x ∷ []) w)
-written_more (suc n) b e =
-    let d = is_digit (suc n) b e in
-    let k = continued_fits (suc n) b e in
-    let m = with_digit (suc n) b in
-    let v : m / 10 ≡ suc n = omega (arith, d.0, d.1) in
-    let w : 48 + m % 10 ≡ b = omega (arith, d.0, d.1) in
-    ap (λ x. x ++ b ∷ []) (written_some (suc n) (omega arith))
-    ∙ sym (written_some m k.least ∙ decimal_step m (omega arith) (omega (arith, k.most)) ∙ ap (λ x. decimal x ++ (48 + m % 10) ∷ []) v ∙ ap (λ x. decimal (suc n) ++ x ∷ []) w)
+written_more n b e = grind (arith, is_digit, continued_fits, written_some, decimal_digit, decimal_step)
 
 -- no digit follows that goes on with the number
 abbrev pub Stops : ℕ → List ℕ → Type 0
@@ -151,9 +138,7 @@ ends_number n b stop e = (grind (arith, nat_tests), grind (arith, nat_tests))
 
 two_numbers : (t : List ℕ) (k : Scanned 0 t) (u : List ℕ) → 0 < k.number → k.rest ≡ 32 ∷ u → (l : Scanned 0 u) (v : List ℕ) → 0 < l.number → l.rest ≡ 10 ∷ v
     → t ≡ decimal k.number ++ 32 ∷ (decimal l.number ++ 10 ∷ v)
-two_numbers t k u p e l v q f =
-    k.text_is ∙ ap (λ x. x ++ k.rest) (scanned_digits t k p) ∙ ap (λ x. decimal k.number ++ x) e
-    ∙ ap (λ x. decimal k.number ++ 32 ∷ x) (l.text_is ∙ ap (λ x. x ++ l.rest) (scanned_digits u l q) ∙ ap (λ x. decimal l.number ++ x) f)
+two_numbers t k u p e l v q f = grind (arith, scanned_digits)
 
 -- behind the width
 in_height : (t : List ℕ) (k : Scanned 0 t) (u : List ℕ) → 0 < k.number → k.rest ≡ 32 ∷ u → (l : Scanned 0 u) → (v : List ℕ) → l.rest ≡ v → Parsed (80 ∷ 52 ∷ 10 ∷ t)

@@ -5,7 +5,6 @@ use Rattle.std.proofs.lemmas.Grind.{common_steps}
 use Rattle.vp_join.specs.Told.{Seen, Told, told, rows_told, images, rows}
 use Rattle.vp_join.specs.Standing.{from_phase, so_far, Stands, HasRead}
 use Rattle.vp_join.specs.declared.reading.Phase.{Phase}
-use Rattle.vp_join.specs.declared.reading.Phase.TheVariants.{Between}
 use Rattle.vp_join.specs.declared.reading.Reading.{Reading}
 
 abbrev pub seen : ℕ → ℕ → List ℕ → Seen
@@ -36,8 +35,7 @@ pub at_end : (s : Reading) (p : Phase) (b r : List ℕ) → s.phase ≡ p → St
 at_end s p b r e h = let k = h [] in grind (arith, common_steps, k, e)
 
 phase_rows : (p : Phase) (so : Seen) → (from_phase p so []).so.rows ≡ so.rows
-phase_rows Between so = refl
-phase_rows _ so = refl
+phase_rows p so = grind arith
 
 -- what was given is the rows' bytes
 pub given_rows : (s : Reading) (b r : List ℕ) → Stands s b r → rows_told b ≡ r
@@ -46,8 +44,7 @@ given_rows s b r h = ap (λ (t : Told). t.so.rows) (at_end s s.phase b r refl h)
 -- one byte of a header is taken
 pub stands_head : (s t : Reading) (b r bytes : List ℕ) → 0 < length bytes → Stands s b r
     → ((text : List ℕ) → from_phase s.phase (so_far s r) (get_or bytes 0 0 ∷ text) ≡ from_phase t.phase (so_far t r) text) → Stands t (b ++ take 1 bytes) (r ++ [])
-stands_head s t b r [] l h f = absurd (omega (arith, l))
-stands_head s t b r (a ∷ bytes) l h f = rw (append-nil r) (λ text. ap told (append_assoc b (a ∷ []) text) ∙ h (a ∷ text) ∙ f text)
+stands_head s t b r bytes l h f = grind (arith, append-nil, append_assoc)
 
 -- behind b and r it took a piece more
 pub read_more : (s t : Reading) (b r p x y : List ℕ) {p2 : List ℕ} → p2 ≡ p ++ x → (h : HasRead s (b ++ p) r)

@@ -5,7 +5,7 @@ use Rattle.std.proofs.lemmas.Bool.Decides.{nat_tests}
 use Rattle.vp_dots.specs.Images.{row_bytes}
 use Rattle.vp_join.specs.Strips.{greatest}
 use Rattle.vp_join.specs.Told.{Seen, Told, told, whole, stops, images, width, height, rows, with_byte, with_digit, with_header, continues, is_other}
-use Rattle.vp_join.specs.Standing.{from_phase, so_far, Stands, is_beyond}
+use Rattle.vp_join.specs.Standing.{from_phase, Stands, is_beyond}
 use Rattle.vp_join.specs.Passes.{Tells}
 use Rattle.vp_join.specs.declared.fault.Offence.{Offence}
 use Rattle.vp_join.specs.declared.fault.Offence.TheVariants.{Header, Width, TooTall, Short}
@@ -22,8 +22,7 @@ still : (so : Seen) (t : Told) → t.so ≡ so → Grows so t
 still so t e = record { taller = let h = ap (λ (s : Seen). s.height) e in omega (arith, h); same = λ h. ap (λ (s : Seen). s.width) e }
 
 either : (so : Seen) (b : Bool) (x y : Told) → (b ≡ true → Grows so x) → (b ≡ false → Grows so y) → Grows so (cond b x y)
-either so true x y f g = f refl
-either so false x y f g = g refl
+either so b x y f g = grind arith
 
 same_width : (w v : ℕ) → is_other w v ≡ false → 0 < w → v ≡ w
 same_width w v e h = grind (arith, nat_tests)
@@ -77,15 +76,7 @@ grows_phase (Stopped f) so text = still so (stops so f) refl
 
 -- what is beyond a size stays beyond it
 pub stays_beyond : (s : Reading) (b r more : List ℕ) (size : Size) → Stands s b r → (s.width ≡ 0 → s.height ≡ 0) → is_beyond s size ≡ true → Tells (b ++ more) size → ⊥
-stays_beyond s b r more size h none e t =
-    let k = h more in
-    let g = grows_phase s.phase (so_far s r) more in
-    let high : (from_phase s.phase (so_far s r) more).so.height ≡ size.height = ap (λ (x : Told). x.so.height) (sym k ∙ t.whole_is) in
-    let wide : (from_phase s.phase (so_far s r) more).so.width ≡ size.width = ap (λ (x : Told). x.so.width) (sym k ∙ t.whole_is) in
-    beyond s.width s.height size.width size.height none e (omega (arith, high, g.taller)) (λ p. sym (g.same p) ∙ wide)
-  where
-    beyond : (w h v k : ℕ) → (w ≡ 0 → h ≡ 0) → (ltb k h || (ltb 0 h && not (eqb w v))) ≡ true → h ≤ k → (0 < w → w ≡ v) → ⊥
-    beyond w h v k n e l f = grind (arith, nat_tests, n, f)
+stays_beyond s b r more size h none e t = grind (arith, grows_phase, not, nat_tests)
 
 -- an offence stays one
 pub stays_offence : (text : List ℕ) (size : Size) (so : Seen) (o : Offence) → told text ≡ stops so o → Tells text size → ⊥
@@ -100,7 +91,4 @@ not_wider w h v k e p = grind (arith, nat_tests)
 
 pub within_size : (w h v k n left : ℕ) → n + left ≡ h * row_bytes w → h ≤ k → (0 < h → w ≡ v) → n ≤ k * row_bytes v
 within_size w zero v k n left e l f = omega (arith, e)
-within_size w (suc h) v k n left e l f =
-    let g : w ≡ v = f (omega arith) in
-    let m : suc h * row_bytes v ≤ k * row_bytes v = mul-le-mul_right (row_bytes v) l in
-    omega (arith, m, rw g at e)
+within_size w (suc h) v k n left e l f = grind (arith, mul-le-mul_right)

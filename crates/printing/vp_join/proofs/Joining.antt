@@ -1,5 +1,5 @@
 -- What the two passes come to.
-use Rattle.std.proofs.Common.{inl, inr, ◌≡◌, ℕ, Bool, true, false, ◌&&◌, List, [], ◌++◌, length, Option, Some, None, Ok, Err, refl, sym, ap, subst, ◌∙◌, arith, append_assoc}
+use Rattle.std.proofs.Common.{inl, inr, ◌≡◌, ℕ, Bool, false, ◌&&◌, List, [], ◌++◌, length, Option, Some, Ok, Err, refl, sym, ap, subst, ◌∙◌, arith, append_assoc}
 use Rattle.std.specs.Prelude.{Result, ⊤, ◌||◌}
 use Rattle.std.proofs.lemmas.List.{append-nil, length-append}
 use Rattle.std.proofs.KnownBytes.{Consumes-nil, Appends-nil, Appends-trans}
@@ -20,38 +20,26 @@ refused : (o : Offence) (first : List ℕ) (end : Type 0) → IsFound o first en
 refused o first end h = record { offence_of = λ more f. offence_told (first ++ more) o (h more f); unread = refl; unwritten = refl }
 
 first_ending : (f : JoinFault) (first : List ℕ) (size : Size) (end_first end_second : Type 0) → IsMeasure (Err f) first end_first → IsEnding (Err f) size first [] [] end_first end_second
-first_ending Differ first size e d m = absurd m
-first_ending Read first size e d m = tt
-first_ending Write first size e d m = absurd m
-first_ending TooManyTurns first size e d m = tt
-first_ending _ first size e d m = refused _ first e m
+first_ending f first size e d m = grind (arith, refused)
 
 early : (f : JoinFault) (first : List ℕ) (end : Type 0) → IsMeasure (Err f) first end → is_late (Err f) ≡ false
-early Differ first e m = absurd m
-early Write first e m = absurd m
-early _ first e m = refl
+early f first e m = grind arith
 
 pub first_writes : (f : JoinFault) (first : List ℕ) (end : Type 0) → IsMeasure (Err f) first end → is_write_fault {A = ℕ} (Err f) ≡ false
-first_writes Differ first e m = absurd m
-first_writes Write first e m = absurd m
-first_writes _ first e m = refl
+first_writes f first e m = grind arith
 
 -- the same fault of a pass and of the call
 pub same_read : (f : JoinFault) → is_read_fault {A = ℕ} (Err f) ≡ (is_read_fault {A = Measured} (Err f) || false)
-same_read Header = refl
-same_read _ = refl
+same_read f = grind arith
 
 pub copy_read : (f : JoinFault) → is_read_fault {A = ℕ} (Err f) ≡ is_read_fault {A = ⊤} (Err f)
-copy_read Header = refl
-copy_read _ = refl
+copy_read f = grind arith
 
 pub copy_write : (f : JoinFault) → is_write_fault {A = ⊤} (Err f) ≡ is_write_fault {A = ℕ} (Err f)
-copy_write Header = refl
-copy_write _ = refl
+copy_write f = grind arith
 
 pub not_both : (b : Bool) → (b && false) ≡ false
-not_both true = refl
-not_both false = refl
+not_both b = grind arith
 
 pub after_measure : (f : JoinFault) (a b c k : Option (List ℕ)) (first : List ℕ) → Consumes a c first → IsMeasure (Err f) first (IsAtEnd c) → Joins a c b b k k (Err f)
 after_measure f a b c k first cf m = record {
@@ -138,32 +126,23 @@ module _ (a b c d k0 k1 k2 : Option (List ℕ)) (first head0 rest0 head : List �
 
 -- what is left of a text
 all_read : (text read : List ℕ) (c : Option (List ℕ)) → Consumes (Some text) c read → IsAtEnd c → text ≡ read
-all_read text read None h e = absurd h
-all_read text read (Some more) h e = h ∙ ap (λ x. read ++ x) e ∙ append-nil read
+all_read text read c h e = grind (arith, append-nil)
 
 exact_offence : (o : Offence) (text first second written : List ℕ) (c k0 k1 : Option (List ℕ)) → Consumes (Some text) c first → Appends k0 k1 written → IsRefused o first second written (IsAtEnd c)
     → IsOffence text o × Appends k0 k1 []
-exact_offence o text first second written None k0 k1 h p r = absurd h
-exact_offence o text first second written (Some more) k0 k1 h p r = (rw (← h) at (r.offence_of more (λ e. e)), rw r.unwritten at p)
+exact_offence o text first second written c k0 k1 h p r = grind arith
 
 differs_not : (text second : List ℕ) (size : Size) (d : Option (List ℕ)) → Consumes (Some text) d second → ((more : List ℕ) → MayFollow (IsAtEnd d) more → HasSize (second ++ more) size → ⊥) → HasSize text size → ⊥
-differs_not text second size None h f s = absurd h
-differs_not text second size (Some more) h f s = f more (λ e. e) (rw h at s)
+differs_not text second size d h f s = grind arith
 
 -- where both readers tell the same text
 pub exact : (text : List ℕ) (c d k0 k2 : Option (List ℕ)) (result : Result ℕ JoinFault) → Joins (Some text) c (Some text) d k0 k2 result → IsExact text k0 k2 result
-exact text c d k0 k2 (Ok height) j =
-    let w = j.ending in
-    let e = all_read text j.second d j.consumed_second w.at_end in
-    (w.image, rw (← e) at w.joined, w.height_is ∙ sym w.image_height_is, rw w.written_is at j.appended)
+exact text c d k0 k2 (Ok height) j = grind (arith, all_read)
 exact text c d k0 k2 (Err Header) j = exact_offence _ text j.first j.second j.written c k0 k2 j.consumed_first j.appended j.ending
 exact text c d k0 k2 (Err Width) j = exact_offence _ text j.first j.second j.written c k0 k2 j.consumed_first j.appended j.ending
 exact text c d k0 k2 (Err TooTall) j = exact_offence _ text j.first j.second j.written c k0 k2 j.consumed_first j.appended j.ending
 exact text c d k0 k2 (Err Short) j = exact_offence _ text j.first j.second j.written c k0 k2 j.consumed_first j.appended j.ending
-exact text c d k0 k2 (Err Differ) j = elim j.measured [
-  | inl l ↦ let k : true ≡ false = l.1 in cc
-  | inr m ↦ differs_not text j.second j.size d j.consumed_second j.ending (rw (← all_read text j.first c j.consumed_first m.at_end) at m.size_is)
-]
+exact text c d k0 k2 (Err Differ) j = grind (arith, differs_not, all_read)
 exact text c d k0 k2 (Err Read) j = tt
 exact text c d k0 k2 (Err Write) j = tt
 exact text c d k0 k2 (Err TooManyTurns) j = tt

@@ -1,5 +1,5 @@
 -- Where the padding is, row by row.
-use Rattle.std.proofs.Common.{inl, inr, ◌≡◌, ℕ, ◌+◌, ◌-◌, ◌*◌, ◌/◌, ◌%◌, ◌<◌, ◌≤◌, Bool, true, false, eqb, ltb, leb, ◌&&◌, ◌||◌, List, length, get_or, set, refl, sym, ap, ◌∙◌, arith}
+use Rattle.std.proofs.Common.{inl, inr, ◌≡◌, ℕ, ◌+◌, ◌-◌, ◌*◌, ◌/◌, ◌%◌, ◌<◌, ◌≤◌, Bool, false, eqb, ltb, leb, ◌&&◌, ◌||◌, List, length, get_or, set, refl, sym, ap, ◌∙◌, arith}
 use Rattle.std.proofs.lemmas.Nat.{mod-mul-add, mod_below}
 use Rattle.std.proofs.Math.Nat.{div-add-mod}
 use Rattle.std.proofs.lemmas.Bool.{cases_lt, lt-leb, le-ltb}
@@ -34,26 +34,19 @@ module _ (w given : ℕ) (some : 0 < w) where
     last_byte k l = in_row w (8 * given + (8 * last + (7 - k))) p (8 * row_bytes w - 8 + (7 - k)) (omega (arith, at)) (omega arith)
 
 and_false : (b : Bool) → (b && false) ≡ false
-and_false true = refl
-and_false false = refl
+and_false b = grind arith
 
 no_ink : (b c : Bool) → (b && false || c && false) ≡ false
-no_ink true true = refl
-no_ink true false = refl
-no_ink false true = refl
-no_ink false false = refl
+no_ink b c = grind arith
 
 up_to_last : (d last n : ℕ) (f : Bool) → d < 8 * (last + 1) → 0 < n → (ltb d (8 * (last + n)) && f) ≡ (ltb d (8 * last) && f || eqb (d / 8) last && f)
-up_to_last d last n true l h = grind (arith, nat_tests)
-up_to_last d last n false l h = and_false (ltb d (8 * (last + n))) ∙ sym (no_ink (ltb d (8 * last)) (eqb (d / 8) last))
+up_to_last d last n f l h = grind (arith, nat_tests, and_false, no_ink)
 
 past_last : (d last n : ℕ) (f : Bool) → 8 * (last + 1) ≤ d → 8 * (last + n) ≤ d → (ltb d (8 * (last + n)) && f) ≡ (ltb d (8 * last) && f || eqb (d / 8) last && f)
-past_last d last n true l h = grind (arith, nat_tests)
-past_last d last n false l h = and_false (ltb d (8 * (last + n))) ∙ sym (no_ink (ltb d (8 * last)) (eqb (d / 8) last))
+past_last d last n f l h = grind (arith, nat_tests, and_false, no_ink)
 
 before_last : (d last : ℕ) (f : Bool) → (ltb d (8 * last) && f && (eqb (d / 8) last && f)) ≡ false
-before_last d last true = grind (arith, nat_tests)
-before_last d last false = ap (λ b. b && (eqb (d / 8) last && false)) (and_false (ltb d (8 * last)))
+before_last d last f = grind (arith, nat_tests, and_false)
 
 module _ (w given : ℕ) where
   abbrev pub done : ℕ → ℕ → Bool

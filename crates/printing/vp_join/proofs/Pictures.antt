@@ -18,10 +18,7 @@ fits_pieces piece f a zero (suc i) = omega arith
 fits_pieces piece f a (suc h) i = fits_append (piece a) (flat_map piece (range_with_len (a + 1) h)) (f a) (fits_pieces piece f (a + 1) h) i
 
 in_width : (x w : ℕ) (p q : Bool) → (x < w → p ≡ q) → (ltb x w && p) ≡ (not (leb w x) && q)
-in_width x w p q h = elim (cases_lt x w) [
-  | inl l ↦ rw (lt-ltb x w l, lt-leb w x l) (h l)
-  | inr g ↦ rw (le-ltb x w g, le-leb w x g) refl
-]
+in_width x w p q h = grind (arith, lt-ltb, lt-leb, le-ltb, le-leb)
 
 module _ (i : Image) (raw : List ℕ) (long : length raw ≡ i.height * row_bytes i.width)
     (dots : (x y : ℕ) → x < i.width → y < i.height → i.is_black x y ≡ dot raw (8 * (y * row_bytes i.width) + x)) where

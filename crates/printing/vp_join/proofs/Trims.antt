@@ -1,5 +1,5 @@
 -- Rows without padding, one piece after the other.
-use Rattle.std.proofs.Common.{inl, inr, ◌≡◌, ◌<◌, ◌≤◌, ◌+◌, ◌-◌, ◌*◌, ◌/◌, ◌%◌, ◌^◌, ℕ, Bool, true, false, not, ◌&&◌, List, ◌++◌, length, get_or, take, refl, sym, ap, ◌∙◌, arith, length-append}
+use Rattle.std.proofs.Common.{inl, inr, ◌≡◌, ◌<◌, ◌≤◌, ◌+◌, ◌-◌, ◌*◌, ◌/◌, ◌%◌, ◌^◌, ℕ, Bool, not, ◌&&◌, List, ◌++◌, length, get_or, take, sym, ap, ◌∙◌, arith, length-append}
 use Rattle.std.proofs.lemmas.List.{get_or_append_left, get_or-append_right, get_or_past}
 use Rattle.std.proofs.Math.Seq.{take-append_seam}
 use Rattle.std.proofs.lemmas.Bool.{cases_lt}
@@ -16,20 +16,13 @@ dot-append_left a b d h = ap (λ n. bit n (7 - d % 8)) (get_or_append_left a b 0
 
 pub dot-append_right : (a b : List ℕ) (d : ℕ) → 8 * length a ≤ d → dot (a ++ b) d ≡ dot b (d - 8 * length a)
 unfolding dot
-dot-append_right a b d h =
-    let q : (d - 8 * length a) / 8 ≡ d / 8 - length a = omega arith in
-    let r : (d - 8 * length a) % 8 ≡ d % 8 = omega arith in
-    rw (q, r) (ap (λ n. bit n (7 - d % 8)) (get_or-append_right a b (length a) (d / 8) 0 refl (omega arith)))
+dot-append_right a b d h = grind (arith, get_or-append_right)
 
 pub fits_append : (a b : List ℕ) → ((i : ℕ) → get_or a i 0 < 2 ^ 8) → ((i : ℕ) → get_or b i 0 < 2 ^ 8) → (i : ℕ) → get_or (a ++ b) i 0 < 2 ^ 8
-fits_append a b f g i = elim (cases_lt i (length a)) [
-  | inl l ↦ rw (get_or_append_left a b 0 i l) (f i)
-  | inr h ↦ rw (get_or-append_right a b (length a) i 0 refl h) (g (i - length a))
-]
+fits_append a b f g i = grind (arith, get_or_append_left, get_or-append_right)
 
 white : (p q : Bool) → paint White p q ≡ (not p && q)
-white true q = refl
-white false q = refl
+white p q = grind arith
 
 pub length-without_padding : (w : ℕ) (r : List ℕ) → length (without_padding w r) ≡ length r
 length-without_padding w r = length-row_from (length r) (λ d. not (is_padding w d) && dot r d) 0
@@ -55,10 +48,7 @@ without_padding-append w r x y fits p =
     ]))
 
 fits_front : (y z : List ℕ) → ((i : ℕ) → get_or (y ++ z) i 0 < 2 ^ 8) → (i : ℕ) → get_or y i 0 < 2 ^ 8
-fits_front y z f i = elim (cases_lt i (length y)) [
-  | inl l ↦ rw (get_or_append_left y z 0 i l) at (f i)
-  | inr g ↦ rw (get_or_past y i 0 g) (omega arith)
-]
+fits_front y z f i = grind (arith, get_or_append_left, get_or_past)
 
 -- the same where the piece is the front of a longer room
 pub without_padding-room : (w given m : ℕ) (r x y z : List ℕ) → given ≡ length r → length x ≡ m → ((i : ℕ) → get_or (y ++ z) i 0 < 2 ^ 8)

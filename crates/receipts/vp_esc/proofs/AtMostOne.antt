@@ -1,5 +1,5 @@
 -- A byte gives at most one item.
-use Rattle.std.proofs.Common.{◌≡◌, ℕ, ◌+◌, ◌-◌, ◌*◌, ◌≤◌, Bool, cond, ltb, eqb, Option, List, [], ◌∷◌, ◌++◌, length, map, append_assoc, arith, lit≤, length-append}
+use Rattle.std.proofs.Common.{◌≡◌, ℕ, ◌+◌, ◌*◌, ◌≤◌, Bool, cond, ltb, eqb, Option, List, [], ◌∷◌, ◌++◌, length, map, append_assoc, arith, lit≤, length-append}
 use Rattle.std.proofs.lemmas.List.{append-nil, map_push, length_push}
 use Rattle.vp_esc.specs.declared.item.EscItem.{EscItem}
 use Rattle.vp_esc.specs.declared.item.EscItem.TheVariants as items

@@ -19,7 +19,7 @@ use Rattle.vp_receipt_settings.specs.Setup.{Setup}
 use Rattle.vp_receipt_settings.specs.Texts.{text_in_force}
 use Rattle.vp_receipt_settings.specs.Pages.{is_paged, is_area, area_cut, is_vertical_move, vertical_moved}
 use Rattle.vp_receipt_settings.specs.Rasters.{draws, scale_or, times_down}
-use Rattle.vp_receipt_settings.specs.Line.{Placed, line, mode, is_open}
+use Rattle.vp_receipt_settings.specs.Line.{Placed, line, mode}
 use Rattle.vp_receipt_settings.specs.Settings.{settings_of, settings_length}
 use Rattle.vp_receipt_settings.specs.Effects.{effect_of, feed_of, is_full_of, is_page, waits_of, runs_along}
 use Rattle.vp_strips.specs.LineDots.{HasOpen}

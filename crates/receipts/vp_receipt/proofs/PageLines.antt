@@ -17,7 +17,7 @@ use Rattle.vp_receipt_settings.specs.declared.page_mode.PrinterMode.{PrinterMode
 use Rattle.vp_receipt_settings.specs.declared.page_mode.PrinterMode.TheVariants.{Page}
 use Rattle.vp_strips.specs.Held.{whole}
 use Rattle.vp_receipt.specs.Standing.{HasPageIf, IsSettled}
-use Rattle.vp_receipt_settings.specs.Line.{height, line, is_open, mode}
+use Rattle.vp_receipt_settings.specs.Line.{line, is_open, mode}
 use Rattle.vp_receipt_settings.specs.Settings.{settings_of}
 use Rattle.vp_strips.specs.LineDots.{HasDots}
 use Rattle.vp_receipt.specs.PageMarks.{HasRows, mark_of, line_dot, line_mark, laid_if, layers, layers_with}

@@ -17,7 +17,7 @@ use Rattle.vp_receipt_settings.specs.declared.raster.Raster.{Raster}
 use Rattle.vp_receipt_settings.specs.declared.settings.Settings.{Settings}
 use Rattle.vp_receipt_settings.proofs.Widths.{dots_across, some_bytes}
 use Rattle.vp_receipt_settings.specs.Gathering.{IsGathering, IsPartRow, left_of, room_of, run_of}
-use Rattle.vp_receipt_settings.specs.Line.{mode, left_margin}
+use Rattle.vp_receipt_settings.specs.Line.{mode}
 use Rattle.vp_receipt_settings.specs.Settings.{settings_of, paper_length, printed_at}
 use Rattle.vp_receipt_settings.specs.Rasters.{raster_scale, raster_bytes, row_so_far, is_row_end, bytes_after, row_at, times_across, times_down}
 use Rattle.vp_receipt_settings.specs.Runs.{below}

@@ -1,5 +1,5 @@
 -- What a job keeps, where another field changes.
-use Rattle.std.proofs.Common.{is_some, IsTrue, ◌↔◌, ◌≡◌, ◌<◌, ◌≤◌, ◌-◌, ℕ, ◌++◌, length, drop, arith, length-append, length-drop, Option, Some, None}
+use Rattle.std.proofs.Common.{is_some, IsTrue, ◌↔◌, ◌≡◌, ◌<◌, ◌≤◌, ℕ, ◌++◌, length, drop, arith, length-append, length-drop, Option, Some, None}
 use Rattle.vp_strips.specs.Canvases.{Canvas}
 use Rattle.vp_strips.specs.declared.job.Job.{Job}
 use Rattle.vp_strips.specs.declared.job.After.{After}
