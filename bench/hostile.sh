@@ -93,6 +93,11 @@ measure 'the same, of characters of many strokes' '^PW1248' 1024 \
     "^A0B,1500,1500^FB8000,9999,-1495,L^FD$(repeated 255 @)^FS"
 measure 'the same, no line as the one above' '^PW1248' 1024 \
     "^A0B,1500,1500^FB8000,9999,-1495,L^FD$(repeated 25 'AAAAA@@@@@')AAAAA^FS"
+measure 'the same, three lines in turn' '^PW1248' 1024 \
+    "^A0B,1500,1500^FB8000,9999,-1495,L^FD$(repeated 17 'AAAAA@@@@@MMMMM')^FS"
+# each line of another character, from ! on without those that mean something to the reader
+lines=$(awk 'BEGIN { for (i = 33; i < 85; i++) { c = sprintf("%c", i); printf "%s%s%s%s%s", c, c, c, c, c } }')
+measure 'the same, each line another' '^PW1248' 1024 "^A0B,1500,1500^FB8000,9999,-1495,L^FD$lines^FS"
 words=$(repeated 200 A)
 measure 'a turned block of lines of three cells over each other' '^PW1248' 1 \
     "^A0R,1500,1500^FB5000,10,0,R^FD$(repeated 1300 "$words ")^FS"
