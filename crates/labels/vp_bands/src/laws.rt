@@ -19,8 +19,8 @@ pub fn work_bounded()
 {}
 
 /// In a band a field takes at most 16,416, or 43,960 where its lines lie across the rows, and with that 262
-/// times the bytes of its text and twice those of its codes. So a copy takes at most 43,960 for each pair of a
-/// field and a band that it meets, and in each band 262 times the bytes of all texts and twice those of all
+/// times the bytes of its text and twice those of its codes. So a copy takes at most 43,960 for each pair of
+/// a field and a band that it meets, and in each band 262 times the bytes of all texts and twice those of all
 /// codes.
 pub fn a_field_costs_at_most()
     ensures { CostsAtMost }

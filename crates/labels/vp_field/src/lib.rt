@@ -17,8 +17,8 @@
 //! - `axis`, `laid`: which way the lines of an ink run on the label as it is put out, and where they begin.
 //! - `stretched`: which rows of stretched characters are alike.
 //! - `pieces`: inks that tell of how many pieces their lines are painted.
-//! - `line`, `pen`: lines of ink, drawn along places and painted on rows, and counted with their pieces as they
-//!   are handed out.
+//! - `line`, `pen`: lines of ink, drawn along places and painted on rows, and counted with their pieces as
+//!   they are handed out.
 //! - `plain`, `square`: columns of dots, turned many at once.
 //! - `paint`, `across`, `standing`: ink painted along the rows of a band or across them.
 //! - `band`: a white band, and one cut at the label's edges.
