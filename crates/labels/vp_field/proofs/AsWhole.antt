@@ -78,8 +78,8 @@ half_more f old new x d h p e t = elim (cases_lt d 32) [
   | inl l ↦ elim (cases_eq d x) [
     | inl y ↦ rw (y, e, lt-ltb x 32 h, lt-ltb x (x + 1) (omega arith), t) (ap (λ n. eqb n 1) (bit_at_set_same w32 old (31 - x) (omega arith)))
     | inr n ↦
-      let other : bit_at new (31 - d) ≡ bit_at old (31 - d) = rw e (bit_at_set_other w32 old (31 - x) (omega arith) (31 - d) (λ same. n (omega (arith, same)))) in
-      rw other (p ∙ ap (λ b. b && f d) (one_less d x n))
+        let other : bit_at new (31 - d) ≡ bit_at old (31 - d) = rw e (bit_at_set_other w32 old (31 - x) (omega arith) (31 - d) (λ same. n (omega (arith, same)))) in
+        rw other (p ∙ ap (λ b. b && f d) (one_less d x n))
   ]
 ]
   where

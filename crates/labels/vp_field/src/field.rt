@@ -11,6 +11,7 @@ ghost use Rattle.vp_field.specs.Contents.{lines_cost, most_work, LiesIn, IsText,
 ghost use Rattle.vp_field.specs.Standing.{standing, IsNear};
 ghost use Rattle.vp_field.specs.Fields.{field_ink, stroke_of, IsDrawn, IsEncoded, IsKept, AreMarksOf};
 ghost use Rattle.vp_field.specs.Strokes.{Stroke};
+ghost use Rattle.vp_field.specs.Frames.{frame_dot};
 ghost use Rattle.vp_field.specs.Views.{seen_x, seen_y};
 ghost use Rattle.vp_field.specs.Bands.{Shows, IsCounted};
 ghost use Rattle.vp_field.specs.Drawn.{drawn};
@@ -20,7 +21,7 @@ use crate::axis::{Axis, Lines};
 use crate::block_band::BlockBand;
 use crate::block_columns::paint_block_across;
 use crate::content::{block_of, bytes_of, cells};
-use crate::frame::Frame;
+use crate::frame::{Frame, Hollow};
 use crate::line::drawn_at;
 use crate::lines::BlockRows;
 use crate::marks::{DrawnSymbol, Marks};
@@ -116,6 +117,23 @@ fn paint_block<A: Small>(
         Lines::Along => walked + paint_block_along(block, row, laid.columns, on, first, band),
         Lines::Across => walked + paint_block_across(&block, on.op, laid, first, band),
     }
+}
+
+/// Paints a box: how many lines of ink it drew, and pieces of them.
+fn paint_frame<A: Small>(frame: Frame, on: Standing, first: u32, band: &mut LabelBand<A>) -> u64
+    requires near { IsNear on.left on.top }
+    ensures dots { RowsPainted BAND_ROWS on.op (λ x k. standing on.left on.top on.orientation frame.w frame.h
+        (frame_dot frame.w frame.h frame.t) (seen_x on.view (pos x)) (seen_y on.view (pos (first + k))))
+        band.old band.new }
+    ensures lines { result ≤ lines_cost (lines_of on.orientation) (λ d. 1) }
+    ensures counted { IsCounted (λ x k. standing on.left on.top on.orientation frame.w frame.h
+        (frame_dot frame.w frame.h frame.t) (seen_x on.view (pos x)) (seen_y on.view (pos (first + k))))
+        result }
+{
+    if frame.is_hollow() {
+        return paint_standing(&Hollow { frame }, on, first, band);
+    }
+    paint_standing(&frame, on, first, band)
 }
 
 /// Encodes a linear symbol where no earlier band left it: there is none where the data have none.
@@ -248,7 +266,7 @@ fn paint_content<A: Small>(
     match field.content {
         Content::Text(text) => paint_text(sheets, stored, text, turned, first, band),
         Content::Block(block) => paint_block(sheets, stored, block, turned, first, band),
-        Content::Box(shape) => paint_standing(&Frame::of(shape), on, first, band),
+        Content::Box(shape) => paint_frame(Frame::of(shape), on, first, band),
         Content::Picture(picture) => paint_picture(stored, picture, on, marks, first, band),
         Content::Bars(bars) => paint_bars(sheets, stored, bars, turned, marks, first, band),
         Content::Qr(symbol) => paint_qr(stored, symbol, on, marks, first, band),

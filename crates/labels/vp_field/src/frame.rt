@@ -66,6 +66,13 @@ impl Frame {
         }
     }
 
+    /// Whether it is wider than a word, and has lines that show its sides alone.
+    pub fn is_hollow(self) -> bool {
+        self.w > WORD
+            && self.t < self.h.saturating_sub(self.t)
+            && self.t < self.w.saturating_sub(self.t)
+    }
+
     /// Whether line y, which is one of the box's, has ink from its first dot to its last, and not at its
     /// sides alone.
     #[tactic(auto, unfolding(crate::specs::Frames::frame_dot))]
@@ -131,18 +138,55 @@ impl Ink for Frame {
         paint_side(op, at, 0, self.t, row);
         paint_side(op, at, self.w.saturating_sub(self.t), self.t, row);
     }
-
-    #[tactic(auto, unfolding(crate::specs::Frames::frame_dot))]
-    fn alike(&self, y: u32) -> (u32, u32) {
-        let bottom = self.h.saturating_sub(self.t);
-        if y < self.t || y >= bottom {
-            return (y, y);
-        }
-        (self.t, bottom - 1)
-    }
 }
 
 impl Pieces for Frame {
+    ghost most_pieces = { λ s d. 1 };
+
+    fn paint_pieces(&self, y: u32, op: Op, at: i64, row: &mut [u8]) -> u64 {
+        self.paint_row(y, op, at, row);
+        1
+    }
+}
+
+/// A box that isn't filled: the lines that show its sides alone are alike.
+#[derive(Clone, Copy)]
+pub struct Hollow {
+    pub frame: Frame,
+}
+
+impl Ink for Hollow {
+    ghost width = { λ s. s.frame.w };
+
+    ghost height = { λ s. s.frame.h };
+
+    ghost ink_at = { λ s x y. frame_dot s.frame.w s.frame.h s.frame.t x y };
+
+    ghost outside = { λ s x y h. frame_inside s.frame.w s.frame.h s.frame.t x y h };
+
+    fn size(&self) -> (u32, u32) {
+        self.frame.size()
+    }
+
+    fn ink(&self, x: u32, y: u32) -> bool {
+        self.frame.ink(x, y)
+    }
+
+    fn paint_row(&self, y: u32, op: Op, at: i64, row: &mut [u8]) {
+        self.frame.paint_row(y, op, at, row);
+    }
+
+    #[tactic(auto, unfolding(crate::specs::Frames::frame_dot))]
+    fn alike(&self, y: u32) -> (u32, u32) {
+        let bottom = self.frame.h.saturating_sub(self.frame.t);
+        if y < self.frame.t || y >= bottom {
+            return (y, y);
+        }
+        (self.frame.t, bottom - 1)
+    }
+}
+
+impl Pieces for Hollow {
     ghost most_pieces = { λ s d. 1 };
 
     fn paint_pieces(&self, y: u32, op: Op, at: i64, row: &mut [u8]) -> u64 {

@@ -25,7 +25,7 @@ returns-in-Box-clause-dots g c =
     let n = c.requires.kept.near in
     let left : SFits w64 f.left = search (rules, n.left_low, n.left_high) in
     let top : SFits w64 f.top = search (rules, n.top_low, n.top_high) in
-    rw c.in-Box.is (rw (to_z-of_z w64 f.left left, to_z-of_z w64 f.top top, to_z-of_z w64 f.left left, to_z-of_z w64 f.top top) at (rw c.of.ensures at c.paint_standing.ensures.dots))
+    rw c.in-Box.is (rw (to_z-of_z w64 f.left left, to_z-of_z w64 f.top top, to_z-of_z w64 f.left left, to_z-of_z w64 f.top top) at (rw c.of.ensures at c.paint_frame.ensures.dots))
 
 pub returns-in-Bars-clause-dots : goal.returns-in-Bars-clause-dots
 returns-in-Bars-clause-dots g c =
@@ -73,7 +73,7 @@ returns-in-Box-clause-counted g c =
     let n = c.requires.kept.near in
     let left : SFits w64 f.left = search (rules, n.left_low, n.left_high) in
     let top : SFits w64 f.top = search (rules, n.top_low, n.top_high) in
-    rw c.in-Box.is (rw (to_z-of_z w64 f.left left, to_z-of_z w64 f.top top, to_z-of_z w64 f.left left, to_z-of_z w64 f.top top) at (rw c.of.ensures at c.paint_standing.ensures.counted))
+    rw c.in-Box.is (rw (to_z-of_z w64 f.left left, to_z-of_z w64 f.top top, to_z-of_z w64 f.left left, to_z-of_z w64 f.top top) at (rw c.of.ensures at c.paint_frame.ensures.counted))
 
 pub returns-in-Bars-clause-counted : goal.returns-in-Bars-clause-counted
 returns-in-Bars-clause-counted g c =
