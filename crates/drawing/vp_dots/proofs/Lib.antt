@@ -19,3 +19,4 @@ pub mod Columns
 pub mod Squares
 pub mod EndForEnd
 pub mod Handles
+pub mod Unlike

@@ -9,6 +9,7 @@
 //! - `span`: all dots from one to another.
 //! - `kernel`: the dots of one row on another, moved by any offset. `reversed`: a row turned end for end.
 //! - `word`: 64 dots at once, cut out of a row and painted on one.
+//! - `lanes`: many numbers looked at at once.
 //! - `square`: 64 by 64 dots in 64 words, rows and columns exchanged.
 //! - `place`: an ink at a place of a band.
 //! - `band`, `store`: rows of dots and bytes on the heap. `room`: as much of it as is asked for.
@@ -26,6 +27,7 @@ mod band;
 mod fault;
 mod image;
 mod kernel;
+mod lanes;
 mod listing;
 mod place;
 mod reversed;
@@ -42,6 +44,7 @@ pub use band::Band;
 pub use fault::{Fault, Why};
 pub use image::{dots_decide, header, image_law, row_law};
 pub use kernel::{clear_into, or_into, paint_into, painted_law, shift_law, xor_into};
+pub use lanes::{edges, inked};
 pub use listing::{list, spell};
 pub use place::{paint_at, paint_words};
 pub use reversed::{copy_reversed, reversed_at};

@@ -1,6 +1,6 @@
 -- Many rows of a block, line by line.
-use Rattle.std.proofs.Common.{inl, inr, ◌≡◌, ℕ, ◌+◌, ◌-◌, ◌*◌, ◌/◌, ◌<◌, ◌≤◌, min, Bool, true, false, ltb, leb, ◌&&◌, ◌||◌, get_or, set, length, replicate, bit_or, cond, eqb, zero, suc, ◌^◌, w32, refl, sym, ap, ◌∙◌, arith, List, Option, ℤ}
-use Rattle.std.proofs.Math.Nat.{div-lt_iff_lt-mul, le-div_iff_mul-le, div-le_self, div-mul-le_self, mul-le-mul_right}
+use Rattle.std.proofs.Common.{inl, inr, ◌%◌, ◌≡◌, ℕ, ◌+◌, ◌-◌, ◌*◌, ◌/◌, ◌<◌, ◌≤◌, min, Bool, true, false, ltb, leb, ◌&&◌, ◌||◌, get_or, set, length, replicate, bit_or, cond, eqb, zero, suc, ◌^◌, w64, refl, sym, ap, ◌∙◌, arith, List, Option, ℤ}
+use Rattle.std.proofs.Math.Nat.{mul-le-mul_left, pow-le-pow_right, div-lt_iff_lt-mul, le-div_iff_mul-le, div-le_self, div-mul-le_self, mul-le-mul_right}
 use Rattle.std.proofs.lemmas.List.{get_or-set_same, get_or-set_other, get_or_past}
 use Rattle.std.proofs.lemmas.Bool.{cases_eq, cases_lt, lt-ltb, le-ltb, lt-leb, le-leb}
 use Rattle.std.proofs.lemmas.Nat.Bits.{bit_at-zero, bit_at-trailing_zeros}
@@ -343,36 +343,33 @@ pub no_front : (n : ℕ) (old : List ℕ) (i x : ℕ) → get_or old i 0 ≡ 0 �
 no_front n old i x e = ap (λ v. half_dot v x || half_dot (get_or (replicate {A = ℕ} n 0) (i / 16) 0) x) e ∙ ap (λ t. t || half_dot (get_or (replicate {A = ℕ} n 0) (i / 16) 0) x) (white_half x)
     ∙ ap (λ v. half_dot v x) (zero_at n (i / 16)) ∙ white_half x
 
--- a row more, which is like the one below it
-pub edges_same : (rows : List ℕ) (n edges : ℕ) → AreEdges rows n edges → get_or rows (n + 1) 0 ≡ get_or rows n 0 → AreEdges rows (n + 1) edges
-edges_same rows n edges p e s l z = elim (cases_lt s n) [
-  | inl k ↦ p s k z
-  | inr k ↦ (let q : s ≡ n = omega arith in rw q e)
-]
-
 neither : (a b : Bool) → cond b true a ≡ false → (a ≡ false) × (b ≡ false)
 neither false false e = (refl, refl)
 neither false true e = absurd cc
 neither true false e = absurd cc
 neither true true e = absurd cc
 
-first_bit : bit 1 0 ≡ true
-unfolding bit
-first_bit = refl
+-- a bit of eight that are moved to the left
+moved_bit : (n k s : ℕ) → n < 2 ^ 8 → k ≤ 16 → k ≤ s → bit (n * 2 ^ k % 2 ^ 64) s ≡ false → bit n (s - k) ≡ false
+moved_bit n k s l m h z =
+    let q : 2 ^ k ≤ 2 ^ 16 = pow-le-pow_right (omega arith) m in
+    let p : n * 2 ^ k ≤ n * 2 ^ 16 = mul-le-mul_left n q in
+    let e : n * 2 ^ k % 2 ^ 64 ≡ n * 2 ^ k = omega (arith, p) in
+    ap (λ t. t && bit n (s - k)) (sym (le-leb k s h)) ∙ sym (bit_shl n k s) ∙ ap (λ v. bit v s) (sym e) ∙ z
 
-bit_itself : (n v : ℕ) → v ≡ 2 ^ n → bit v n ≡ true
-bit_itself n v e =
-    let none : n - n ≡ 0 = omega arith in
-    let one : v ≡ 1 * 2 ^ n = omega (arith, e) in
-    ap (λ w. bit w n) one ∙ bit_shl 1 n n ∙ rw (le-leb n n (omega arith), none) first_bit
-
--- a row more, whose bit is set
-pub edges_more : (rows : List ℕ) (n edges v : ℕ) → v ≡ 2 ^ n → AreEdges rows n edges → AreEdges rows (n + 1) (bit_or edges v)
-edges_more rows n edges v e p s l z =
-    let off = neither (bit edges s) (bit v s) (sym (bit_of_or edges v s) ∙ z) in
-    elim (cases_eq s n) [
-      | inl q ↦ absurd (let t : bit v s ≡ true = ap (bit v) q ∙ bit_itself n v e in let f = off.1 in cc)
-      | inr q ↦ p s (omega arith) off.0
+-- what three times eight bits say where they are 0, the second from bit 8 on, the third from bit k on
+pub three_eights : (P : ℕ → Type 0) (a b c k s : ℕ) → b < 2 ^ 8 → c < 2 ^ 8 → k ≤ 16 → s < k + 8
+    → ((t : ℕ) → t < 8 → bit a t ≡ false → P (0 + t)) → ((t : ℕ) → t < 8 → bit b t ≡ false → P (8 + t)) → ((t : ℕ) → t < 8 → bit c t ≡ false → P (k + t))
+    → bit (bit_or (bit_or a (b * 2 ^ 8 % 2 ^ 64)) (c * 2 ^ k % 2 ^ 64)) s ≡ false → P s
+three_eights P a b c k s l m h g f1 f2 f3 z =
+    let last = neither (bit (bit_or a (b * 2 ^ 8 % 2 ^ 64)) s) (bit (c * 2 ^ k % 2 ^ 64) s) (sym (bit_of_or _ (c * 2 ^ k % 2 ^ 64) s) ∙ z) in
+    let two = neither (bit a s) (bit (b * 2 ^ 8 % 2 ^ 64) s) (sym (bit_of_or a (b * 2 ^ 8 % 2 ^ 64) s) ∙ last.0) in
+    elim (cases_lt s 8) [
+      | inl y ↦ (let e : 0 + s ≡ s = omega arith in rw (sym e) (f1 s y two.0))
+      | inr n ↦ elim (cases_lt s 16) [
+        | inl y ↦ (let e : 8 + (s - 8) ≡ s = omega arith in rw (sym e) (f2 (s - 8) (omega arith) (moved_bit b 8 s l (omega arith) n two.1)))
+        | inr q ↦ (let e : k + (s - k) ≡ s = omega arith in rw (sym e) (f3 (s - k) (omega arith) (moved_bit c k s m h (omega arith) last.1)))
+      ]
     ]
 
 alike_upto : (rows : List ℕ) (edges s q : ℕ) → AreEdges rows 23 edges → q ≤ 24 → ((r : ℕ) → s ≤ r → r + 1 < q → bit edges r ≡ false) → (k : ℕ) → s + k < q → get_or rows (s + k) 0 ≡ get_or rows s 0
@@ -387,32 +384,16 @@ alike_rows rows edges s q p l h r a b =
     let e : r ≡ s + (r - s) = omega arith in
     rw e (alike_upto rows edges s q p l h (r - s) (omega arith))
 
--- a row more, which is white
-pub inked_same : (rows : List ℕ) (n inked : ℕ) → AreInked rows n inked → get_or rows n 0 ≡ 0 → AreInked rows (n + 1) inked
-inked_same rows n inked p e s l z = elim (cases_lt s n) [
-  | inl k ↦ p s k z
-  | inr k ↦ (let q : s ≡ n = omega arith in rw q e)
-]
-
--- a row more, whose bit is set
-pub inked_more : (rows : List ℕ) (n inked v : ℕ) → v ≡ 2 ^ n → AreInked rows n inked → AreInked rows (n + 1) (bit_or inked v)
-inked_more rows n inked v e p s l z =
-    let off = neither (bit inked s) (bit v s) (sym (bit_of_or inked v s) ∙ z) in
-    elim (cases_eq s n) [
-      | inl q ↦ absurd (let t : bit v s ≡ true = ap (bit v) q ∙ bit_itself n v e in let f = off.1 in cc)
-      | inr q ↦ p s (omega arith) off.0
-    ]
-
 -- no bit below the lowest is set
-bits_below : (n i : ℕ) → n < 2 ^ 32 → i < trailing_zeros w32 n → bit n i ≡ false
+bits_below : (n i : ℕ) → n < 2 ^ 64 → i < trailing_zeros w64 n → bit n i ≡ false
 unfolding bit
 bits_below n i l m = elim (cases_eq n 0) [
   | inl e ↦ rw e (ap (λ b. eqb b 1) (bit_at-zero i))
-  | inr g ↦ ap (λ b. eqb b 1) ((bit_at-trailing_zeros w32 n (omega arith) l).2 i m)
+  | inr g ↦ ap (λ b. eqb b 1) ((bit_at-trailing_zeros w64 n (omega arith) l).2 i m)
 ]
 
 -- no bit from s on is set before the lowest of them
-pub bits_from : (n s r : ℕ) → n < 2 ^ 32 → s ≤ r → r < s + trailing_zeros w32 (n / 2 ^ s) → bit n r ≡ false
+pub bits_from : (n s r : ℕ) → n < 2 ^ 64 → s ≤ r → r < s + trailing_zeros w64 (n / 2 ^ s) → bit n r ≡ false
 bits_from n s r l k m =
     let few = div-le_self n (2 ^ s) in
     let back : s + (r - s) ≡ r = omega arith in

@@ -7,7 +7,7 @@ ghost use Rattle.vp_glyph.specs.Layouts.{layout_of, AreRowsOf};
 
 use crate::block::Block;
 use crate::lines::{Line, hand_line};
-use vp_dots::Small;
+use vp_dots::{Small, edges, inked};
 
 /// Of so many fronts side by side the dots that all have are kept once.
 const GROUP: usize = 16;
@@ -108,36 +108,26 @@ fn settle<const N: usize>(groups: &[u32; GROUPS], fronts: &mut [u32; N])
 }
 
 /// Which of 24 rows, the first by the lowest bit, isn't like the row below it.
-fn edges_of(rows: &[u32; 24]) -> u32
+#[inline(always)]
+fn edges_of(rows: &[u32; 24]) -> u64
     ensures { AreEdges rows.now 23 result }
 {
-    let mut edges = 0u32;
-    for s in 0..23u32 {
-        if rows[s as usize] != rows[s as usize + 1] {
-            edges |= 1 << s;
-        }
-    }
-    edges
+    edges::<8>(rows, 0) | edges::<8>(rows, 8) << 8 | edges::<8>(rows, 15) << 15
 }
 
 /// Which of 24 rows, the first by the lowest bit, has a black dot.
-fn inked_of(rows: &[u32; 24]) -> u32
+#[inline(always)]
+fn inked_of(rows: &[u32; 24]) -> u64
     ensures { AreInked rows.now 24 result }
 {
-    let mut inked = 0u32;
-    for s in 0..24u32 {
-        if rows[s as usize] != 0 {
-            inked |= 1 << s;
-        }
-    }
-    inked
+    inked::<8>(rows, 0) | inked::<8>(rows, 8) << 8 | inked::<8>(rows, 16) << 16
 }
 
 /// How many bits of a number from bit s on are 0 before the first that is 1.
 #[inline(always)]
-fn zeros_from(bits: u32, s: u32) -> u32
+fn zeros_from(bits: u64, s: u32) -> u32
     requires { s ≤ 24 }
-    ensures few { result ≤ 32 }
+    ensures few { result ≤ 64 }
     ensures zeros { (r : ℕ) → s ≤ r → r < s + result → bit bits r ≡ false }
 {
     (bits >> s).trailing_zeros()
@@ -147,8 +137,8 @@ fn zeros_from(bits: u32, s: u32) -> u32
 #[derive(Clone, Copy)]
 struct Shown {
     rows: [u32; 24],
-    edges: u32,
-    inked: u32,
+    edges: u64,
+    inked: u64,
     ghost edges_are: { AreEdges rows 23 edges },
     ghost inked_are: { AreInked rows 24 inked },
 }
@@ -190,27 +180,60 @@ impl Shown {
     }
 }
 
+/// On which rows of a cell those of the sheet are shown.
+#[derive(Drop)]
+struct Starts {
+    /// How many rows high the cell is drawn in all.
+    high: u32,
+    /// The first row that shows row s of 24, and behind them all the end.
+    rows: [u32; 25],
+    ghost are: { (s : ℕ) → s ≤ 24 → slice_index rows s ≡ (s * high + 23) / 24 },
+}
+
+impl Starts {
+    /// Those of a cell that is drawn `high` rows high.
+    fn of(high: u32) -> Starts
+        ensures { result.high ≡ high }
+    {
+        let mut rows = [0; 25];
+        for s in 0..25u32 {
+            rows[s as usize] = first_row(s, high);
+        }
+        Starts { high, rows }
+    }
+
+    /// The first row that shows row s of 24, or the end.
+    #[inline(always)]
+    fn first(&self, s: u32) -> u32
+        requires { s ≤ 24 }
+        ensures row { result ≡ (s * self.now.high + 23) / 24 }
+        ensures within { result ≤ self.now.high }
+    {
+        self.rows[s as usize]
+    }
+}
+
 /// Adds to the fronts of `N` rows, the first of which is row `top`, the rows of the sheet that are drawn
-/// `high` rows high in all from row `above` on: those that are alike at once.
+/// as high as a cell from row `above` on: those that are alike at once.
 fn spread<const N: usize>(
     shown: &Shown,
     above: u32,
-    high: u32,
+    starts: &Starts,
     top: u32,
     groups: &mut [u32; GROUPS],
     fronts: &mut [u32; N],
 )
-    requires { above + high < 2 ^ 32 }
+    requires { above + starts.now.high < 2 ^ 32 }
     ensures { (i x : ℕ) → i < N → x < 32 → front_dot GROUP groups.new fronts.new i x
         ≡ (front_dot GROUP groups.old fronts.old i x || nat_le above (top + i)
-        && nat_lt (top + i - above) high
-        && half_dot (slice_index shown.now.rows ((top + i - above) * 24 / high)) x) }
+        && nat_lt (top + i - above) starts.now.high
+        && half_dot (slice_index shown.now.rows ((top + i - above) * 24 / starts.now.high)) x) }
 {
     let mut s = shown.next_inked(0);
     while s < 24 {
         let behind = shown.end_of(s);
-        let from = rows_above::<N>(above + first_row(s, high), top);
-        let to = rows_above::<N>(above + first_row(behind, high), top);
+        let from = rows_above::<N>(above + starts.first(s), top);
+        let to = rows_above::<N>(above + starts.first(behind), top);
         blacken_run(shown.rows[s as usize], from, to, groups, fronts);
         s = shown.next_inked(behind);
     }
@@ -288,6 +311,7 @@ impl<A: Small> Block<'_, A> {
         ensures none { result ≡ 0 → (i x : ℕ) → front_dot GROUP groups.new fronts.new i x ≡ false }
     {
         let most = (self.wide / self.w) as usize;
+        let starts = Starts::of(self.h);
         let (above, text) = self.first_line(top);
         let mut place = above;
         let mut left = Some(text);
@@ -303,12 +327,19 @@ impl<A: Small> Block<'_, A> {
             }
             if self.pitch == 0 || place + 1 >= self.rows {
                 let shown = Shown::of(self.joined(text, at, &mut counter));
-                spread(&shown, place * self.pitch, self.h, top, groups, fronts);
+                spread(&shown, place * self.pitch, &starts, top, groups, fronts);
                 return counter;
             }
             let (line, rest) = hand_line(text, most, &mut counter);
             self.keep(line, at, &mut kept, &mut other, &mut counter);
-            spread(&kept.shown, place * self.pitch, self.h, top, groups, fronts);
+            spread(
+                &kept.shown,
+                place * self.pitch,
+                &starts,
+                top,
+                groups,
+                fronts,
+            );
             place = (place + 1).min(self.rows.saturating_sub(1));
             left = rest;
         }

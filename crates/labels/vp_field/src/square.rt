@@ -10,17 +10,29 @@ ghost use Rattle.vp_label_size.specs.declared.TheConstants.{BAND_ROWS};
 
 use crate::axis::Axis;
 use crate::plain::turned_halves;
-use vp_dots::{Op, SIDE, Small, paint_words, turned_square};
+use vp_dots::{Op, SIDE, Small, inked, paint_words, turned_square};
 use vp_label_size::{BAND_ROWS, LabelBand};
 
+/// So many halves of words are looked at at once.
+const AT_ONCE: usize = 16;
+
 /// Whether all halves of words are white.
+#[inline(always)]
 pub fn are_white<const N: usize>(halves: &[u32; N]) -> bool
     ensures { result ≡ true → (i x : ℕ) → i < N → half_dot (slice_index halves.now i) x ≡ false }
 {
-    for i in 0..N {
+    let mut i = 0;
+    while N - i >= AT_ONCE {
+        if inked::<AT_ONCE>(halves, i) != 0 {
+            return false;
+        }
+        i += AT_ONCE;
+    }
+    while i < N {
         if halves[i] != 0 {
             return false;
         }
+        i += 1;
     }
     true
 }

@@ -1,11 +1,6 @@
-use Rattle.std.proofs.Common.{arith, sym}
-use Rattle.std.proofs.lemmas.Nat.{one_shl}
-use Rattle.vp_glyph.proofs.Gathered.{edges_same, edges_more}
+use Rattle.std.proofs.Common.{arith, get_or, ◌≡◌, ◌+◌}
+use Rattle.vp_glyph.proofs.Gathered.{three_eights}
 use Rattle.vp_glyph.proofs.fronts.edges_of.Goals as goal
-use Rattle.vp_glyph.proofs.fronts.edges_of.Goals.{then-rows-s, else-rows-s}
 
-pub loop-s-preserved : goal.loop-s-preserved
-loop-s-preserved c = elim c.if-rows-s.branch [
-  | then-rows-s w ↦ rw w.edges-is (edges_more _ c.loop-s.s _ _ (one_shl c.loop-s.s 32 (omega (arith, c.loop-s-test.true))) c.loop-s.invariant)
-  | else-rows-s w ↦ rw w.edges-is (edges_same _ c.loop-s.s _ c.loop-s.invariant (sym w.if-rows-s.false))
-]
+pub returns : goal.returns
+returns c = λ s l z. three_eights (λ t. get_or c.args.rows.now (t + 1) 0 ≡ get_or c.args.rows.now t 0) c.edges.result _ _ 15 s c.edges-2.ensures.few c.edges-3.ensures.few (omega arith) l c.edges.ensures.alike c.edges-2.ensures.alike c.edges-3.ensures.alike z

@@ -1,11 +1,6 @@
-use Rattle.std.proofs.Common.{arith}
-use Rattle.std.proofs.lemmas.Nat.{one_shl}
-use Rattle.vp_glyph.proofs.Gathered.{inked_same, inked_more}
+use Rattle.std.proofs.Common.{arith, get_or, ◌≡◌}
+use Rattle.vp_glyph.proofs.Gathered.{three_eights}
 use Rattle.vp_glyph.proofs.fronts.inked_of.Goals as goal
-use Rattle.vp_glyph.proofs.fronts.inked_of.Goals.{then-rows-s-ne0, else-rows-s-ne0}
 
-pub loop-s-preserved : goal.loop-s-preserved
-loop-s-preserved c = elim c.if-rows-s-ne0.branch [
-  | then-rows-s-ne0 w ↦ rw w.inked-is (inked_more _ c.loop-s.s _ _ (one_shl c.loop-s.s 32 (omega (arith, c.loop-s-test.true))) c.loop-s.invariant)
-  | else-rows-s-ne0 w ↦ rw w.inked-is (inked_same _ c.loop-s.s _ c.loop-s.invariant w.if-rows-s-ne0.false)
-]
+pub returns : goal.returns
+returns c = λ s l z. three_eights (λ t. get_or c.args.rows.now t 0 ≡ 0) c.inked.result _ _ 16 s c.inked-2.ensures.few c.inked-3.ensures.few (omega arith) l c.inked.ensures.white c.inked-2.ensures.white c.inked-3.ensures.white z

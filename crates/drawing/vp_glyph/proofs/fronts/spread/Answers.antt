@@ -15,8 +15,8 @@ loop-s-preserved g c =
     let s = c.loop-s.s in
     let end = c.end_of-behind.ensures in
     let next = c.next_inked-s-in-loop-s.ensures in
-    let from = c.rows_above-from.ensures ∙ ap (λ e. min (c.args.above + e - c.args.top) g.row.N) c.first_row.ensures.row in
-    let to = c.rows_above-to.ensures ∙ ap (λ e. min (c.args.above + e - c.args.top) g.row.N) c.first_row-in-loop-s.ensures.row in
+    let from = c.rows_above-from.ensures ∙ ap (λ e. min (c.args.above + e - c.args.top) g.row.N) c.first.ensures.row in
+    let to = c.rows_above-to.ensures ∙ ap (λ e. min (c.args.above + e - c.args.top) g.row.N) c.first-in-loop-s.ensures.row in
     record {
       within = next.within;
       added = added_past c.args.shown.now.rows _ _ _ _ _ _ _ _ next.within next.from next.white

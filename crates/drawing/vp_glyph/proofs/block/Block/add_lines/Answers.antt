@@ -1,6 +1,7 @@
-use Rattle.std.proofs.Common.{inl, inr, ℕ, List, ◌+◌, ◌∙◌, ap, get_or, sym, refl, arith, w64, to_z, of_z}
+use Rattle.std.proofs.Common.{inl, inr, ℕ, List, ◌*◌, ◌||◌, ◌+◌, ◌∙◌, ap, get_or, sym, refl, arith, w64, to_z, of_z}
 use Rattle.std.proofs.lemmas.Int.{to_z-of_z}
-use Rattle.vp_glyph.specs.Halves.{half_dot}
+use Rattle.vp_glyph.specs.Halves.{half_dot, front_dot}
+use Rattle.vp_glyph.proofs.Gathered.{shown}
 use Rattle.vp_glyph.proofs.Handed.{pieces_left, less_left}
 use Rattle.vp_glyph.proofs.Joining.{line_added, lines_added, rows_none}
 use Rattle.vp_glyph.proofs.Sheeted.{drawn_none, drawn_more, drawn_all, drawn_joined}
@@ -28,7 +29,7 @@ loop-left-preserved g c =
       kept_are = c.keep.ensures.kept;
       other_are = c.keep.ensures.other;
       drawn = λ i l. drawn_more b.sheet.now b.w b.h b.wide b.rows b.pitch b.alignment (c.args.top + i) _ 4 _ _ c.loop-left.place c.hand_line.result.0.cells _ c.loop-left.left c.hand_line.result.1 c.in-Some.text c.hand_line.result.0.text.now _ _
-          (c.loop-left.invariant.drawn i l) c.in-Some.is c.hand_line.ensures.text c.hand_line.ensures.lines (λ x m. line_added b.sheet.now b.w b.h b.wide b.rows b.pitch b.alignment _ x _ c.loop-left.place _ _ _ _ m (c.spread-in-Some.ensures i x l m) c.keep.ensures.line) (omega arith);
+          (c.loop-left.invariant.drawn i l) c.in-Some.is c.hand_line.ensures.text c.hand_line.ensures.lines (λ x m. line_added b.sheet.now b.w b.h b.wide b.rows b.pitch b.alignment _ x _ c.loop-left.place _ _ _ _ m (c.spread-in-Some.ensures i x l m ∙ ap (λ h. front_dot 16 c.loop-left.groups c.loop-left.fronts i x || shown c.keep.new.kept.shown.rows (c.loop-left.place * b.pitch) h (c.args.top + i) x) c.of-starts.ensures) c.keep.ensures.line) (omega arith);
       counted =
           let less = less_left c.hand_line.result.0.cells c.in-Some.text.now c.hand_line.result.1 c.hand_line.ensures.less in
           let left = ap pieces_left c.in-Some.is in
@@ -69,7 +70,7 @@ returns-then-self-eq0 g c =
             | then-self-eq0-via-then-self-eq0 w ↦ (let p = w.if-self-eq0.true in inl (omega arith))
             | then-self-eq0-via-else-self-eq0+then-place-self w ↦ (let p = w.if-place-self.true in inr (omega (arith, c.loop-left.invariant.place_within)))
           ])
-          (c.spread.ensures i v l m) (λ r u p q. ap (λ (shown : List ℕ). half_dot (get_or shown r 0) u) c.of-shown.ensures ∙ c.joined.ensures.rows r u p q))
+          (c.spread.ensures i v l m ∙ ap (λ h. front_dot 16 c.loop-left.groups c.loop-left.fronts i v || shown c.of-shown.result.rows (c.loop-left.place * b.pitch) h (c.args.top + i) v) c.of-starts.ensures) (λ r u p q. ap (λ (shown : List ℕ). half_dot (get_or shown r 0) u) c.of-shown.ensures ∙ c.joined.ensures.rows r u p q))
           (c.loop-left.invariant.drawn i l) x m;
       most = (let left = ap pieces_left c.in-Some.is in omega (arith, left, c.loop-left.invariant.counted, c.joined.ensures.most));
       none = λ e. absurd (omega (arith, e, c.joined.ensures.some));
