@@ -343,7 +343,7 @@ pub no_front : (n : ℕ) (old : List ℕ) (i x : ℕ) → get_or old i 0 ≡ 0 �
 no_front n old i x e = ap (λ v. half_dot v x || half_dot (get_or (replicate {A = ℕ} n 0) (i / 16) 0) x) e ∙ ap (λ t. t || half_dot (get_or (replicate {A = ℕ} n 0) (i / 16) 0) x) (white_half x)
     ∙ ap (λ v. half_dot v x) (zero_at n (i / 16)) ∙ white_half x
 
-neither : (a b : Bool) → cond b true a ≡ false → (a ≡ false) × (b ≡ false)
+pub neither : (a b : Bool) → cond b true a ≡ false → (a ≡ false) × (b ≡ false)
 neither false false e = (refl, refl)
 neither false true e = absurd cc
 neither true false e = absurd cc
@@ -385,7 +385,7 @@ alike_rows rows edges s q p l h r a b =
     rw e (alike_upto rows edges s q p l h (r - s) (omega arith))
 
 -- no bit below the lowest is set
-bits_below : (n i : ℕ) → n < 2 ^ 64 → i < trailing_zeros w64 n → bit n i ≡ false
+pub bits_below : (n i : ℕ) → n < 2 ^ 64 → i < trailing_zeros w64 n → bit n i ≡ false
 unfolding bit
 bits_below n i l m = elim (cases_eq n 0) [
   | inl e ↦ rw e (ap (λ b. eqb b 1) (bit_at-zero i))

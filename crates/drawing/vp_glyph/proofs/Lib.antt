@@ -13,6 +13,7 @@ pub mod Overlaid
 pub mod Parts
 pub mod Passed
 pub mod Pieces
+pub mod Plain
 pub mod Printed
 pub mod Sheeted
 pub mod Sides

@@ -64,7 +64,7 @@ front_is k b cells text rest e w =
     cc
 
 -- a byte that isn't a backslash is a cell
-plain_piece : (b : ℕ) (text : List ℕ) → eqb b 92 ≡ false → pieces (b ∷ text) ≡ Cell b ∷ pieces text
+pub plain_piece : (b : ℕ) (text : List ℕ) → eqb b 92 ≡ false → pieces (b ∷ text) ≡ Cell b ∷ pieces text
 plain_piece b [] e = refl
 plain_piece b (next ∷ text) e = rw e refl
 

@@ -1,7 +1,10 @@
 //! The lines of a field block.
-ghost use Rattle.std.specs.Prelude.{◌≡◌, ℕ, ◌+◌, ◌-◌, ◌≤◌, ◌<◌, ◌^◌, true, List, ◌∷◌, [], min, length, take, drop, MatchOption, slice_index, Some, None};
+ghost use Rattle.std.specs.Prelude.{◌≡◌, ℕ, ◌+◌, ◌-◌, ◌≤◌, ◌<◌, ◌^◌, ◌==◌, true, false, List, ◌∷◌, [], min, length, take, drop, MatchOption, slice_index, Some, None};
 ghost use Rattle.std.specs.List.{All};
+ghost use Rattle.vp_dots.specs.Dots.{bit};
 ghost use Rattle.vp_glyph.specs.Blocks.{pieces, first, others, last_blank, lines, StandIn, block_lines, line_pieces};
+
+use std::simd::prelude::*;
 
 /// What stands in a text.
 #[derive(Drop)]
@@ -57,6 +60,33 @@ struct Measured<'a> {
     behind: &'a [u8],
 }
 
+/// So many bytes are looked at at once.
+const AT_ONCE: usize = 16;
+
+/// Which of the first bytes of a text are a byte, the first by the lowest bit.
+#[inline(always)]
+fn are_byte(text: &[u8], byte: u8) -> u64
+    requires { AT_ONCE ≤ length text.now }
+    ensures { (i : ℕ) → i < AT_ONCE → bit result i ≡ false → slice_index text.now i == byte ≡ false }
+{
+    u8x16::from_slice(text)
+        .simd_eq(u8x16::splat(byte))
+        .to_bitmask()
+}
+
+/// Whether more than `most` bytes at the front of a text are known to be cells, none of them a blank.
+#[inline(always)]
+fn is_plain(text: &[u8], most: usize) -> bool
+    ensures { result ≡ true → (most < length text.now) × ((i : ℕ) → i ≤ most
+        → (slice_index text.now i == 0x20 ≡ false) × (slice_index text.now i == 0x5c ≡ false)) }
+{
+    if most >= AT_ONCE || text.len() < AT_ONCE {
+        return false;
+    }
+    let others = are_byte(text, b' ') | are_byte(text, b'\\');
+    others.trailing_zeros() as usize > most
+}
+
 /// The front of a paragraph, in lines of at most `most` cells.
 #[tactic(auto, using(crate::proofs::Breaking::last_blank_within))]
 fn measure(text: &[u8], most: usize) -> Measured<'_>
@@ -68,6 +98,13 @@ fn measure(text: &[u8], most: usize) -> Measured<'_>
         ≡ drop (min result.cells most) (first (pieces text.now)) }
     ensures others { others (pieces result.behind.now) ≡ others (pieces text.now) }
 {
+    if is_plain(text, most) {
+        return Measured {
+            cells: most + 1,
+            blank: 0,
+            behind: &text[most..],
+        };
+    }
     let mut at = text;
     let mut blank = 0;
     for i in 0..most {

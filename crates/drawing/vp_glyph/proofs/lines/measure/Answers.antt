@@ -1,6 +1,8 @@
-use Rattle.std.proofs.Common.{arith, length, ◌≡◌, ◌+◌, ◌-◌, refl, ap, ◌∙◌, eq-eqb}
+use Rattle.std.proofs.Common.{arith, sym, take, drop, length-drop, length, ◌≡◌, ◌+◌, ◌-◌, refl, ap, ◌∙◌, eq-eqb}
 use Rattle.std.proofs.lemmas.Bool.{ne_eqb}
-use Rattle.vp_glyph.specs.Blocks.{pieces, first, last_blank}
+use Rattle.std.proofs.lemmas.List.{take_all}
+use Rattle.vp_glyph.specs.Blocks.{pieces, first, others, last_blank}
+use Rattle.vp_glyph.proofs.Plain.{AreCells, cells_enough, no_blank, first_behind, others_behind}
 use Rattle.vp_glyph.proofs.Pieces.{scan_more, behind_all, blank_more, cell_is}
 use Rattle.vp_glyph.proofs.lines.measure.Goals as goal
 use Rattle.vp_glyph.proofs.lines.measure.Goals.{then-b-eq32, else-b-eq32}
@@ -35,3 +37,18 @@ returns-clause-blank c =
     blank_more c.loop-i.i c.in-Some-next_cell.b c.loop-i.blank c.loop-i.blank (first (pieces c.args.text.now)) (cell_is c.loop-i.i _ _ _ _ c.loop-i.invariant.behind c.in-Some-next_cell.ensures)
     c.loop-i.invariant.blank_is (rw (ne_eqb c.in-Some-next_cell.b 32 c.if-b-eq32-2.false) refl)
     ∙ ap (λ n. last_blank n (first (pieces c.args.text.now))) same
+
+pub returns-then-is_plain : goal.returns-then-is_plain
+returns-then-is_plain c =
+    let plain = c.if-is_plain.ensures refl in
+    let cells : AreCells (c.args.most + 1) c.args.text.now = (omega (arith, plain.0), λ j l. (plain.1 j (omega arith)).1) in
+    let fewer : AreCells c.args.most c.args.text.now = (omega (arith, plain.0), λ j l. (plain.1 j (omega arith)).1) in
+    let far = length-drop c.args.most c.args.text.now in
+    let whole : take (length c.args.text.now - c.args.most) (drop c.args.most c.args.text.now) ≡ drop c.args.most c.args.text.now = take_all _ (drop c.args.most c.args.text.now) (omega (arith, far)) in
+    record {
+      cells = (let enough = cells_enough (c.args.most + 1) c.args.text.now cells in omega (arith, enough));
+      blank = sym (no_blank c.args.most c.args.text.now cells (λ j l. (plain.1 j l).0)) ∙ ap (λ n. last_blank n (first (pieces c.args.text.now))) (omega arith);
+      within = omega arith;
+      first = ap (λ t. first (pieces t)) whole ∙ first_behind c.args.most c.args.text.now fewer ∙ ap (λ n. drop n (first (pieces c.args.text.now))) (omega arith);
+      others = ap (λ t. others (pieces t)) whole ∙ others_behind c.args.most c.args.text.now fewer;
+    }
