@@ -13,7 +13,7 @@ use Rattle.vp_dots.specs.Painting.{paint, Painted}
 use Rattle.vp_dots.specs.declared.Op.TheVariants.{Black}
 use Rattle.vp_glyph.specs.Sheets.{Glyphs}
 use Rattle.vp_glyph.specs.Texts.{sampled_dot, text_dot}
-use Rattle.vp_glyph.specs.Halves.{half_dot, AreEdges, AreInked}
+use Rattle.vp_glyph.specs.Halves.{half_dot, AreEdges}
 use Rattle.vp_glyph.proofs.Halves.{or_half, white_half}
 use Rattle.vp_glyph.proofs.Overlaid.{zero_dots, zero_at}
 use Rattle.vp_glyph.proofs.Spread.{quotient, edge_at, from_edge, before_edge, edge_first, edge_last, edge_within}

@@ -1,4 +1,4 @@
-use Rattle.std.proofs.Common.{take, sym, ap, ◌∙◌, arith, eqb}
+use Rattle.std.proofs.Common.{take, sym, ap, ◌∙◌, eqb}
 use Rattle.std.proofs.lemmas.List.{length-take-le, get_or-take}
 use Rattle.vp_glyph.proofs.Plain.{other_byte}
 use Rattle.vp_glyph.proofs.lines.are_byte.Goals as goal
