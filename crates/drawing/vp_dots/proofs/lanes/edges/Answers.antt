@@ -1,5 +1,4 @@
 use Rattle.std.proofs.Common.{arith, sym, get_or, ◌+◌, ◌≡◌, ◌∙◌, ap}
-use lib.Lanes.{chunk}
 use Rattle.std.proofs.lemmas.Simd.{length-chunk, get_or-chunk}
 use Rattle.vp_dots.proofs.Unlike.{unlike_few, unlike_not}
 use Rattle.vp_dots.proofs.lanes.edges.Goals as goal
