@@ -25,3 +25,4 @@ pub mod Moved
 mod Halves
 pub mod Counted
 pub mod Handed
+pub mod Ended

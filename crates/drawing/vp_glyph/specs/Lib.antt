@@ -8,6 +8,7 @@ pub mod Texts
 pub mod Blocks
 -- What the code keeps.
 pub mod Layouts
+pub mod Above
 pub mod Inked
 pub mod Parts
 pub mod Stretches

@@ -1,9 +1,10 @@
 //! A text in a block of lines.
-ghost use Rattle.std.specs.Prelude.{◌≡◌, ◌+◌, ◌-◌, ◌*◌, ◌/◌, ◌<◌, ◌≤◌, ◌≢◌, ◌^◌, nat_le, ◌&&◌, ℕ, true, length, take, drop};
+ghost use Rattle.std.specs.Prelude.{◌≡◌, ◌+◌, ◌-◌, ◌*◌, ◌/◌, ◌<◌, ◌≤◌, ◌≢◌, ◌^◌, nat_le, ◌&&◌, ℕ, true, min, length, take, drop};
 ghost use Rattle.vp_dots.specs.Dots.{dots, shifted};
 ghost use Rattle.vp_dots.specs.Painting.{Painted};
 ghost use Rattle.vp_glyph.specs.Texts.{text_dot};
 ghost use Rattle.vp_glyph.specs.Blocks.{pieces, first, indent, pitch, block_lines, line_dot, lines_dot, block_pieces, block_width, block_height, block_dot, block_inside, line_pieces};
+ghost use Rattle.vp_glyph.specs.Above.{pieces_of, lines_above};
 
 use crate::lines::{Line, behind_cells, hand_line, next_cell, next_line};
 use crate::sampled::{Sampled, paint_cell, seen, source_row};
@@ -180,28 +181,32 @@ impl<A: Small> Block<'_, A> {
 impl<'a, A: Small> Block<'a, A> {
     ghost use Rattle.vp_glyph.specs.Layouts.{layout_of};
 
-    /// The lines that end above row y, as far as they stand apart, are passed: how many, and the text behind.
-    /// Their pieces are counted.
-    fn passed_at(&self, y: u32, walked: &mut u64) -> (u32, &'a [u8])
+    /// The lines that end above row y, as far as they stand apart, are passed: how many, the text behind, and
+    /// how many pieces were handed out for all that are passed.
+    fn passed_at(&self, y: u32) -> (u32, &'a [u8], u64)
         requires { self.now.w ≤ self.now.wide }
         ensures apart { result.0 ≤ self.now.rows - 1 }
         ensures behind { drop result.0 (block_lines (self.now.wide / self.now.w) self.now.text.now)
             ≡ block_lines (self.now.wide / self.now.w) result.1.now }
         ensures less { line_pieces result.1.now ≤ line_pieces self.now.rest.now }
-        ensures walked { walked.new ≤ walked.old + line_pieces self.now.rest.now }
-        ensures kept { walked.old ≤ walked.new }
+        ensures walked { result.2 ≤ self.now.walked + line_pieces self.now.rest.now }
+        ensures counted { result.2 ≡ min (self.now.walked + pieces_of (drop self.now.passed
+            (take (lines_above (layout_of self.now) y)
+            (block_lines (self.now.wide / self.now.w) self.now.text.now)))) (2 ^ 64 - 1) }
     {
         let most = (self.wide / self.w) as usize;
         let mut passed = self.passed;
         let mut rest = self.rest;
+        let mut walked = self.walked;
         while passed + 1 < self.rows && y >= passed * self.pitch + self.h {
-            let (_, Some(behind)) = hand_line(rest, most, walked) else {
-                return (passed, rest);
+            let (_, next) = hand_line(rest, most, &mut walked);
+            let Some(behind) = next else {
+                return (passed, rest, walked);
             };
             passed += 1;
             rest = behind;
         }
-        (passed, rest)
+        (passed, rest, walked)
     }
 
     /// This block, whose rows from y on are found without the lines that end above row y. So a painter of
@@ -216,13 +221,16 @@ impl<'a, A: Small> Block<'a, A> {
         ensures pitch { result.pitch ≡ self.entry.pitch }
         ensures alignment { result.alignment ≡ self.entry.alignment }
         ensures walked { result.walked ≤ self.entry.walked + block_pieces self.entry.text.now }
+        ensures counted { self.entry.w ≤ self.entry.wide
+            → result.walked ≡ min (self.entry.walked + pieces_of (drop self.entry.passed
+            (take (lines_above (layout_of self.entry) y)
+            (block_lines (self.entry.wide / self.entry.w) self.entry.text.now)))) (2 ^ 64 - 1) }
         ensures kept { self.entry.walked ≤ result.walked }
     {
         if self.wide < self.w {
             return self;
         }
-        let mut walked = self.walked;
-        let (passed, rest) = self.passed_at(y, &mut walked);
+        let (passed, rest, walked) = self.passed_at(y);
         Block {
             sheet: self.sheet,
             text: self.text,

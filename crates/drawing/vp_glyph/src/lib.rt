@@ -138,6 +138,7 @@ impl<A: Small> Sheets<A> {
         ensures rows { result.rows ≡ rows }
         ensures pitch { result.pitch ≡ pitch h gap }
         ensures alignment { result.alignment ≡ alignment }
+        ensures passed { result.passed ≡ 0 }
         ensures walked { result.walked ≡ 0 }
     {
         Block {
