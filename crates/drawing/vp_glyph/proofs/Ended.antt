@@ -20,7 +20,7 @@ above_upto b p zero y m e = omega arith
 above_upto b p (suc n) y m e = elim (cases_lt y (n * b.pitch + b.h)) [
   | inl l ↦ rw (lt-leb (n * b.pitch + b.h) y l) (elim (cases_eq p (suc n)) [
     | inl k ↦ (let r = above_most b n y in omega (arith, k, r))
-    | inr k ↦ above_upto b p n y (omega (arith, m, k)) (elim e [ | inl f ↦ inl (absurd (k f)) | inr f ↦ inr f ])
+    | inr k ↦ above_upto b p n y (omega (arith, m, k)) (elim e [ inl f ↦ inl (absurd (k f)) | inr f ↦ inr f ])
   ])
   | inr g ↦ rw (le-leb (n * b.pitch + b.h) y g) (elim e [
     | inl f ↦ omega (arith, f)

@@ -14,3 +14,4 @@ pub mod Behind
 pub mod Pictured
 pub mod Windowed
 pub mod AsWhole
+pub mod Passing

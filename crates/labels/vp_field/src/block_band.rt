@@ -1,5 +1,5 @@
 //! Blocks of lines whose rows fall on rows: where lines meet, the rows of a band are drawn at once.
-ghost use Rattle.std.specs.Prelude.{◌≡◌, ℕ, ◌+◌, ◌*◌, ◌<◌, ◌≤◌, slice_index_or, []};
+ghost use Rattle.std.specs.Prelude.{◌≡◌, ℕ, ◌+◌, ◌*◌, ◌<◌, ◌≤◌, slice_index_or, [], true};
 ghost use Rattle.vp_dots.specs.Dots.{dot, shifted};
 ghost use Rattle.vp_dots.specs.Painting.{Painted};
 ghost use Rattle.vp_glyph.specs.Blocks.{block_width, block_height, block_dot, block_inside, block_pieces};
@@ -39,6 +39,10 @@ impl<'a, A: Small> BlockBand<'a, A> {
     pub fn new(rows: BlockRows<'a, A>, top: u32, at: i64) -> Self
         ensures rows { result.rows ≡ rows.entry }
         ensures few { result.drawn.pieces ≤ 2 * (ROWS + 1) * block_pieces rows.entry.block.text.now }
+        ensures some { (k x : ℕ) → k < ROWS → x < 8 * BYTES
+            → top + k < block_height rows.entry.block.h rows.entry.block.rows rows.entry.block.pitch
+            → shifted at (λ x. block_dot (layout_of rows.entry.block) rows.entry.block.text.now x (top + k)) x
+            ≡ true → 0 < result.drawn.pieces }
     {
         BlockBand {
             rows,

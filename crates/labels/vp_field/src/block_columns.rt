@@ -1,5 +1,5 @@
 //! Blocks of lines whose rows fall on columns: many of them drawn at once, and laid 64 by 64.
-ghost use Rattle.std.specs.Prelude.{◌≡◌, ℕ, ◌+◌, ◌-◌, ◌*◌, ◌<◌, ◌≤◌, ◌^◌, nat_le, ◌&&◌, Bool, pos, slice_index, slice_index_or, [], length, MatchOption, IfSome};
+ghost use Rattle.std.specs.Prelude.{◌≡◌, ℕ, ◌+◌, ◌-◌, ◌*◌, ◌<◌, ◌≤◌, ◌^◌, nat_le, ◌&&◌, Bool, true, pos, slice_index, slice_index_or, [], length, MatchOption, IfSome};
 ghost use Rattle.vp_dots.specs.Dots.{dot, dots, shifted, span};
 ghost use Rattle.vp_dots.specs.declared.square.TheConstants.{SIDE};
 ghost use Rattle.vp_dots.specs.Painting.{Painted};
@@ -208,6 +208,12 @@ impl<A: Small> BlockColumns<'_, A> {
             (λ u v. block_dot (layout_of self.now.block.now) self.now.block.now.text.now u v) (pos x)
             (pos (self.now.first + k))) band.old band.new }
         ensures columns { result ≤ WIDEST }
+        ensures counted { (x z k : ℕ) → z < WIDEST → k < BAND_ROWS
+            → laid Across self.now.columns self.now.rows
+            (λ u v. block_dot (layout_of self.now.block.now) self.now.block.now.text.now u v) (pos x)
+            (pos (self.now.first + k)) ≡ true → laid Across self.now.columns self.now.rows
+            (λ u v. block_dot (layout_of self.now.block.now) self.now.block.now.text.now u v) (pos z)
+            (pos (self.now.first + k)) ≡ true → z - x < result }
     {
         let (_, height) = self.block.size();
         let (from, to) = self.columns.span(height);
@@ -252,6 +258,9 @@ pub fn paint_block_across<A: Small>(
         band.new }
     ensures lines { result ≤ 2 * block_pieces block.now.text.now + (2 * WIDEST + 8) }
     ensures counted { 0 < result }
+    ensures least { (x k : ℕ) → x < WIDEST → k < BAND_ROWS → laid Across lying.columns lying.rows
+        (λ u v. block_dot (layout_of block.now) block.now.text.now u v) (pos x) (pos (first + k)) ≡ true
+        → WIDEST + 2 ≤ result }
 {
     let (_, height) = block.size();
     let top = lying.first_line(height, first);

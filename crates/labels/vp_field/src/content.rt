@@ -49,6 +49,7 @@ pub fn block_of<'a, A: Small>(
     ensures rows { result.rows ≡ block.lines }
     ensures pitch { result.pitch ≡ pitch block.text.height block.gap }
     ensures alignment { result.alignment ≡ block.alignment }
+    ensures passed { result.passed ≡ 0 }
     ensures walked { result.walked ≡ 0 }
 {
     sheets.block(

@@ -1,12 +1,14 @@
 //! The fields of a label, painted on a band.
-ghost use Rattle.std.specs.Prelude.{◌+◌, ◌*◌, ◌^◌, ◌<◌, ◌≤◌, pos, length, List, [], ◌∷◌, ◌++◌};
+ghost use Rattle.std.specs.Prelude.{◌≡◌, ℕ, ◌+◌, ◌*◌, ◌^◌, ◌<◌, ◌≤◌, true, pos, length, List, [], ◌∷◌, ◌++◌};
 ghost use Rattle.vp_dots.specs.Places.{RowsPainted};
 ghost use Rattle.vp_glyph.specs.Blocks.{block_width, block_height, block_dot, block_pieces};
 ghost use Rattle.vp_glyph.specs.Layouts.{layout_of};
 ghost use Rattle.vp_glyph.specs.Sheets.{Sheets as Given};
 ghost use Rattle.vp_glyph.specs.declared.runs.TheConstants.{ROWS};
 ghost use Rattle.vp_format.specs.declared.field.Content.TheVariants as contents;
-ghost use Rattle.vp_field.specs.Axes.{IsWithin, lines_of};
+ghost use Rattle.vp_field.specs.Axes.{lines_of};
+ghost use Rattle.vp_field.specs.declared.axis.Lines.TheVariants.{Along};
+ghost use Rattle.vp_field.specs.Counts.{ArePassed};
 ghost use Rattle.vp_field.specs.Contents.{lines_cost, most_work, LiesIn, IsText, IsTextBlock, IsSymbol};
 ghost use Rattle.vp_field.specs.Standing.{standing, IsNear};
 ghost use Rattle.vp_field.specs.Fields.{field_ink, stroke_of, IsDrawn, IsEncoded, IsKept, AreMarksOf};
@@ -15,9 +17,9 @@ ghost use Rattle.vp_field.specs.Frames.{frame_dot};
 ghost use Rattle.vp_field.specs.Views.{seen_x, seen_y};
 ghost use Rattle.vp_field.specs.Bands.{Shows, IsCounted};
 ghost use Rattle.vp_field.specs.Drawn.{drawn};
-ghost use Rattle.vp_label_size.specs.declared.TheConstants.{BAND_ROWS};
+ghost use Rattle.vp_label_size.specs.declared.TheConstants.{BAND_ROWS, WIDEST};
 
-use crate::axis::{Axis, Lines};
+use crate::axis::Lines;
 use crate::block_band::BlockBand;
 use crate::block_columns::paint_block_across;
 use crate::content::{block_of, bytes_of, cells};
@@ -56,17 +58,51 @@ fn paint_text<A: Small>(
     paint_standing(&text, on, first, band)
 }
 
-/// Paints a block of lines that lies along a band, on which none of its rows before one falls: how many lines
-/// of ink it drew, and pieces of them. Where its lines meet, its rows are drawn at once.
-fn paint_block_along<A: Small>(
-    block: Block<'_, A>,
-    row: u32,
-    columns: Axis,
+/// Paints a block of lines that lies along a band, all rows of the block that fall on it drawn at once: how
+/// many lines of the text and cells of these that took, and how many lines of ink it drew, and pieces of them.
+fn paint_block_at_once<A: Small>(
+    rows: BlockRows<'_, A>,
     on: Standing,
     first: u32,
     band: &mut LabelBand<A>,
 ) -> u64
-    requires columns { IsWithin (2 ^ 41) columns }
+    requires lines { lines_of on.orientation ≡ Along }
+    requires near { IsNear on.left on.top }
+    requires few { length rows.block.text.now < 2 ^ 32 }
+    ensures dots { RowsPainted BAND_ROWS on.op (λ x k. standing on.left on.top on.orientation
+        (block_width rows.entry.block.wide rows.entry.block.w)
+        (block_height rows.entry.block.h rows.entry.block.rows rows.entry.block.pitch)
+        (λ u v. block_dot (layout_of rows.entry.block) rows.entry.block.text.now u v)
+        (seen_x on.view (pos x)) (seen_y on.view (pos (first + k)))) band.old band.new }
+    ensures lines { result ≤ 2 * (ROWS + 1) * block_pieces rows.entry.block.text.now
+        + lines_cost (lines_of on.orientation) (λ d. 2 * block_pieces rows.entry.block.text.now) }
+    ensures counted { IsCounted (λ x k. standing on.left on.top on.orientation
+        (block_width rows.entry.block.wide rows.entry.block.w)
+        (block_height rows.entry.block.h rows.entry.block.rows rows.entry.block.pitch)
+        (λ u v. block_dot (layout_of rows.entry.block) rows.entry.block.text.now u v)
+        (seen_x on.view (pos x)) (seen_y on.view (pos (first + k)))) result }
+    ensures drawn { (x k : ℕ) → x < WIDEST → k < BAND_ROWS → standing on.left on.top on.orientation
+        (block_width rows.entry.block.wide rows.entry.block.w)
+        (block_height rows.entry.block.h rows.entry.block.rows rows.entry.block.pitch)
+        (λ u v. block_dot (layout_of rows.entry.block) rows.entry.block.text.now u v)
+        (seen_x on.view (pos x)) (seen_y on.view (pos (first + k))) ≡ true → 1 < result }
+{
+    let laid = on.laid(&rows);
+    let (_, height) = rows.size();
+    let top = laid.first_line(height, first);
+    let drawn = BlockBand::new(rows, top, drawn_at(laid.columns, 0, BAND_BYTES));
+    drawn.pieces() + paint_standing(&drawn, on, first, band)
+}
+
+/// Paints a block of lines that lies along a band: how many lines of ink it drew, and pieces of them. Where
+/// its lines meet, its rows are drawn at once.
+fn paint_block_along<A: Small>(
+    block: Block<'_, A>,
+    on: Standing,
+    first: u32,
+    band: &mut LabelBand<A>,
+) -> u64
+    requires lines { lines_of on.orientation ≡ Along }
     requires near { IsNear on.left on.top }
     requires few { length block.text.now < 2 ^ 32 }
     ensures dots { RowsPainted BAND_ROWS on.op (λ x k. standing on.left on.top on.orientation
@@ -83,11 +119,10 @@ fn paint_block_along<A: Small>(
         (seen_x on.view (pos x)) (seen_y on.view (pos (first + k)))) result }
 {
     let rows = BlockRows { block };
-    if !rows.lines_meet() {
-        return paint_standing(&rows, on, first, band);
+    if rows.lines_meet() {
+        return paint_block_at_once(rows, on, first, band);
     }
-    let drawn = BlockBand::new(rows, row, drawn_at(columns, 0, BAND_BYTES));
-    drawn.pieces() + paint_standing(&drawn, on, first, band)
+    paint_standing(&rows, on, first, band)
 }
 
 /// Paints a block of lines: how many lines of ink it drew, and pieces of them, and how many lines of its text
@@ -106,6 +141,7 @@ fn paint_block<A: Small>(
         band.old band.new }
     ensures lines { result ≤ most_work on.orientation (contents.Block block) }
     ensures counted { IsCounted (drawn sheets.now stored.now (contents.Block block) on first) result }
+    ensures passed { ArePassed sheets.now stored.now block on first result }
 {
     let ink = block_of(sheets, stored, block);
     let (_, height) = ink.size();
@@ -114,7 +150,7 @@ fn paint_block<A: Small>(
     let block = ink.from_row(row);
     let walked = block.walked();
     match laid.lines {
-        Lines::Along => walked + paint_block_along(block, row, laid.columns, on, first, band),
+        Lines::Along => walked + paint_block_along(block, on, first, band),
         Lines::Across => walked + paint_block_across(&block, on.op, laid, first, band),
     }
 }

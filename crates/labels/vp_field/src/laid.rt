@@ -86,6 +86,8 @@ impl Laid {
         requires rows { IsWithin (2 ^ 41) self.rows }
         ensures along { self.lines ≡ Along → (k v : ℕ) → k < BAND_ROWS → v < lines
             → dot_on self.rows (pos (first + k)) ≡ pos v → result ≤ v }
+        ensures near { self.lines ≡ Along → (k v : ℕ) → k < BAND_ROWS → v < lines
+            → dot_on self.rows (pos (first + k)) ≡ pos v → v < result + BAND_ROWS }
         ensures across { self.lines ≡ Across → (x v : ℕ) → x < WIDEST → v < lines
             → dot_on self.columns (pos x) ≡ pos v → result ≤ v }
         ensures within { self.lines ≡ Across → (x v : ℕ) → x < WIDEST → v < lines

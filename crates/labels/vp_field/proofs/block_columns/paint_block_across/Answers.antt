@@ -1,9 +1,11 @@
-use Rattle.std.proofs.Common.{ℕ, ◌+◌, false, ap, ◌∙◌, arith, rules, refl, sym, pos, w64}
+use Rattle.std.proofs.Common.{ℕ, ◌+◌, ◌<◌, false, ap, ◌∙◌, arith, rules, refl, sym, pos, w64}
 use mir.Val.{SFits}
+use Rattle.std.proofs.lemmas.Bool.{true≢false, false_from_ne_true}
 use Rattle.std.proofs.lemmas.Int.{to_z-of_z}
 use Rattle.vp_dots.specs.Dots.{shifted}
 use Rattle.vp_glyph.specs.Blocks.{block_height, block_dot, block_inside}
 use Rattle.vp_glyph.specs.Layouts.{layout_of}
+use Rattle.vp_glyph.proofs.Handed.{seen_some}
 use Rattle.vp_glyph.proofs.Overlaid.{zero_at}
 use Rattle.vp_field.specs.Axes.{laid}
 use Rattle.vp_field.specs.declared.axis.Lines.TheVariants.{Across}
@@ -38,3 +40,34 @@ invariant_of-drawn g c =
       from = λ x v m h e. f.across c.requires.lines x v m (omega (arith, c.size-height.ensures.height)) e;
       to = λ x v m h e. f.within c.requires.lines x v m (omega (arith, c.size-height.ensures.height)) e;
     }
+
+-- a block with ink on a column that can be seen isn't left out
+pub returns-then-are_white-clause-least : goal.returns-then-are_white-clause-least
+returns-then-are_white-clause-least g c = λ x k l m e.
+    let b = c.args.block.now in
+    let y = c.args.lying in
+    let f = c.first_line-top.ensures in
+    let ink = λ (u v : ℕ). block_dot (layout_of b) b.text.now u v in
+    let fits : SFits w64 c.drawn_at-at.result = search rules in
+    let fronts = rw (to_z-of_z w64 c.drawn_at-at.result fits) at c.draw_fronts.ensures.drawn in
+    absurd (true≢false (sym e
+    ∙ white_across y.columns y.rows ink (block_height b.h b.rows b.pitch) c.first_line-top.result c.args.first c.drawn_at-at.result (λ u v e. (block_inside (layout_of b) b.text.now u v e).1)
+    (λ x v m h e. f.across c.requires.lines x v m (omega (arith, c.size-height.ensures.height)) e) (λ x v m h e. f.within c.requires.lines x v m (omega (arith, c.size-height.ensures.height)) e)
+    (λ line n k h. c.drawn_at-at.ensures.dots line (λ d. false) (λ d l. sym (n d l)) k h)
+    (λ i x l m n. sym (fronts i x l m n) ∙ c.are_white.ensures c.if-are_white.true i x l) x k l m))
+
+pub returns-clause-least : goal.returns-clause-least
+returns-clause-least g c = λ x k l m e.
+    let b = c.args.block.now in
+    let y = c.args.lying in
+    let f = c.first_line-top.ensures in
+    let ink = λ (u v : ℕ). block_dot (layout_of b) b.text.now u v in
+    let fits : SFits w64 c.drawn_at-at.result = search rules in
+    let fronts = rw (to_z-of_z w64 c.drawn_at-at.result fits) at c.draw_fronts.ensures.drawn in
+    let walked : 0 < c.draw_fronts.result = seen_some c.draw_fronts.result _
+    (λ none. white_across y.columns y.rows ink (block_height b.h b.rows b.pitch) c.first_line-top.result c.args.first c.drawn_at-at.result (λ u v e. (block_inside (layout_of b) b.text.now u v e).1)
+    (λ x v m h e. f.across c.requires.lines x v m (omega (arith, c.size-height.ensures.height)) e) (λ x v m h e. f.within c.requires.lines x v m (omega (arith, c.size-height.ensures.height)) e)
+    (λ line n k h. c.drawn_at-at.ensures.dots line (λ d. false) (λ d l. sym (n d l)) k h)
+    (λ i x l m n. sym (fronts i x l m n) ∙ false_from_ne_true _ (λ t. absurd (let some = c.draw_fronts.ensures.some i x l m t in omega (arith, some, none)))) x k l m) e in
+    let laid = c.paint.ensures.counted x x k l m e e in
+    omega (arith, walked, laid)

@@ -12,7 +12,10 @@ pub loop-passed-init : goal.loop-passed-init
 loop-passed-init g c =
     let b = c.args.self.now in
     record {
-      apart = omega arith; behind = search rules; less = omega arith; walked = omega arith;
+      apart = omega arith;
+      behind = search rules;
+      less = omega arith;
+      walked = omega arith;
       from = omega arith;
       above = λ l. omega (arith, l);
       counted = let n = pieces_begun b.passed c.args.self.now.walked (block_lines (b.wide / b.w) b.text.now) in omega (arith, n);
@@ -42,7 +45,7 @@ returns-in_default-clause-counted g c =
     let line = take c.hand_line.result.0.cells (first (pieces c.loop-passed.rest.now)) in
     let above = above_from (layout_of b) k (b.rows - 1) c.args.y (omega (arith, c.loop-passed-test.true)) c.if-y-passed.true in
     let counted = line_counted b.passed k b.walked c.loop-passed.walked c.hand_line.new.counter c.hand_line.result.0.cells _ b.text.now c.loop-passed.rest.now c.hand_line.result.1
-        old.from old.behind c.hand_line.ensures.lines c.hand_line.ensures.cells old.counted c.hand_line.ensures.counted in
+    old.from old.behind c.hand_line.ensures.lines c.hand_line.ensures.cells old.counted c.hand_line.ensures.counted in
     let lines = rw c.in_default.is at c.hand_line.ensures.lines in
     let same : k + 1 ≡ suc k = omega arith in
     counted ∙ ap (λ (ls : List (List ℕ)). min (b.walked + pieces_of (drop b.passed ls)) (2 ^ 64 - 1))

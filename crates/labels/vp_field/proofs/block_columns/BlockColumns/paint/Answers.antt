@@ -5,6 +5,7 @@ use Rattle.vp_glyph.specs.Layouts.{layout_of}
 use Rattle.vp_field.specs.Axes.{dot_on, laid}
 use Rattle.vp_field.specs.declared.axis.Lines.TheVariants.{Across}
 use Rattle.vp_field.proofs.Places.{line_inside}
+use Rattle.vp_field.proofs.Passing.{within_span}
 use Rattle.vp_field.proofs.Columns.{columns_init, columns_more, columns_all}
 use Rattle.vp_field.proofs.block_columns.BlockColumns.paint.Goals as goal
 
@@ -18,6 +19,7 @@ loop-x-init g c =
       painted = columns_init _ _ (λ x k. laid Across s.columns s.rows ink (pos x) (pos (s.first + k))) _ _
           (λ x k l. c.span-from.ensures.before _ (line_inside ink c.size-height.result.1 lines (dot_on s.rows (pos (s.first + k)))) x (omega arith));
       laid = omega (arith, c.min-end.ensures);
+      counted = omega (arith, c.if-from-end.false);
     }
 
 pub loop-x-preserved : goal.loop-x-preserved
@@ -31,6 +33,7 @@ loop-x-preserved g c =
       painted = columns_more c.args.op shown c.loop-x.x 128 _ _ _ old
           (c.paint_square.ensures shown (λ i k l h m. c.columns-left.ensures i k l (within _ k h m) h) (λ i k l h m. c.columns-right.ensures i k l (within _ k h m) h));
       laid = omega (arith, c.loop-x.invariant.laid, c.min-laid.ensures);
+      counted = omega (arith, c.loop-x.invariant.counted, c.min-laid.ensures, c.loop-x-test.true);
     }
 
 pub returns-clause-dots : goal.returns-clause-dots
@@ -67,3 +70,34 @@ returns-in-Some-clause-dots g c =
     (columns_more c.args.op shown c.span-from.result.0 _ _ _ _
     (columns_init 32 c.args.op shown c.span-from.result.0 _ (λ x k l. c.span-from.ensures.before _ (line_inside ink c.size-height.result.1 lines (dot_on s.rows (pos (s.first + k)))) x (omega (arith, l))))
     c.paint_plain.ensures)
+
+-- of columns with ink none is left out between two
+pub returns-then-from-end-clause-counted : goal.returns-then-from-end-clause-counted
+returns-then-from-end-clause-counted g c = λ x z k m h e f.
+    let s = c.args.self.now in
+    let b = s.block.now in
+    let ink = λ (u v : ℕ). block_dot (layout_of b) b.text.now u v in
+    let lines : (u v : ℕ) → ink u v ≡ true → v < c.size-height.result.1 = λ u v e. rw c.size-height.ensures.height (block_inside (layout_of b) b.text.now u v e).1 in
+    let inside = line_inside ink c.size-height.result.1 lines (dot_on s.rows (pos (s.first + k))) in
+    let n = within_span c.span-from.result.0 c.span-from.result.1 x z (λ x. laid Across s.columns s.rows ink (pos x) (pos (s.first + k))) (λ p l. c.span-from.ensures.before _ inside p l) (λ p l. c.span-from.ensures.behind _ inside p l) e f in
+    omega (arith, m, n.0, n.1, n.2, c.min-end.ensures, c.if-from-end.true)
+
+pub returns-in-Some-clause-counted : goal.returns-in-Some-clause-counted
+returns-in-Some-clause-counted g c = λ x z k m h e f.
+    let s = c.args.self.now in
+    let b = s.block.now in
+    let ink = λ (u v : ℕ). block_dot (layout_of b) b.text.now u v in
+    let lines : (u v : ℕ) → ink u v ≡ true → v < c.size-height.result.1 = λ u v e. rw c.size-height.ensures.height (block_inside (layout_of b) b.text.now u v e).1 in
+    let inside = line_inside ink c.size-height.result.1 lines (dot_on s.rows (pos (s.first + k))) in
+    let n = within_span c.span-from.result.0 c.span-from.result.1 x z (λ x. laid Across s.columns s.rows ink (pos x) (pos (s.first + k))) (λ p l. c.span-from.ensures.before _ inside p l) (λ p l. c.span-from.ensures.behind _ inside p l) e f in
+    omega (arith, m, n.0, n.1, n.2, c.min-end.ensures, c.if-from-end.false)
+
+pub returns-clause-counted : goal.returns-clause-counted
+returns-clause-counted g c = λ x z k m h e f.
+    let s = c.args.self.now in
+    let b = s.block.now in
+    let ink = λ (u v : ℕ). block_dot (layout_of b) b.text.now u v in
+    let lines : (u v : ℕ) → ink u v ≡ true → v < c.size-height.result.1 = λ u v e. rw c.size-height.ensures.height (block_inside (layout_of b) b.text.now u v e).1 in
+    let inside = line_inside ink c.size-height.result.1 lines (dot_on s.rows (pos (s.first + k))) in
+    let n = within_span c.span-from.result.0 c.span-from.result.1 x z (λ x. laid Across s.columns s.rows ink (pos x) (pos (s.first + k))) (λ p l. c.span-from.ensures.before _ inside p l) (λ p l. c.span-from.ensures.behind _ inside p l) e f in
+    omega (arith, m, n.0, n.1, n.2, c.min-end.ensures, c.loop-x.invariant.counted, c.loop-x-test.false)

@@ -28,3 +28,13 @@ returns-in-Across-clause-within c o x v l m e =
       | inl k ↦ omega arith
       | inr k ↦ (let n = c.clamped-in-Across.ensures.below (v - 1248) (omega arith) (rw (to_z-of_z w64 line.result fits) (omega (arith, ints, before, c.from.ensures))) in omega arith)
     ]
+
+pub returns-in-Along-clause-near : goal.returns-in-Along-clause-near
+returns-in-Along-clause-near c o k v l m e =
+    let line = c.first_line in
+    let fits : SFits w64 line.result = search (rules, line.ensures.low, line.ensures.high) in
+    let before = line.ensures.to k v l e in
+    elim (cases_lt v 32) [
+      | inl k ↦ omega arith
+      | inr k ↦ (let n = c.clamped.ensures.below (v - 32) (omega arith) (rw (to_z-of_z w64 line.result fits) (omega (arith, ints, before))) in omega arith)
+    ]

@@ -1,0 +1,48 @@
+-- Where ink that lies on a band is seen.
+use Rattle.std.proofs.Common.{inl, inr, ◌≡◌, ℕ, ◌<◌, ◌≤◌, Bool, true, false, ltb, leb, ◌&&◌, sym, ap, ◌∙◌, ℤ, pos, List}
+use Rattle.std.proofs.lemmas.Bool.{cases_lt, true≢false, and_parts, ltb-true, leb-true}
+use Rattle.vp_glyph.specs.Blocks.{BlockLayout, block_dot}
+use Rattle.vp_glyph.proofs.Stacks.{block_narrow}
+use Rattle.vp_field.specs.Drawn.{part}
+use Rattle.vp_field.specs.Places.{at_place}
+use Rattle.vp_field.proofs.Places.{at_true}
+
+-- a dot of some lines that lies on two places
+pub record Seen (from to : ℕ) (ink : ℕ → ℕ → Bool) (i j : ℤ) : Type 0 where
+  pub u : ℕ
+  pub v : ℕ
+  pub low : from ≤ v
+  pub high : v < to
+  pub dot : ink u v ≡ true
+  pub place : j ≡ pos v
+  pub whole : at_place (λ v. at_place (λ u. ink u v) i) j ≡ true
+
+pub seen_part : (from to : ℕ) (ink : ℕ → ℕ → Bool) (i j : ℤ) → at_place (λ v. at_place (λ u. part from to ink u v) i) j ≡ true → Seen from to ink i j
+seen_part from to ink i j e =
+    let t = at_true (λ v. at_place (λ u. part from to ink u v) i) j e in
+    let s = at_true (λ u. part from to ink u t.0) i t.1 in
+    let p = and_parts (leb from t.0 && ltb t.0 to) (ink s.0 t.0) s.1 in
+    let q = and_parts (leb from t.0) (ltb t.0 to) p.0 in
+    record {
+      u = s.0;
+      v = t.0;
+      low = leb-true from t.0 q.0;
+      high = ltb-true t.0 to q.1;
+      dot = p.1;
+      place = t.2;
+      whole = ap (at_place (λ v. at_place (λ u. ink u v) i)) t.2 ∙ ap (at_place (λ u. ink u t.0)) s.2 ∙ p.1;
+    }
+
+-- a line with dots on some places, of which two are seen
+pub within_span : (from to x z : ℕ) (f : ℕ → Bool) → ((p : ℕ) → p < from → f p ≡ false) → ((p : ℕ) → to ≤ p → f p ≡ false) → f x ≡ true → f z ≡ true → (from ≤ x) × (from ≤ z) × (z < to)
+within_span from to x z f before behind e g = (from_first x e, from_first z g, (elim (cases_lt z to) [ inl l ↦ l | inr n ↦ absurd (true≢false (sym g ∙ behind z n)) ]))
+  where
+    from_first : (p : ℕ) → f p ≡ true → from ≤ p
+    from_first p h = elim (cases_lt p from) [ inl l ↦ absurd (true≢false (sym h ∙ before p l)) | inr n ↦ n ]
+
+-- a block with a dot is as wide as a cell
+pub block_wide : (b : BlockLayout) (text : List ℕ) (u v : ℕ) → block_dot b text u v ≡ true → b.w ≤ b.wide
+block_wide b text u v e = elim (cases_lt b.wide b.w) [
+  | inl l ↦ absurd (true≢false (sym e ∙ sym (block_narrow b.sheet text b.w b.h b.wide b.rows b.pitch b.alignment u v l)))
+  | inr n ↦ n
+]
