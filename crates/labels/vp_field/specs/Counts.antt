@@ -25,8 +25,8 @@ abbrev pub block_least : Lines → ℕ
 block_least Along = 1
 block_least Across = WIDEST + 2
 
--- the lines of a block that end above a row were passed, and count beside what it takes else, where it has ink
--- on the band so far below that no line above the row reaches the band
+-- where a block has ink on a band so far below row y that no row above y is on it, all that the lines have
+-- counts that end above row y, beside what a block with ink takes
 abbrev pub ArePassed : Sheets → List ℕ → TextBlock → Standing → ℕ → ℕ → Type 0
 ArePassed sheets stored b on first work =
     let block = contents.Block b in

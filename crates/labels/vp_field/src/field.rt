@@ -58,8 +58,8 @@ fn paint_text<A: Small>(
     paint_standing(&text, on, first, band)
 }
 
-/// Paints a block of lines that lies along a band, all rows of the block that fall on it drawn at once: how
-/// many lines of the text and cells of these that took, and how many lines of ink it drew, and pieces of them.
+/// Paints a block of lines that lies along a band, all its rows that fall on it drawn at once: how many lines
+/// of the text and cells of these that took, and how many lines of ink it drew, and pieces of them.
 fn paint_block_at_once<A: Small>(
     rows: BlockRows<'_, A>,
     on: Standing,

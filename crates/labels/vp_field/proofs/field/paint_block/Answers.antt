@@ -73,8 +73,9 @@ returns-in-Along-clause-lines g c =
     let r = c.from_row-block.ensures in
     let n = length c.from_row-block.result.text.now in
     let walked : c.walked-walked.result ≤ 2 * n + 1 = omega (arith, c.walked-walked.ensures, r.walked, b.walked, ap length r.text) in
-    along_cost (lines_of c.args.on.orientation) n c.args.block.text.bytes.len c.walked-walked.result _ (sym c.laid-laid.ensures.lines ∙ c.in-Along.is)
-    (text_less c.args.stored.now c.args.block _ (r.text ∙ b.text)) walked c.paint_block_along.ensures.lines
+    let cost = along_cost (lines_of c.args.on.orientation) n c.args.block.text.bytes.len c.walked-walked.result _ (sym c.laid-laid.ensures.lines ∙ c.in-Along.is)
+    (text_less c.args.stored.now c.args.block _ (r.text ∙ b.text)) walked c.paint_block_along.ensures.lines in
+    omega (arith, cost)
 
 pub returns-in-Across-clause-lines : goal.returns-in-Across-clause-lines
 returns-in-Across-clause-lines g c =
@@ -82,8 +83,9 @@ returns-in-Across-clause-lines g c =
     let r = c.from_row-block.ensures in
     let n = length c.from_row-block.result.text.now in
     let walked : c.walked-walked.result ≤ 2 * n + 1 = omega (arith, c.walked-walked.ensures, r.walked, b.walked, ap length r.text) in
-    across_cost (lines_of c.args.on.orientation) n c.args.block.text.bytes.len c.walked-walked.result _ (sym c.laid-laid.ensures.lines ∙ c.in-Across.is)
-    (text_less c.args.stored.now c.args.block _ (r.text ∙ b.text)) walked c.paint_block_across.ensures.lines
+    let cost = across_cost (lines_of c.args.on.orientation) n c.args.block.text.bytes.len c.walked-walked.result _ (sym c.laid-laid.ensures.lines ∙ c.in-Across.is)
+    (text_less c.args.stored.now c.args.block _ (r.text ∙ b.text)) walked c.paint_block_across.ensures.lines in
+    omega (arith, cost)
 
 pub returns-in-Along-clause-passed : goal.returns-in-Along-clause-passed
 returns-in-Along-clause-passed g c = λ x k y l m e.
