@@ -1,5 +1,5 @@
 -- Where no format is open.
-use Rattle.std.proofs.Common.{◌≡◌, Bool, true, false, List, [], ◌∷◌, refl}
+use Rattle.std.proofs.Common.{◌≡◌, Bool, false, List, [], ◌∷◌, refl, arith}
 use Rattle.vp_zpl.specs.Spelling.{Kept}
 use Rattle.vp_zpl.specs.declared.name.Name.{Name}
 use Rattle.vp_zpl.specs.declared.item.Command.TheVariants.{FormatStart, FormatEnd}
@@ -16,16 +16,11 @@ pub record IsIdle (before : List Item) : Type 0 where
 
 ended : (opened : Bool) (name : Name) (sent : List Kept) (before : List Item) → is_open before ≡ opened →
     (is_open before ≡ false → IsIdle before) → IsIdle (Given FormatEnd name sent ∷ before)
-ended true name sent before so idle_before =
-    record { parts = rw so refl; stored = rw so refl; quantity = rw so refl }
-ended false name sent before so idle_before = let h : IsIdle before = idle_before so in
-    record { parts = rw so h.parts; stored = rw so h.stored; quantity = rw so h.quantity }
+ended opened name sent before so idle_before = grind arith
 
 pub idle : (before : List Item) → is_open before ≡ false → IsIdle before
 idle [] shut = record { parts = refl; stored = refl; quantity = refl }
-idle (Data b ∷ before) shut = let h : IsIdle before = idle before shut in
-    record { parts = h.parts; stored = rw shut h.stored; quantity = h.quantity }
+idle (Data b ∷ before) shut = grind (arith, idle before shut)
 idle (Given FormatStart name sent ∷ before) shut = cc
 idle (Given FormatEnd name sent ∷ before) shut = ended (is_open before) name sent before refl (λ so. idle before so)
-idle (Given _ name sent ∷ before) shut = let h : IsIdle before = idle before shut in
-    record { parts = rw shut h.parts; stored = rw shut h.stored; quantity = rw shut h.quantity }
+idle (Given _ name sent ∷ before) shut = grind (arith, idle before shut)

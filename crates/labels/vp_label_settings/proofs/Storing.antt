@@ -1,5 +1,5 @@
 -- Data change nothing of what is in force.
-use Rattle.std.proofs.Common.{◌≡◌, ◌∙◌, ℕ, List, [], ◌∷◌, refl, sym}
+use Rattle.std.proofs.Common.{◌≡◌, ℕ, List, [], ◌∷◌, refl, arith}
 use Rattle.vp_zpl.specs.Items.Item.{Data}
 use Rattle.vp_zpl.specs.Items.{Item, data_items}
 use Rattle.vp_label_settings.specs.declared.in_force.InForce.{InForce}
@@ -21,8 +21,4 @@ parts-kept before [] = refl
 parts-kept before (b ∷ bytes) = parts-kept (Data b ∷ before) bytes
 
 pub stands_still : (s : InForce) (before : List Item) (bytes : List ℕ) → StandsAfter s before → StandsAfter s (followed_by before (data_items bytes))
-stands_still s before bytes stands = record {
-  is_open = stands.is_open ∙ sym (open-kept before bytes);
-  settings = stands.settings ∙ sym (settings-kept before bytes);
-  parts = stands.parts ∙ sym (parts-kept before bytes);
-}
+stands_still s before bytes stands = grind (arith, open-kept, settings-kept, parts-kept)
