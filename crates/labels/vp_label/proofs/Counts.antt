@@ -1,6 +1,5 @@
 -- What is held, by the bytes that are pending.
-use Rattle.std.proofs.Common.{◌≡◌, ◌<◌, ◌≤◌, ◌+◌, ◌-◌, ◌*◌, ◌/◌, ◌%◌, ◌∙◌, ℕ, true, false, List, [], ◌∷◌, length, ap, subst, sym, refl, arith, length-drop, Bool}
-use Rattle.std.specs.Prelude.{map}
+use Rattle.std.proofs.Common.{◌≡◌, ◌<◌, ◌≤◌, ◌+◌, ◌-◌, ◌*◌, ◌/◌, ◌%◌, ◌∙◌, ℕ, false, List, ◌∷◌, length, ap, sym, refl, arith, length-drop}
 use Rattle.std.proofs.lemmas.Bool.{lt-ltb, le-ltb}
 use Rattle.std.proofs.lemmas.Nat.{div-mul-add}
 use Rattle.std.proofs.Math.Nat.{zero-mod}
@@ -8,27 +7,18 @@ use Rattle.vp_dots.specs.Headers.{header_of}
 use Rattle.vp_dots.specs.Images.{Image, row_bytes, pbm}
 use Rattle.vp_glyph.specs.Sheets.{Sheets}
 use Rattle.vp_field.specs.declared.view.View.{View}
-use Rattle.vp_field.specs.Strokes.{image_dot}
-use Rattle.vp_field.specs.Fields.{stroke_of}
 use Rattle.vp_label.proofs.Effects.{idle}
 use Rattle.vp_format.specs.Formats.{Held}
-use Rattle.vp_format.specs.declared.field.Field.{Field}
-use Rattle.vp_zpl.specs.Spelling.{Kept}
-use Rattle.vp_zpl.specs.declared.name.Name.{Name}
-use Rattle.vp_zpl.specs.declared.item.Command.{Command}
-use Rattle.vp_zpl.specs.declared.item.Command.TheVariants.{FormatEnd}
 use Rattle.vp_zpl.specs.Items.{Item}
-use Rattle.vp_zpl.specs.Items.Item.{Given, Data}
-use Rattle.vp_label_settings.specs.Formats.{is_open, stored}
-use Rattle.vp_label_settings.specs.Settings.{quantity, settings_of}
+use Rattle.vp_label_settings.specs.Formats.{is_open}
+use Rattle.vp_label_settings.specs.Settings.{quantity}
 use Rattle.vp_output.specs.declared.place.Line.{Line}
 use Rattle.vp_output.specs.declared.place.Line.TheVariants.{Head, Row}
 use Rattle.vp_copies.specs.Copies.{band_rows, bytes_above, copies_text, line_bytes, pending, Place}
 use Rattle.vp_copies.specs.Progress.{IsPlaceOf}
-use Rattle.vp_label.specs.Entries.{printed_entries}
 use Rattle.vp_label.specs.Held.{band_rows_after, fields_after, rows_at}
 use Rattle.vp_label.specs.Press.{press_image, IsBetween}
-use Rattle.vp_label.specs.Prints.{image, label_image, prints, unless_empty, view_of}
+use Rattle.vp_label.specs.Prints.{image, label_image, prints, view_of}
 use Rattle.vp_label.specs.Standing.{IsEndOf, IsPrinting}
 use Rattle.vp_label.specs.declared.gathered.Gathered.{Gathered}
 use Rattle.vp_label.specs.declared.press.Press.{Press}
@@ -40,8 +30,7 @@ PlaceLaw = (i : Image) (p : Place) (copies : ℕ) → 0 < i.height → IsPlaceOf
 
 -- where as many bytes are left as whole copies have, the place is between two
 header_before : (width height : ℕ) (l : Line) (byte : ℕ) → bytes_above width height l + byte ≡ 0 → l ≡ Head
-header_before width height Head byte none = refl
-header_before width height (Row y) byte none = absurd (omega (arith, none))
+header_before width height l byte none = grind arith
 
 pub between_copies : PlaceLaw → (i : Image) (p : Place) (copies : ℕ) → 0 < i.height → IsPlaceOf i.width i.height p → 0 < p.copies →
     length (pending i p) ≡ length (copies_text i copies) → IsBetween p
@@ -59,20 +48,8 @@ rows_of_line i (Row y) byte b =
     let here : (head + y * w + byte - head) / w ≡ y = (let n : head + y * w + byte - head ≡ y * w + byte = omega arith in ap (λ k. k / w) n) ∙ div-mul-add y w byte b in
     rw (le-ltb (head + y * w + byte) head (omega arith)) (ap (λ k. band_rows i.height (Row k)) here)
 
-copies_or_none : (fields : List Field) (i : Image) (q : ℕ) → 0 < length (unless_empty fields (copies_text i q)) → unless_empty fields (copies_text i q) ≡ copies_text i q
-copies_or_none [] i q some = absurd (omega arith)
-copies_or_none (f ∷ fs) i q some = refl
-
--- an item that prints something prints copies of the image
-printed_by : (opened : Bool) (sheets : Sheets) (before : List Item) (command : Command) (name : Name) (sent : List Kept) → is_open before ≡ opened → 0 < length (prints sheets before (Given command name sent)) →
-    prints sheets before (Given command name sent) ≡ copies_text (image sheets before) (quantity before)
-printed_by true sheets before FormatEnd name sent so some = rw so (copies_or_none (printed_entries sheets before) (image sheets before) (quantity before) (rw so at some))
-printed_by true sheets before _ name sent so some = absurd (let none = rw so at some in omega (arith, none))
-printed_by false sheets before _ name sent so some = absurd (let none = rw so at some in omega (arith, none))
-
 all_printed : (sheets : Sheets) (before : List Item) (item : Item) → 0 < length (prints sheets before item) → prints sheets before item ≡ copies_text (image sheets before) (quantity before)
-all_printed sheets before (Given command name sent) some = printed_by (is_open before) sheets before command name sent refl some
-all_printed sheets before (Data byte) some = absurd (omega arith)
+all_printed sheets before item some = grind arith
 
 -- the rows that are held at a place of the image that the newest item prints
 rows_of_newest : PlaceLaw → (sheets : Sheets) (before : List Item) (item : Item) (left : List ℕ) (p : Place) → 0 < length left → IsEndOf left (prints sheets before item) →
@@ -91,28 +68,18 @@ rows_of_newest law sheets before item left p some end is high place copies =
 pub held_rows : {A : Type 0} → PlaceLaw → (sheets : Sheets) (g : Gathered A) (before : List Item) (left : List ℕ) (i : Image) (p : Place) → 0 < length left → IsPrinting sheets g left before →
     ((earlier : List Item) → IsPrinted sheets g earlier → i ≡ image sheets earlier) → left ≡ pending i p → 0 < i.height → IsPlaceOf i.width i.height p → 0 < p.copies →
     band_rows i.height p.line ≡ band_rows_after sheets before left
-held_rows law sheets g [] left i p some printing same is high place copies = absurd printing
-held_rows law sheets g (item ∷ before) left i p some printing same is high place copies =
-    let P : Image → Type 0 = λ x. left ≡ pending x p → 0 < x.height → IsPlaceOf x.width x.height p → band_rows x.height p.line ≡ band_rows_after sheets (item ∷ before) left in
-    let newest : P (image sheets before) = λ rest tall at. rows_of_newest law sheets before item left p some printing.rest rest tall at copies in
-    subst P (sym (same before printing.printed)) newest is high place
+held_rows law sheets g before left i p some printing same is high place copies = grind (arith, rows_of_newest)
 
 -- no fields outside a format
 pub no_fields : (sheets : Sheets) (before : List Item) (left : List ℕ) → length left ≤ 0 → is_open before ≡ false → fields_after sheets before left ≡ 0
-no_fields sheets [] left none shut = refl
-no_fields sheets (item ∷ before) left none shut = rw (le-ltb 0 (length left) none) (ap length (idle sheets (item ∷ before) shut))
+no_fields sheets before left none shut = grind (arith, idle)
 
 -- the image of which copies are put out is the label's
 pub same_image : {A : Type 0} (sheets : Sheets) (held : Held) (v : View) (p : Press A) → p.copies.width ≡ v.width → p.copies.height ≡ v.height →
     press_image sheets held v p ≡ label_image sheets v held.stored held.fields
-same_image sheets held v p wide high =
-    ap (λ n. record { width = n; height = p.copies.height; is_black = image_dot v (map (stroke_of sheets held.stored) held.fields) }) wide
-    ∙ ap (λ n. record { width = v.width; height = n; is_black = image_dot v (map (stroke_of sheets held.stored) held.fields) }) high
+same_image sheets held v p wide high = grind arith
 
 -- which is that of the items
 pub printed_image : {A : Type 0} (sheets : Sheets) (g : Gathered A) (earlier : List Item) → IsPrinted sheets g earlier →
     label_image sheets (view_of g.in_force.settings) g.format.stored g.format.fields ≡ image sheets earlier
-printed_image sheets g earlier printed =
-    ap (λ bytes. label_image sheets (view_of g.in_force.settings) bytes g.format.fields) printed.stored
-    ∙ ap (λ v. label_image sheets v (stored earlier) g.format.fields) printed.view
-    ∙ ap (label_image sheets (view_of (settings_of earlier)) (stored earlier)) printed.fields
+printed_image sheets g earlier printed = grind arith

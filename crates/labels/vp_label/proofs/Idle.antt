@@ -3,11 +3,8 @@ use Rattle.std.proofs.Common.{◌≡◌, ◌+◌, ◌<◌, ℕ, List, [], length
 use Rattle.vp_dots.specs.Images.{Image}
 use Rattle.vp_copies.specs.Copies.{bytes_above, copies_text, pending, Place}
 use Rattle.vp_copies.specs.Progress.{IsPlaceOf}
-use Rattle.std.proofs.Common.{◌∙◌, ◌∷◌, inl, inr, Option, Some, None}
-use Rattle.std.specs.Option.{option_or}
-use Rattle.std.proofs.lemmas.Bool.{cases_lt}
+use Rattle.std.proofs.Common.{◌∙◌, ◌∷◌}
 use Rattle.std.proofs.lemmas.List.{append-nil, drop_all}
-use Rattle.vp_dots.specs.declared.fault.Fault.{Fault}
 use Rattle.vp_glyph.specs.Sheets.{Sheets}
 use Rattle.vp_zpl.specs.Items.{Item, data_items}
 use Rattle.vp_zpl.specs.Items.Item.{Data}
@@ -26,18 +23,11 @@ nothing_left i p e = drop_none (bytes_above i.width i.height p.line + p.byte) (c
 
 -- nothing is pending where no copies are
 pub no_copies : PendingLaw → (i : Image) (p : Place) → (0 < p.copies → (0 < i.height) × IsPlaceOf i.width i.height p) → pending i p ≡ [] → p.copies ≡ 0
-no_copies law i p is none = elim (cases_lt 0 p.copies) [
-  | inl some ↦ absurd (let long = (law i p (is some).0 (is some).1).0 some in omega (arith, ap length none))
-  | inr none_left ↦ omega arith
-]
+no_copies law i p is none = grind arith
 
 -- one item
 pub one_refusal : (sheets : Sheets) (before : List Item) (item : Item) → first_refusal sheets before (item ∷ []) ≡ refusal sheets before item
-one_refusal sheets before item = or_none (refusal sheets before item)
-  where
-    or_none : (o : Option Fault) → option_or o None ≡ o
-    or_none None = refl
-    or_none (Some f) = refl
+one_refusal sheets before item = grind arith
 
 pub one_prints : (sheets : Sheets) (before : List Item) (item : Item) → all_print sheets before (item ∷ []) ≡ prints sheets before item
 one_prints sheets before item = append-nil (prints sheets before item)

@@ -1,5 +1,5 @@
 -- What is printed is the text of images.
-use Rattle.std.proofs.Common.{◌≡◌, ◌∙◌, ℕ, zero, suc, Bool, true, false, List, [], ◌∷◌, ◌++◌, refl, ap, sym, append_assoc}
+use Rattle.std.proofs.Common.{◌≡◌, ◌∙◌, ℕ, zero, suc, Bool, List, [], ◌∷◌, ◌++◌, refl, ap, sym, append_assoc, arith}
 use Rattle.std.specs.Prelude.{flat_map, replicate}
 use Rattle.std.proofs.lemmas.Grind.{flat_map-append}
 use Rattle.std.proofs.lemmas.List.{append-nil}
@@ -8,34 +8,29 @@ use Rattle.vp_glyph.specs.Sheets.{Sheets}
 use Rattle.vp_zpl.specs.Spelling.{Kept}
 use Rattle.vp_zpl.specs.declared.name.Name.{Name}
 use Rattle.vp_zpl.specs.declared.item.Command.{Command}
-use Rattle.vp_zpl.specs.declared.item.Command.TheVariants.{FormatEnd}
 use Rattle.vp_zpl.specs.Items.{Item}
 use Rattle.vp_zpl.specs.Items.Item.{Given, Data}
 use Rattle.vp_format.specs.declared.field.Field.{Field}
 use Rattle.vp_label_settings.specs.Formats.{is_open, followed_by}
 use Rattle.vp_label_settings.specs.Laws.{AreInRange}
-use Rattle.vp_label_settings.specs.Settings.{quantity, settings_of}
+use Rattle.vp_label_settings.specs.Settings.{settings_of}
 use Rattle.vp_copies.specs.Copies.{copies_text}
-use Rattle.vp_label.specs.Entries.{printed_entries}
 use Rattle.vp_label.specs.Images.{AreOfLabels, IsOfLabel, completed, completed_by, if_any, images}
-use Rattle.vp_label.specs.Prints.{all_print, image, printed, prints, prints_by, unless_empty}
+use Rattle.vp_label.specs.Prints.{all_print, printed, prints, prints_by, unless_empty}
 
 copies_are : (i : Image) (n : ℕ) → copies_text i n ≡ flat_map pbm (replicate n i)
 copies_are i zero = refl
 copies_are i (suc n) = ap (λ t. pbm i ++ t) (copies_are i n)
 
 any_are : (fields : List Field) (i : Image) (n : ℕ) → unless_empty fields (copies_text i n) ≡ flat_map pbm (if_any fields (replicate n i))
-any_are [] i n = refl
-any_are (f ∷ fs) i n = copies_are i n
+any_are fields i n = grind (arith, copies_are)
 
 command_is : (sheets : Sheets) (before : List Item) (command : Command) → prints_by sheets before command ≡ flat_map pbm (completed_by sheets before command)
-command_is sheets before FormatEnd = any_are (printed_entries sheets before) (image sheets before) (quantity before)
-command_is sheets before _ = refl
+command_is sheets before c = grind (arith, any_are)
 
 given_is : (opened : Bool) (sheets : Sheets) (before : List Item) (command : Command) (name : Name) (sent : List Kept) → is_open before ≡ opened →
     prints sheets before (Given command name sent) ≡ flat_map pbm (completed sheets before (Given command name sent))
-given_is true sheets before command name sent so = rw so (command_is sheets before command)
-given_is false sheets before _ name sent so = rw so refl
+given_is opened sheets before c name sent so = grind (arith, command_is)
 
 item_is : (sheets : Sheets) (before : List Item) (item : Item) → prints sheets before item ≡ flat_map pbm (completed sheets before item)
 item_is sheets before (Given command name sent) = given_is (is_open before) sheets before command name sent refl
@@ -43,9 +38,7 @@ item_is sheets before (Data byte) = refl
 
 pub all_are : (sheets : Sheets) (before : List Item) → printed sheets before ≡ flat_map pbm (images sheets before)
 all_are sheets [] = refl
-all_are sheets (item ∷ before) =
-    ap (λ t. t ++ prints sheets before item) (all_are sheets before) ∙ ap (λ t. flat_map pbm (images sheets before) ++ t) (item_is sheets before item)
-    ∙ sym (flat_map-append pbm (images sheets before) (completed sheets before item))
+all_are sheets (item ∷ before) = grind (arith, item_is, flat_map-append, all_are sheets before)
 
 -- what more items print comes behind
 pub more_printed : (sheets : Sheets) (before items : List Item) → printed sheets (followed_by before items) ≡ printed sheets before ++ all_print sheets before items
@@ -60,21 +53,12 @@ each : (n : ℕ) (i : Image) → IsOfLabel i → AreOfLabels (replicate n i)
 each zero i p = tt
 each (suc n) i p = (p, each n i p)
 
-any_of : (fields : List Field) (xs : List Image) → AreOfLabels xs → AreOfLabels (if_any fields xs)
-any_of [] xs p = tt
-any_of (f ∷ fs) xs p = p
-
 module _ (law : (before : List Item) → AreInRange (settings_of before)) (sheets : Sheets) where
   of_command : (before : List Item) (command : Command) → AreOfLabels (completed_by sheets before command)
-  of_command before FormatEnd =
-      let is = law before in
-      any_of (printed_entries sheets before) (replicate (quantity before) (image sheets before)) (each (quantity before) (image sheets before)
-      (record { wide = is.print_width.least; narrow = is.print_width.most; high = is.label_length.least; low = is.label_length.most }))
-  of_command before _ = tt
+  of_command before c = grind (arith, each)
 
   of_given : (opened : Bool) (before : List Item) (command : Command) (name : Name) (sent : List Kept) → is_open before ≡ opened → AreOfLabels (completed sheets before (Given command name sent))
-  of_given true before command name sent so = rw so (of_command before command)
-  of_given false before _ name sent so = rw so tt
+  of_given opened before c name sent so = grind (arith, of_command)
 
   of_item : (before : List Item) (item : Item) → AreOfLabels (completed sheets before item)
   of_item before (Given command name sent) = of_given (is_open before) before command name sent refl

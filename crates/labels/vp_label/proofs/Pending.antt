@@ -1,12 +1,11 @@
 -- What is pending is the end of what the newest item printed.
-use Rattle.std.proofs.Common.{◌≡◌, ◌<◌, ◌+◌, ◌∙◌, ℕ, List, [], ◌∷◌, length, drop, ap, arith, length-drop}
-use Rattle.std.specs.Prelude.{Result, Ok, Err}
+use Rattle.std.proofs.Common.{◌≡◌, ◌<◌, ℕ, List, [], length, drop, ap, arith, length-drop}
+use Rattle.std.specs.Prelude.{Result}
 use Rattle.std.specs.Result.{OnOk}
 use Rattle.std.proofs.lemmas.List.{drop-drop}
 use Rattle.vp_glyph.specs.Sheets.{Sheets}
 use Rattle.vp_zpl.specs.Items.{Item}
 use Rattle.vp_label.specs.declared.gathered.Gathered.{Gathered}
-use Rattle.vp_label.specs.Prints.{prints}
 use Rattle.vp_label.specs.Standing.{IsPrinting}
 
 pub none_printing : {A : Type 0} (sheets : Sheets) (g : Gathered A) (before : List Item) (pending : List ℕ) → pending ≡ [] → 0 < length pending → IsPrinting sheets g pending before
@@ -15,15 +14,10 @@ none_printing sheets g before pending none some = absurd (omega (arith, ap lengt
 -- behind bytes that are put out it still is
 pub still_printing : {A : Type 0} (sheets : Sheets) (g : Gathered A) (before : List Item) (old new : List ℕ) (n : ℕ) → new ≡ drop n old → (0 < length old → IsPrinting sheets g old before) →
     0 < length new → IsPrinting sheets g new before
-still_printing sheets g [] old new n rest is some = is (omega (arith, ap length rest, length-drop n old))
-still_printing sheets g (item ∷ before) old new n rest is some =
-    let was = is (omega (arith, ap length rest, length-drop n old)) in
-    record { printed = was.printed; rest = (was.rest.0 + n, rest ∙ ap (drop n) was.rest.1 ∙ drop-drop n was.rest.0 (prints sheets before item)) }
+still_printing sheets g before old new n rest is some = grind (arith, length-drop, drop-drop)
 
 pub on_ok_both : {T E P Q R : Type 0} (r : Result T E) → (P → Q → R) → OnOk r P → OnOk r Q → OnOk r R
-on_ok_both (Ok x) f p q = f p q
-on_ok_both (Err e) f p q = tt
+on_ok_both r f p q = grind arith
 
 pub on_ok_four : {T E P Q R S U : Type 0} (r : Result T E) → (P → Q → R → S → U) → OnOk r P → OnOk r Q → OnOk r R → OnOk r S → OnOk r U
-on_ok_four (Ok x) f p q s u = f p q s u
-on_ok_four (Err e) f p q s u = tt
+on_ok_four r f p q s u = grind arith

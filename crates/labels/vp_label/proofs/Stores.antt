@@ -2,7 +2,7 @@
 use Rattle.std.proofs.Common.{◌≡◌, ◌+◌, ◌∙◌, ◌<◌, ◌≤◌, ℕ, true, false, List, [], ◌∷◌, ◌++◌, length, arith, refl, length-append, Some, None, Bool, ◌&&◌, ap, inl, inr, sym, append_assoc}
 use Rattle.std.specs.Prelude.{nat_le}
 use Rattle.std.proofs.lemmas.List.{append-nil}
-use Rattle.std.proofs.lemmas.Bool.{cases_Bool, cases_lt, le-leb, lt-leb}
+use Rattle.std.proofs.lemmas.Bool.{cases_Bool, cases_lt, le-leb}
 use Rattle.vp_dots.specs.declared.fault.Fault.{Fault}
 use Rattle.vp_dots.specs.declared.fault.Fault.TheVariants.{StoreFull}
 use Rattle.vp_glyph.specs.Sheets.{Sheets}
@@ -30,8 +30,7 @@ all-stored before (b ∷ bytes) is_so = all-stored (Data b ∷ before) bytes is_
 
 -- a byte that fits
 fits : (opened : Bool) (n : ℕ) → n < STORED → (opened && nat_le STORED n) ≡ false
-fits true n h = lt-leb STORED n h
-fits false n h = refl
+fits opened n h = grind arith
 
 taken : (sheets : Sheets) (before : List Item) (b : ℕ) → length (stored before) < STORED → refusal sheets before (Data b) ≡ None
 taken sheets before b h = rw (fits (is_open before) (length (stored before)) h) refl

@@ -1,6 +1,7 @@
 -- What painting the label that was printed last takes.
 use Rattle.std.proofs.Common.{◌≡◌, ◌<◌, ◌≤◌, ◌∙◌, ℕ, List, [], ◌∷◌, length, ap, sym, refl, arith, length-drop}
-use Rattle.std.proofs.lemmas.Bool.{lt-ltb, le-ltb}
+use Rattle.std.proofs.lemmas.Grind.{common_steps}
+use Rattle.std.proofs.lemmas.Bool.{le-ltb}
 use Rattle.vp_field.specs.declared.view.View.{View}
 use Rattle.vp_format.specs.declared.field.Field.{Field}
 use Rattle.vp_glyph.specs.Sheets.{Sheets}
@@ -15,15 +16,11 @@ use Rattle.vp_label.specs.Standing.{painting, shown, IsPrinting, Printing}
 use Rattle.vp_label.specs.Work.{label_work, label_shown, most_work, least_work, of_last}
 
 pub none_left : (pending : List ℕ) → length pending ≤ 0 → pending ≡ []
-none_left [] none = refl
-none_left (b ∷ pending) none = absurd (omega (arith, none))
+none_left pending none = grind (arith, common_steps)
 
 -- an item that prints nothing leaves the label that was printed last, and one that prints is it
 same_label : (number : Sheets → List Item → ℕ) (sheets : Sheets) (before : List Item) (item : Item) → prints sheets before item ≡ [] → of_last number sheets (item ∷ before) ≡ of_last number sheets before
 same_label number sheets before item none = rw (le-ltb 0 (length (prints sheets before item)) (omega (arith, ap length none))) refl
-
-next_label : (number : Sheets → List Item → ℕ) (sheets : Sheets) (before : List Item) (item : Item) → 0 < length (prints sheets before item) → of_last number sheets (item ∷ before) ≡ number sheets before
-next_label number sheets before item some = rw (lt-ltb 0 (length (prints sheets before item)) some) refl
 
 pub data_work : (number : Sheets → List Item → ℕ) (sheets : Sheets) (before : List Item) (bytes : List ℕ) → of_last number sheets (followed_by before (data_items bytes)) ≡ of_last number sheets before
 data_work number sheets before [] = refl
@@ -32,8 +29,7 @@ data_work number sheets before (b ∷ bytes) = data_work number sheets (Data b �
 -- an item begins a label, whose painting took nothing yet, or it prints nothing
 pub newest_most : (sheets : Sheets) (before : List Item) (item : Item) (pending : List ℕ) (old new : ℕ) → pending ≡ prints sheets before item → (0 < length pending → new ≡ 0) → (pending ≡ [] → new ≡ old) →
     old ≤ most_work sheets before → new ≤ most_work sheets (item ∷ before)
-newest_most sheets before item [] old new is begun idle le = omega (arith, idle refl, le, same_label label_work sheets before item (sym is))
-newest_most sheets before item (b ∷ pending) old new is begun idle le = omega (arith, begun (omega arith))
+newest_most sheets before item pending old new is begun idle le = grind (arith, common_steps)
 
 pub newest_least : (sheets : Sheets) (before : List Item) (item : Item) (pending : List ℕ) (old new : ℕ) → pending ≡ prints sheets before item → (pending ≡ [] → new ≡ old) →
     least_work sheets before ≤ old → pending ≡ [] → least_work sheets (item ∷ before) ≤ new
@@ -44,16 +40,7 @@ held_last : {A : Type 0} (number : Sheets → List ℕ → View → List Field �
     → ((sheets : Sheets) (before : List Item) → last sheets before ≡ number sheets (stored before) (view_of (settings_of before)) (printed_entries sheets before))
     → (sheets : Sheets) (p : Printing A) (before : List Item) → p.sheets ≡ sheets → IsPrinting sheets p.gathered p.pending before → 0 < length p.pending
     → number p.sheets p.gathered.format.stored (view_of p.gathered.in_force.settings) p.gathered.format.fields ≡ of_last last sheets before
-held_last number last by_last sheets p [] same printing some = absurd printing
-held_last number last by_last sheets p (item ∷ before) same printing some =
-    let is = printing.printed in
-    let view = view_of p.gathered.in_force.settings in
-    let text : 0 < length (prints sheets before item) = omega (arith, some, ap length printing.rest.1, length-drop printing.rest.0 (prints sheets before item)) in
-    ap (λ (s : Sheets). number s p.gathered.format.stored view p.gathered.format.fields) same
-    ∙ ap (λ (bytes : List ℕ). number sheets bytes view p.gathered.format.fields) is.stored
-    ∙ ap (λ (fields : List Field). number sheets (stored before) view fields) is.fields
-    ∙ ap (λ (v : View). number sheets (stored before) v (printed_entries sheets before)) is.view
-    ∙ sym (by_last sheets before) ∙ sym (next_label last sheets before item text)
+held_last number last by_last sheets p before same printing some = grind (arith, length-drop)
 
 pub printing_most : {A : Type 0} (sheets : Sheets) (p : Printing A) (before : List Item) → p.sheets ≡ sheets → IsPrinting sheets p.gathered p.pending before → 0 < length p.pending → painting p ≡ most_work sheets before
 printing_most sheets p before = held_last (λ sheets bytes view fields. copy_work sheets bytes view fields (bands_of view)) label_work (λ s b. refl) sheets p before
