@@ -1,41 +1,19 @@
 -- Which band of a copy is the next one.
-use Rattle.std.proofs.Common.{◌≡◌, ℕ, ◌+◌, ◌*◌, ◌^◌, ◌≤◌, false, List, length, arith, refl, Option, None}
-use Rattle.std.proofs.lemmas.Bool.{both_ways}
-use Rattle.std.proofs.lemmas.Bool.Decides.{nat_tests}
+use Rattle.std.proofs.Common.{◌≡◌, ℕ, ◌+◌, ◌*◌, ◌^◌, ◌≤◌, List, length, arith, refl, Option, None}
 use Rattle.vp_glyph.specs.Sheets.{Sheets}
 use Rattle.vp_format.specs.Formats.{Held}
 use Rattle.vp_field.specs.declared.marks.Marks.{Marks}
 use Rattle.vp_field.specs.declared.view.View.{View}
-use Rattle.vp_fields_by_band.specs.declared.table.Entry.{Entry}
-use Rattle.vp_fields_by_band.specs.Threads.{entry_at, is_carried, carried_at, IsThreaded}
+use Rattle.vp_fields_by_band.specs.Threads.{IsThreaded}
 use Rattle.vp_bands.specs.Meeting.{band_work, meeting, showing}
 use Rattle.vp_bands.specs.Standing.{Threaded, AreMarked, IsThreadedFor, IsBefore}
 use Rattle.vp_bands.proofs.Painted.{no_pairs, pairs_more}
 use Rattle.vp_bands.proofs.Work.{copy_more}
 use Rattle.vp_bands.proofs.Seen.{none_shown, shown_more}
 
--- nothing is carried to the first band
-first_band : (e : Entry) → is_carried 0 e ≡ false
-first_band e = grind (arith, nat_tests)
-
-pub none_carried : (entries : List Entry) (links : List (Option ℕ)) → IsThreaded entries links 0 None
-none_carried entries links = record {
-  head = λ k ge lt. first_band (entry_at entries k);
-  rest = λ k lt now. absurd (both_ways (carried_at entries 0 k) (first_band (entry_at entries k)) now);
-}
-
 -- nothing of a copy is painted yet
 pub begun : (sheets : Sheets) (held : Held) (view : View) (t : Threaded) → IsThreadedFor sheets held view t.entries t.heads → t.carried ≡ None → t.looks ≡ 0 → t.work ≡ 0 → IsBefore sheets held view 0 t
-begun sheets held view t label none unread idle = record {
-  label = label;
-  carried = rw none (none_carried t.entries t.links);
-  marks = λ k f ge lt now. absurd (both_ways (carried_at t.entries 0 k) (first_band (entry_at t.entries k)) now);
-  at_least = omega (arith, no_pairs sheets held.stored view held.fields);
-  at_most = omega arith;
-  work = omega arith;
-  shown = omega (arith, none_shown sheets held.stored view held.fields);
-  countable = omega arith;
-}
+begun sheets held view t label none unread idle = grind (arith, no_pairs, none_shown)
 
 -- another copy of the label
 pub started : (sheets : Sheets) (held : Held) (view : View) (b : ℕ) (t : Threaded) → IsBefore sheets held view b t → IsBefore sheets held view 0 (record t { carried = None; looks = 0; work = 0 })
@@ -48,14 +26,4 @@ pub painted_on : (sheets : Sheets) (held : Held) (view : View) (b : ℕ) (t : Th
     → work ≤ t.work + band_work sheets held.stored view held.fields b → t.work + showing sheets held.stored view held.fields b ≤ work → work ≤ t.work + 2 ^ 37
     → IsBefore sheets held view (b + 1) (record t { links = links; marks = marks; carried = carried; looks = looks; work = work })
 painted_on sheets held view b t links marks carried looks work before threaded marked least most took shown few =
-    let more = pairs_more sheets held.stored view held.fields b in
-    record {
-      label = before.label;
-      carried = threaded;
-      marks = marked;
-      at_least = rw more (omega (arith, before.at_least, least));
-      at_most = rw more (omega (arith, before.at_most, most));
-      work = omega (arith, before.work, took, copy_more sheets held.stored view held.fields b);
-      shown = omega (arith, before.shown, shown, shown_more sheets held.stored view held.fields b);
-      countable = omega (arith, before.countable, few);
-    }
+    grind (arith, pairs_more, copy_more, shown_more)

@@ -1,7 +1,7 @@
 -- The bands that a box meets, and the looks of a copy.
-use Rattle.std.proofs.Common.{◌≡◌, ℕ, zero, suc, ◌+◌, ◌-◌, ◌*◌, ◌/◌, ◌<◌, ◌≤◌, true, false, ◌&&◌, List, ap, arith, inl, inr, ℤ, pos, ◌+ℤ◌, ◌≤ℤ◌, ◌<ℤ◌, nat_lt, int_le, int_lt}
+use Rattle.std.proofs.Common.{◌≡◌, ℕ, zero, suc, ◌+◌, ◌-◌, ◌*◌, ◌/◌, ◌<◌, ◌≤◌, true, ◌&&◌, List, ap, arith, ℤ, pos, ◌+ℤ◌, ◌≤ℤ◌, ◌<ℤ◌, nat_lt, int_le, int_lt}
 use Rattle.std.proofs.lemmas.Int.{ints}
-use Rattle.std.proofs.lemmas.Bool.{cases_Bool, and_parts, lt-ltb, ltb-true}
+use Rattle.std.proofs.lemmas.Bool.{and_parts, lt-ltb, ltb-true}
 use Rattle.vp_glyph.specs.Sheets.{Sheets}
 use Rattle.vp_format.specs.declared.field.Field.{Field}
 use Rattle.vp_field.specs.declared.view.View.{View}
@@ -34,17 +34,8 @@ unfolding box_meets
 row_met view top rows b y at low lo hi =
     row_any (shows_row view top rows) (32 * b) 32 y (let l : 32 * b ≤ y = omega (arith, at) in l) (let h : y < 32 * b + 32 = omega (arith, at) in h) (shown y view.height top (seen_y view (pos y)) rows low lo hi)
 
-none_behind : (view : View) (top : ℤ) (rows b : ℕ) → bands_of view ≤ b → box_meets view top rows b ≡ false
-none_behind view top rows b le = elim (cases_Bool (box_meets view top rows b)) [
-  | inr gone ↦ gone
-  | inl met ↦ let r = met_row view top rows b met in absurd (omega (arith, r.1, r.2))
-]
-
 pub bands_met : BandsMet
-bands_met = record {
-  rows = λ view top rows b. (met_row view top rows b, λ r. row_met view top rows b r.0 r.1 r.2 r.3 r.4);
-  behind = none_behind;
-}
+bands_met = grind (arith, met_row, row_met)
 
 -- the pairs grow from band to band
 pairs_grow : (sheets : Sheets) (stored : List ℕ) (view : View) (fields : List Field) (b d : ℕ) → pairs sheets stored view fields b ≤ pairs sheets stored view fields (b + d)

@@ -1,15 +1,14 @@
 -- Entries that stand for the fields of a format.
-use Rattle.std.proofs.Common.{◌≡◌, ℕ, ◌+◌, ◌<◌, ◌≤◌, List, [], ◌∷◌, ◌++◌, length, get_or, ap, sym, true, false, ◌∙◌, arith, inl, inr, Option, Some}
+use Rattle.std.proofs.Common.{◌≡◌, ℕ, ◌+◌, ◌<◌, ◌≤◌, List, [], ◌∷◌, ◌++◌, length, get_or, sym, true, false, ◌∙◌, arith, Option, Some}
+use Rattle.std.proofs.lemmas.Grind.{common_steps}
 use Rattle.std.specs.Prelude.{slice_get}
-use Rattle.std.proofs.lemmas.Bool.{cases_lt}
 use Rattle.std.proofs.lemmas.Option.{get_or_from_slice_get}
-use Rattle.std.proofs.lemmas.List.{get_or_append_left, get_or-append-add}
 use Rattle.vp_glyph.specs.Sheets.{Sheets}
 use Rattle.vp_format.specs.Formats.{Held}
 use Rattle.vp_format.specs.declared.field.Field.{Field}
 use Rattle.vp_field.specs.declared.view.View.{View}
 use Rattle.vp_fields_by_band.specs.declared.table.Entry.{Entry}
-use Rattle.vp_fields_by_band.specs.Threads.{no_entry, entry_at, meets_at, IsNext, IsTable, KeepsSpans, ThreadedFrom}
+use Rattle.vp_fields_by_band.specs.Threads.{entry_at, meets_at, IsNext, IsTable, KeepsSpans, ThreadedFrom}
 use Rattle.vp_bands.specs.Meeting.{field_meets}
 use Rattle.vp_bands.specs.Standing.{AreSpanned, IsSpanned}
 use Rattle.vp_bands.proofs.Painted.{NoneOf}
@@ -22,21 +21,11 @@ AreSet sheets held view entries n =
 -- and that of one more
 pub one_set : (sheets : Sheets) (held : Held) (view : View) (entries : List Entry) (n : ℕ) (e : Entry) → length entries ≡ n → ((f : Field) → IsSpanned sheets held.stored view (get_or held.fields n f) e)
     → AreSet sheets held view entries n → AreSet sheets held view (entries ++ e ∷ []) (n + 1)
-one_set sheets held view entries n e len here done k f lt = elim (cases_lt k n) [
-  | inl before ↦ rw (get_or_append_left entries (e ∷ []) no_entry k (omega arith)) (done k f before)
-  | inr at ↦
-      let is : k ≡ n = omega arith in
-      let last : k ≡ length entries + 0 = omega arith in
-      let new : entry_at (entries ++ e ∷ []) k ≡ e = rw last (get_or-append-add entries (e ∷ []) 0 no_entry) in
-      rw new (rw is (here f))
-]
+one_set sheets held view entries n e len here done k f lt = grind (arith, common_steps)
 
 -- threading keeps the bands of each
 pub spans_kept : (sheets : Sheets) (held : Held) (view : View) (old new : List Entry) → length new ≡ length old → KeepsSpans old new → AreSpanned sheets held view old → AreSpanned sheets held view new
-spans_kept sheets held view old new len same spanned = record {
-  each = len ∙ spanned.each;
-  bands = λ k f lt b. rw ((same k).0, (same k).1) (spanned.bands k f lt b);
-}
+spans_kept sheets held view old new len same spanned = grind arith
 
 pub table_of : (entries : List Entry) (heads : List (Option ℕ)) → ThreadedFrom entries heads 0 → IsTable entries
 table_of entries heads threaded = record { begins = λ b k lt now. threaded.rest b k (omega arith) lt now }
@@ -56,13 +45,4 @@ none_met sheets held view entries b from to spanned within none k f ge lt = sym 
 
 pub next_field : (sheets : Sheets) (held : Held) (view : View) (entries : List Entry) (b seen n : ℕ) (f : Field) → AreSpanned sheets held view entries
     → IsNext (meets_at entries b) seen (length entries) (Some n) → slice_get held.fields n ≡ Some f → IsNextField sheets held view b seen n f
-next_field sheets held view entries b seen n f spanned next read =
-    let is = get_or_from_slice_get held.fields n f f read in
-    let within : n < length held.fields = omega (arith, next.1, spanned.each) in
-    record {
-      from = next.0;
-      within = within;
-      is = is;
-      none = none_met sheets held view entries b seen n spanned (omega (arith, next.1)) next.3;
-      meets = ap (field_meets sheets held.stored view b) (sym is) ∙ sym (spanned.bands n f within b) ∙ next.2;
-    }
+next_field sheets held view entries b seen n f spanned next read = grind (arith, get_or_from_slice_get)

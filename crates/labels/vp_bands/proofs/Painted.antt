@@ -1,8 +1,9 @@
 -- The fields that meet a band, one after the other, and those that don't.
 use Rattle.std.proofs.Common.{◌≡◌, ℕ, zero, suc, ◌+◌, ◌-◌, ◌*◌, ◌<◌, ◌≤◌, Bool, true, false, ◌&&◌, nat_lt, List, [], ◌∷◌, ◌++◌, length, map, take, get_or, subst, refl, ap, sym, ◌∙◌, arith, inl, inr, filter, ℤ, pos, ◌+ℤ◌, ◌≤ℤ◌, ◌<ℤ◌, int_le, int_lt}
+use Rattle.std.proofs.lemmas.Grind.{common_steps}
 use Rattle.std.specs.List.{list_any, range_with_len, sum_by}
 use Rattle.std.proofs.lemmas.Int.{ints}
-use Rattle.std.proofs.lemmas.Bool.{cases_Bool, both_ways, lt-ltb, ltb-true}
+use Rattle.std.proofs.lemmas.Bool.{cases_Bool, both_ways, lt-ltb}
 use Rattle.std.proofs.lemmas.List.{map-id, map-append, take_all, take_more, append-nil, length-take}
 use Rattle.std.proofs.lemmas.List.Elements.{filter_more}
 use Rattle.std.proofs.lemmas.List.FromFn.{sum_by-map-range_with_len_more}
@@ -12,9 +13,9 @@ use Rattle.vp_glyph.specs.Sheets.{Sheets}
 use Rattle.vp_format.specs.Formats.{Held}
 use Rattle.vp_format.specs.declared.field.Field.{Field}
 use Rattle.vp_field.specs.declared.view.View.{View}
-use Rattle.vp_field.specs.Views.{seen_x, seen_y}
+use Rattle.vp_field.specs.Views.{seen_y}
 use Rattle.vp_field.specs.Fields.{field_ink, stroke_of, box_rows}
-use Rattle.vp_field.specs.Strokes.{viewed, label_dot, image_dot}
+use Rattle.vp_field.specs.Strokes.{label_dot, image_dot}
 use Rattle.vp_field.proofs.Folds.{label_dot-push, moved_dot}
 use Rattle.vp_field.proofs.Boxed.{in_the_box}
 use Rattle.vp_bands.specs.Meeting.{shows_row, box_meets, field_meets, meeting, pairs}
@@ -51,8 +52,7 @@ passed_by p fields seen n le within none = same_over (λ m. filter p (take m fie
 -- and the next one that passes it comes behind those before
 pub passes_next : (p : Field → Bool) (fields : List Field) (seen n : ℕ) (f : Field) → seen ≤ n → n < length fields → NoneOf p fields seen n → get_or fields n f ≡ f → p f ≡ true
     → filter p (take (n + 1) fields) ≡ filter p (take seen fields) ++ f ∷ []
-passes_next p fields seen n f le lt none is now =
-    filter_more p fields n f lt ∙ rw (is, now) (ap (λ fs. fs ++ f ∷ []) (passed_by p fields seen n le (omega arith) none))
+passes_next p fields seen n f le lt none is now = grind (arith, common_steps, passed_by)
 
 -- behind the last one that passes it are all
 pub all_passed : (p : Field → Bool) (fields : List Field) (seen : ℕ) → seen ≤ length fields → NoneOf p fields seen (length fields) → filter p (take seen fields) ≡ filter p fields
@@ -84,8 +84,7 @@ module _ (sheets : Sheets) (stored : List ℕ) (p : Field → Bool) (fields : Li
   dot_of fs = label_dot (map (stroke_of sheets stored) fs) x y
 
   pushed : (fs : List Field) (f : Field) → dot_of (fs ++ f ∷ []) ≡ paint f.op (field_ink sheets stored f x y) (dot_of fs)
-  pushed fs f =
-      ap (λ ss. label_dot ss x y) (map-append (stroke_of sheets stored) fs (f ∷ [])) ∙ label_dot-push (map (stroke_of sheets stored) fs) (stroke_of sheets stored f) x y
+  pushed fs f = grind (arith, map-append, label_dot-push)
 
   at_field : (m : ℕ) → m < length fields → dot_of (filter p (take m fields)) ≡ dot_of (take m fields) → dot_of (filter p (take (m + 1) fields)) ≡ dot_of (take (m + 1) fields)
   at_field m lt same =
@@ -111,21 +110,7 @@ module _ (sheets : Sheets) (stored : List ℕ) (p : Field → Bool) (fields : Li
 -- what the band shows of the fields that meet it is the label
 pub met_image : (sheets : Sheets) (stored : List ℕ) (view : View) (b : ℕ) (fields : List Field) (x k : ℕ) → k < 32
     → image_dot view (map (stroke_of sheets stored) (met sheets stored view b fields)) x (32 * b + k) ≡ image_dot view (map (stroke_of sheets stored) fields) x (32 * b + k)
-met_image sheets stored view b fields x k low =
-    on_label (nat_lt x view.width) (nat_lt (32 * b + k) view.height) _ _ (λ within. same (ltb-true _ _ within))
-  where
-    on_label : (c d p q : Bool) → (d ≡ true → p ≡ q) → (c && d && p) ≡ (c && d && q)
-    on_label true true p q h = h refl
-    on_label true false p q h = refl
-    on_label false d p q h = refl
-
-    same : 32 * b + k < view.height → label_dot (map (viewed view) (map (stroke_of sheets stored) (met sheets stored view b fields))) (pos x) (pos (32 * b + k)) ≡ label_dot (map (viewed view) (map (stroke_of sheets stored) fields)) (pos x) (pos (32 * b + k))
-    same within =
-        let sx = seen_x view (pos x) in
-        let sy = seen_y view (pos (32 * b + k)) in
-        moved_dot view (pos x) (pos (32 * b + k)) (map (stroke_of sheets stored) (met sheets stored view b fields))
-        ∙ met_dot sheets stored (field_meets sheets stored view b) fields sx sy (λ f out. no_ink sheets stored view f b (32 * b + k) sx out within (omega arith) (omega arith))
-        ∙ sym (moved_dot view (pos x) (pos (32 * b + k)) (map (stroke_of sheets stored) fields))
+met_image sheets stored view b fields x k low = grind (arith, common_steps, moved_dot, met_dot, no_ink)
 
 -- the pairs of one more band
 pub pairs_more : (sheets : Sheets) (stored : List ℕ) (view : View) (fields : List Field) (n : ℕ) → pairs sheets stored view fields (n + 1) ≡ pairs sheets stored view fields n + meeting sheets stored view fields n

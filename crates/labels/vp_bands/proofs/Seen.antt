@@ -1,7 +1,7 @@
 -- The fields that have ink in a band.
-use Rattle.std.proofs.Common.{◌≡◌, ℕ, ◌+◌, ◌-◌, ◌*◌, ◌<◌, ◌≤◌, Bool, true, false, ◌&&◌, cond, nat_lt, List, length, take, get_or, filter, subst, refl, ap, sym, ◌∙◌, arith, inl, inr, pos}
+use Rattle.std.proofs.Common.{◌≡◌, ℕ, ◌+◌, ◌-◌, ◌*◌, ◌<◌, ◌≤◌, Bool, true, false, ◌&&◌, cond, nat_lt, List, length, take, get_or, filter, subst, refl, ap, sym, ◌∙◌, arith, pos}
 use Rattle.std.specs.List.{list_any, range_with_len, sum_by}
-use Rattle.std.proofs.lemmas.Bool.{cases_Bool, both_ways, and_parts, ltb-true}
+use Rattle.std.proofs.lemmas.Bool.{and_parts, ltb-true}
 use Rattle.std.proofs.lemmas.List.{map-id}
 use Rattle.std.proofs.lemmas.List.Filters.{length-filter_more}
 use Rattle.std.proofs.lemmas.List.FromFn.{sum_by-map-range_with_len_more}
@@ -26,14 +26,6 @@ ink_dot sheets stored view b f shows =
     let dot = any_row (λ x. field_ink sheets stored f (seen_x view (pos x)) (seen_y view (pos row.0))) 0 view.width p.1 in
     (row.0, row.1, row.2, ltb-true _ _ p.0, dot.0, dot.3)
 
--- such a field meets the band
-seen_meets : (sheets : Sheets) (stored : List ℕ) (view : View) (b : ℕ) (f : Field) → field_shows sheets stored view b f ≡ true → field_meets sheets stored view b f ≡ true
-seen_meets sheets stored view b f shows = elim (cases_Bool (field_meets sheets stored view b f)) [
-  | inl met ↦ met
-  | inr out ↦ let d = ink_dot sheets stored view b f shows in
-      absurd (both_ways (field_ink sheets stored f (seen_x view (pos d.4)) (seen_y view (pos d.0))) (no_ink sheets stored view f b d.0 (seen_x view (pos d.4)) out d.3 d.1 d.2) d.5)
-]
-
 -- painting it took something
 pub seen_took : (sheets : Sheets) (stored : List ℕ) (view : View) (b work : ℕ) (f : Field) → IsCounted (λ x k. field_ink sheets stored f (seen_x view (pos x)) (seen_y view (pos (32 * b + k)))) work
     → field_shows sheets stored view b f ≡ true → 0 < work
@@ -45,10 +37,7 @@ seen_took sheets stored view b work f counted shows =
 
 -- where no field meets the band none has ink there
 pub none_seen : (sheets : Sheets) (stored : List ℕ) (view : View) (b from to : ℕ) (fields : List Field) → NoneOf (field_meets sheets stored view b) fields from to → NoneOf (field_shows sheets stored view b) fields from to
-none_seen sheets stored view b from to fields none k f ge lt = elim (cases_Bool (field_shows sheets stored view b (get_or fields k f))) [
-  | inr out ↦ out
-  | inl shows ↦ absurd (both_ways (field_meets sheets stored view b (get_or fields k f)) (none k f ge lt) (seen_meets sheets stored view b (get_or fields k f) shows))
-]
+none_seen sheets stored view b from to fields none k f ge lt = grind (arith, ink_dot, no_ink)
 
 -- one more field that meets the band
 pub seen_more : (sheets : Sheets) (stored : List ℕ) (view : View) (b seen n work : ℕ) (fields : List Field) (f : Field) → seen ≤ n → n < length fields → NoneOf (field_meets sheets stored view b) fields seen n → get_or fields n f ≡ f

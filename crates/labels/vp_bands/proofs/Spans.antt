@@ -1,46 +1,27 @@
 -- The rows and the bands that a box meets.
-use Rattle.std.proofs.Common.{◌≡◌, ℕ, zero, suc, ◌+◌, ◌-◌, ◌*◌, ◌/◌, ◌<◌, ◌≤◌, Bool, true, false, ◌&&◌, ◌||◌, ◌⊎◌, inl, inr, nat_le, nat_lt, refl, sym, ◌∙◌, arith, max, ℤ, pos, ◌+ℤ◌, ◌-ℤ◌, int_le, int_lt, ap}
-use Rattle.std.proofs.lemmas.Int.{ints}
-use Rattle.std.proofs.lemmas.Bool.{true≢false, cases_Bool, cases_lt, lt-ltb, le-ltb}
+use Rattle.std.proofs.Common.{◌≡◌, ℕ, zero, suc, ◌+◌, ◌-◌, ◌*◌, ◌/◌, ◌<◌, ◌≤◌, Bool, true, false, ◌&&◌, ◌||◌, ◌⊎◌, inl, inr, nat_le, nat_lt, sym, ◌∙◌, arith, max, ℤ, pos, ◌-ℤ◌}
+use Rattle.std.proofs.lemmas.Grind.{common_steps}
+use Rattle.std.proofs.lemmas.Bool.{true≢false, cases_Bool}
 use Rattle.std.proofs.lemmas.Bool.Decides.{nat_tests}
 use Rattle.std.specs.List.{list_any, range_with_len}
 use Rattle.std.proofs.lemmas.List.Folds.{list_any_at}
 use Rattle.std.proofs.lemmas.List.FromFn.{length-range_with_len, get_or-range_with_len}
 use Rattle.vp_bands.specs.Meeting.{is_among}
 
-from_below : (height rows : ℕ) (top p : ℤ) → int_le (pos height -ℤ top -ℤ pos rows) p ≡ int_lt (pos height -ℤ pos 1 -ℤ p) (top +ℤ pos rows)
-from_below height rows top p = grind (arith, ints)
-
-below_from : (height rows : ℕ) (top p : ℤ) → int_lt p (pos height -ℤ top -ℤ pos rows +ℤ pos rows) ≡ int_le top (pos height -ℤ pos 1 -ℤ p)
-below_from height rows top p = grind (arith, ints)
-
 swapped : (a b : Bool) → (a && b) ≡ (b && a)
-swapped true true = refl
-swapped true false = refl
-swapped false true = refl
-swapped false false = refl
+swapped a b = grind arith
 
 -- a box on a label that is turned by 180 degrees
 pub among_turned : (height rows : ℕ) (top p : ℤ) → is_among (pos height -ℤ top -ℤ pos rows) rows p ≡ is_among top rows (pos height -ℤ pos 1 -ℤ p)
-among_turned height rows top p =
-    ap (λ a. a && int_lt p (pos height -ℤ top -ℤ pos rows +ℤ pos rows)) (from_below height rows top p) ∙ ap (λ b. int_lt (pos height -ℤ pos 1 -ℤ p) (top +ℤ pos rows) && b) (below_from height rows top p)
-    ∙ swapped (int_lt (pos height -ℤ pos 1 -ℤ p) (top +ℤ pos rows)) (int_le top (pos height -ℤ pos 1 -ℤ p))
+among_turned height rows top p = grind (arith, common_steps)
 
 -- the rows of a box from one to another, and those of the label
 pub clamped_rows : (y size from to : ℕ) (a b i : Bool) → to ≤ size → (y < size → nat_le from y ≡ a) → (y < size → nat_lt y to ≡ b) → (a && b) ≡ i
     → (nat_lt y size && i) ≡ (nat_le from y && nat_lt y to)
-clamped_rows y size from to a b i within p q both = elim (cases_lt y size) [
-  | inl l ↦ rw (lt-ltb y size l, p l, q l) (sym both)
-  | inr l ↦ rw (le-ltb y size l, le-ltb y to (omega arith)) (no (nat_le from y))
-]
-  where
-    no : (c : Bool) → false ≡ (c && false)
-    no true = refl
-    no false = refl
+clamped_rows y size from to a b i within p q both = grind arith
 
 or_cases : (a b : Bool) → (a || b) ≡ true → (a ≡ true) ⊎ (b ≡ true)
-or_cases true b e = inl refl
-or_cases false b e = inr e
+or_cases a b e = grind arith
 
 -- a row that passes, where one of some does
 pub any_row : (p : ℕ → Bool) (a n : ℕ) → list_any p (range_with_len a n) ≡ true → (y : ℕ) × (a ≤ y) × (y < a + n) × (p y ≡ true)
