@@ -7,13 +7,11 @@ use Rattle.vp_fields_by_band.specs.Threads.{no_entry, entry_at, begins_in, begin
 
 -- a test that answers alike has the same next
 next_same : (P Q : ℕ → Bool) (from to : ℕ) (o : Option ℕ) → ((j : ℕ) → Q j ≡ P j) → IsNext P from to o → IsNext Q from to o
-next_same P Q from to None same h = λ k ge lt. same k ∙ h k ge lt
-next_same P Q from to (Some n) same h = (h.0, h.1, same n ∙ h.2, λ k ge lt. same k ∙ h.3 k ge lt)
+next_same P Q from to o same h = grind arith
 
 -- from one place earlier, where it fails
 next_before : (P : ℕ → Bool) (k to : ℕ) (o : Option ℕ) → P k ≡ false → IsNext P (k + 1) to o → IsNext P k to o
-next_before P k to None out h = λ j ge lt. elim (cases_eq j k) [ inl e ↦ ap P e ∙ out | inr ne ↦ h j (omega arith) lt ]
-next_before P k to (Some n) out h = (omega (arith, h.0), h.1, h.2, λ j ge lt. elim (cases_eq j k) [ inl e ↦ ap P e ∙ out | inr ne ↦ h.3 j (omega arith) lt ])
+next_before P k to o out h = grind arith
 
 begun_at : (e : Entry) (b : ℕ) → begins_in b e ≡ true → b ≡ e.first
 begun_at e b h = grind (arith, nat_tests)
@@ -25,11 +23,7 @@ not_begun_at : (e : Entry) (b : ℕ) → (b ≡ e.first → ⊥) → begins_in b
 not_begun_at e b h = grind (arith, nat_tests)
 
 same_begins : (entries : List Entry) (k : ℕ) (next : Option ℕ) (b j : ℕ) → k < length entries → begins_at (set entries k (record (entry_at entries k) { next = next })) b j ≡ begins_at entries b j
-same_begins entries k next b j lt =
-    elim (cases_eq j k) [
-      | inl e ↦ ap (begins_in b) (ap (entry_at (set entries k (record (entry_at entries k) { next = next }))) e ∙ get_or-set_same entries k (record (entry_at entries k) { next = next }) no_entry lt) ∙ ap (begins_at entries b) (sym e)
-      | inr ne ↦ ap (begins_in b) (get_or-set_other entries k j (record (entry_at entries k) { next = next }) no_entry ne)
-    ]
+same_begins entries k next b j lt = grind (arith, get_or-set_same, get_or-set_other)
 
 pub threaded_one : (entries : List Entry) (tops : List (Option ℕ)) (k : ℕ) → k < length entries → (entry_at entries k).first < length tops → (entry_at entries k).first ≤ (entry_at entries k).last → ThreadedFrom entries tops (k + 1) →
     ThreadedFrom (set entries k (record (entry_at entries k) { next = link_at tops (entry_at entries k).first })) (set tops (entry_at entries k).first (Some k)) k
@@ -58,14 +52,8 @@ threaded_one entries tops k lt placed spans done =
 -- the entry is read as `e`
 pub threaded_at : (entries : List Entry) (tops : List (Option ℕ)) (k : ℕ) (e : Entry) → k < length entries → entry_at entries k ≡ e → e.first < length tops → e.first ≤ e.last → ThreadedFrom entries tops (k + 1) →
     ThreadedFrom (set entries k (record e { next = link_at tops e.first })) (set tops e.first (Some k)) k
-threaded_at entries tops k e lt is placed spans done =
-    subst (λ (x : Entry). x.first < length tops → x.first ≤ x.last → ThreadedFrom (set entries k (record x { next = link_at tops x.first })) (set tops x.first (Some k)) k) is
-    (λ at now. threaded_one entries tops k lt at now done) placed spans
+threaded_at entries tops k e lt is placed spans done = grind (arith, threaded_one)
 
 -- and its bands stay
 pub spans_at : (old entries : List Entry) (k : ℕ) (e : Entry) (next : Option ℕ) → k < length entries → entry_at entries k ≡ e → KeepsSpans old entries → KeepsSpans old (set entries k (record e { next = next }))
-spans_at old entries k e next lt is same j =
-    elim (cases_eq j k) [
-      | inl at ↦ let was = same k in rw (at, get_or-set_same entries k (record e { next = next }) no_entry lt) (ap (λ (x : Entry). x.first) (sym is) ∙ was.0, ap (λ (x : Entry). x.last) (sym is) ∙ was.1)
-      | inr other ↦ rw (get_or-set_other entries k j (record e { next = next }) no_entry other) (same j)
-    ]
+spans_at old entries k e next lt is same j = grind (arith, get_or-set_same, get_or-set_other)

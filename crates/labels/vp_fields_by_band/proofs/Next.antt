@@ -1,77 +1,38 @@
 -- The next number that passes a test, as a walk goes on.
-use Rattle.std.proofs.Common.{◌≡◌, ◌≢◌, ℕ, ◌+◌, ◌<◌, ◌≤◌, Bool, true, false, List, length, Option, None, Some, refl, ap, sym, subst, ◌∙◌, arith, inl, inr, get_or-set_same, get_or-set_other}
+use Rattle.std.proofs.Common.{◌≡◌, ◌≢◌, ℕ, ◌+◌, ◌<◌, ◌≤◌, Bool, true, false, List, length, Option, None, Some, ap, sym, ◌∙◌, arith, inl, inr, get_or-set_same, get_or-set_other}
 use Rattle.std.specs.Option.{ForSome}
-use Rattle.std.proofs.lemmas.Bool.{cases_eq, cases_lt, both_ways}
+use Rattle.std.proofs.lemmas.Bool.{cases_lt, both_ways}
 use Rattle.std.proofs.lemmas.Bool.Decides.{nat_tests}
 use Rattle.vp_fields_by_band.specs.declared.table.Entry.{Entry}
 use Rattle.vp_fields_by_band.specs.declared.walk.Walk.{Walk}
 use Rattle.vp_fields_by_band.specs.Threads.{entry_at, begins_at, carried_at, meets_at, begins_in, is_carried, meets, IsNext, IsLast, IsTable, IsWalk, link_at, linked, ended, first_kept, IsThreaded}
 
--- a field that doesn't meet the band neither begins there, nor is carried to it or on from it
-not_carried : (e : Entry) (b : ℕ) → meets b e ≡ false → is_carried b e ≡ false
-not_carried e b h = grind (arith, nat_tests)
-
-not_begun : (e : Entry) (b : ℕ) → meets b e ≡ false → begins_in b e ≡ false
-not_begun e b h = grind (arith, nat_tests)
-
-not_kept : (e : Entry) (b : ℕ) → meets b e ≡ false → is_carried (b + 1) e ≡ false
-not_kept e b h = grind (arith, nat_tests)
-
 begun : (e : Entry) (b : ℕ) → meets b e ≡ true → is_carried b e ≡ false → begins_in b e ≡ true
 begun e b h g = grind (arith, nat_tests)
 
-not_both : (e : Entry) (b : ℕ) → is_carried b e ≡ true → begins_in b e ≡ false
-not_both e b h = grind (arith, nat_tests)
-
 -- what is next after n, where n is not, and nothing is before it
 pub next_past : (P : ℕ → Bool) (from to n : ℕ) (o : Option ℕ) → IsNext P from to o → ((k : ℕ) → from ≤ k → k < n → P k ≡ false) → (o ≡ Some n → ⊥) → from ≤ n → IsNext P (n + 1) to o
-next_past P from to n None h gap ne le = λ k ge lt. h k (omega arith) lt
-next_past P from to n (Some m) h gap ne le =
-    let after : n + 1 ≤ m = elim (cases_lt m n) [
-      | inl lt ↦ absurd (both_ways (P m) (gap m h.0 lt) h.2)
-      | inr ge ↦ elim (cases_eq m n) [ inl e ↦ absurd (ne (ap Some e)) | inr d ↦ omega arith ]
-    ] in
-    (after, h.1, h.2, λ k ge lt. h.3 k (omega arith) lt)
+next_past P from to n o h gap ne le = grind arith
 
 -- then n doesn't pass
 pub not_next : (P : ℕ → Bool) (from to n : ℕ) (o : Option ℕ) → IsNext P from to o → ((k : ℕ) → from ≤ k → k < n → P k ≡ false) → (o ≡ Some n → ⊥) → from ≤ n → n < to → P n ≡ false
-not_next P from to n None h gap ne le lt = h n le lt
-not_next P from to n (Some m) h gap ne le lt =
-    let after = next_past P from to n (Some m) h gap ne le in h.3 n le (omega (arith, after.0))
+not_next P from to n o h gap ne le lt = grind arith
 
 -- nothing more up to n + 1
 pub next_wider : (P : ℕ → Bool) (from seen n : ℕ) (o : Option ℕ) → IsNext P from seen o → ((k : ℕ) → seen ≤ k → k < n → P k ≡ false) → P n ≡ false → seen ≤ n → IsNext P from (n + 1) o
-next_wider P from seen n None h gap out le = λ k ge lt.
-    elim (cases_lt k seen) [ inl below ↦ h k ge below | inr past ↦ elim (cases_lt k n) [ inl below ↦ gap k past below | inr at ↦ let e : n ≡ k = omega arith in ap P (sym e) ∙ out ] ]
-next_wider P from seen n (Some m) h gap out le = (h.0, omega (arith, h.1), h.2, h.3)
-
--- n is next where nothing was
-pub next_added : (P : ℕ → Bool) (from seen n : ℕ) → IsNext P from seen None → ((k : ℕ) → seen ≤ k → k < n → P k ≡ false) → P n ≡ true → from ≤ n → IsNext P from (n + 1) (Some n)
-next_added P from seen n h gap now le = (le, omega arith, now, λ k ge lt. elim (cases_lt k seen) [ inl below ↦ h k ge below | inr past ↦ gap k past lt ])
-
-pub next_stays : (P : ℕ → Bool) (from seen n m : ℕ) → IsNext P from seen (Some m) → seen ≤ n → IsNext P from (n + 1) (Some m)
-next_stays P from seen n m h le = (h.0, omega (arith, h.1), h.2, h.3)
+next_wider P from seen n o h gap out le = grind arith
 
 -- what a gap of the band means for the lists
 pub gap_carried : (entries : List Entry) (b from n : ℕ) → ((k : ℕ) → from ≤ k → k < n → meets_at entries b k ≡ false) → (k : ℕ) → from ≤ k → k < n → carried_at entries b k ≡ false
-gap_carried entries b from n gap k ge lt = not_carried (entry_at entries k) b (gap k ge lt)
-
-pub gap_begun : (entries : List Entry) (b from n : ℕ) → ((k : ℕ) → from ≤ k → k < n → meets_at entries b k ≡ false) → (k : ℕ) → from ≤ k → k < n → begins_at entries b k ≡ false
-gap_begun entries b from n gap k ge lt = not_begun (entry_at entries k) b (gap k ge lt)
+gap_carried entries b from n gap k ge lt = grind arith
 
 pub gap_kept : (entries : List Entry) (b from n : ℕ) → ((k : ℕ) → from ≤ k → k < n → meets_at entries b k ≡ false) → (k : ℕ) → from ≤ k → k < n → carried_at entries (b + 1) k ≡ false
-gap_kept entries b from n gap k ge lt = not_kept (entry_at entries k) b (gap k ge lt)
+gap_kept entries b from n gap k ge lt = grind arith
 
 -- the heads after a field that was carried here
 pub heads_carried : (entries : List Entry) (links : List (Option ℕ)) (b n : ℕ) (w : Walk) → IsWalk entries links b w → IsNext (meets_at entries b) w.seen (length entries) (Some n) → w.carried ≡ Some n →
     IsNext (carried_at entries b) (n + 1) (length entries) (link_at links n) × IsNext (begins_at entries b) (n + 1) (length entries) w.begins
-heads_carried entries links b n w walk next is =
-    let here : IsNext (carried_at entries b) w.seen (length entries) (Some n) = subst (IsNext (carried_at entries b) w.seen (length entries)) is walk.carried in (
-      walk.ahead n next.0 next.1 here.2,
-      next_past (begins_at entries b) w.seen (length entries) n w.begins walk.begins (gap_begun entries b w.seen n next.3)
-          (λ e. let there : IsNext (begins_at entries b) w.seen (length entries) (Some n) = subst (IsNext (begins_at entries b) w.seen (length entries)) e walk.begins in
-          both_ways (begins_at entries b n) (not_both (entry_at entries n) b here.2) there.2) next.0,
-    )
+heads_carried entries links b n w walk next is = grind arith
 
 -- the heads after a field that begins here
 pub heads_begun : (entries : List Entry) (links : List (Option ℕ)) (b n : ℕ) (w : Walk) → IsTable entries → IsWalk entries links b w → IsNext (meets_at entries b) w.seen (length entries) (Some n) → (w.carried ≡ Some n → ⊥) →
@@ -82,49 +43,26 @@ heads_begun entries links b n w table walk next other =
       table.begins b n next.1 (begun (entry_at entries n) b next.2 (not_next (carried_at entries b) w.seen (length entries) n w.carried walk.carried gap other next.0 next.1)),
     )
 
--- below n + 1 nothing passes, where nothing does below `seen`, from there to n, or at n
-pub none_below : (P : ℕ → Bool) (seen n k : ℕ) → (k < seen → P k ≡ false) → ((j : ℕ) → seen ≤ j → j < n → P j ≡ false) → P n ≡ false → k < n + 1 → P k ≡ false
-none_below P seen n k h gap out lt =
-    elim (cases_lt k seen) [ inl below ↦ h below | inr past ↦ elim (cases_lt k n) [ inl below ↦ gap k past below | inr at ↦ let e : n ≡ k = omega arith in ap P (sym e) ∙ out ] ]
-
 -- so one that passes is below `seen`
 seen_before : (P : ℕ → Bool) (seen n k : ℕ) → ((j : ℕ) → seen ≤ j → j < n → P j ≡ false) → (k ≡ n → ⊥) → k < n + 1 → P k ≡ true → k < seen
-seen_before P seen n k gap ne lt now =
-    elim (cases_lt k seen) [ inl below ↦ below | inr past ↦ absurd (both_ways (P k) (gap k past (omega arith)) now) ]
+seen_before P seen n k gap ne lt now = grind arith
 
 last_wider : (P : ℕ → Bool) (seen n : ℕ) (o : Option ℕ) → IsLast P seen o → ((k : ℕ) → seen ≤ k → k < n → P k ≡ false) → P n ≡ false → seen ≤ n → IsLast P (n + 1) o
-last_wider P seen n None h gap out le = λ k lt. none_below P seen n k (h k) gap out lt
-last_wider P seen n (Some m) h gap out le = (omega (arith, h.0), h.1, λ k gt lt. none_below P seen n k (h.2 k gt) gap out lt)
+last_wider P seen n o h gap out le = grind arith
 
 -- the last one is below `seen`
 tail_below : (P : ℕ → Bool) (seen k : ℕ) (o : Option ℕ) → IsLast P seen o → seen ≤ k → o ≡ Some k → ⊥
-tail_below P seen k None h le e = cc
-tail_below P seen k (Some t) h le e = let same : t ≡ k = cc in omega (arith, h.0)
+tail_below P seen k o h le e = grind arith
 
 linked_other : (links : List (Option ℕ)) (o : Option ℕ) (n k : ℕ) → (o ≡ Some k → ⊥) → link_at (linked links o n) k ≡ link_at links k
-linked_other links None n k ne = refl
-linked_other links (Some t) n k ne = get_or-set_other links t k (Some n) None (λ e. ne (ap Some (sym e)))
+linked_other links o n k ne = grind (arith, get_or-set_other)
 
 kept_next : (P : ℕ → Bool) (seen n : ℕ) (o : Option ℕ) → IsNext P 0 seen o → ((k : ℕ) → seen ≤ k → k < n → P k ≡ false) → P n ≡ true → seen ≤ n → IsNext P 0 (n + 1) (first_kept o n)
-kept_next P seen n None h gap now le = next_added P 0 seen n h gap now (omega arith)
-kept_next P seen n (Some m) h gap now le = next_stays P 0 seen n m h le
-
--- where something is next, it stays
-next_still : (P : ℕ → Bool) (from seen n t : ℕ) (o : Option ℕ) → IsNext P from seen o → from ≤ t → t < seen → P t ≡ true → seen ≤ n → IsNext P from (n + 1) o
-next_still P from seen n t None h ge lt now le = absurd (both_ways (P t) (h t ge lt) now)
-next_still P from seen n t (Some m) h ge lt now le = next_stays P from seen n m h le
+kept_next P seen n o h gap now le = grind arith
 
 behind_kept : (P : ℕ → Bool) (links : List (Option ℕ)) (seen n k : ℕ) (o : Option ℕ) → IsLast P seen o → ForSome o (λ t. t < length links) → (Some k ≢ o → IsNext P (k + 1) seen (link_at links k)) → ((j : ℕ) → seen ≤ j → j < n → P j ≡ false) → P n ≡ true → seen ≤ n → k < seen → P k ≡ true →
     IsNext P (k + 1) (n + 1) (link_at (linked links o n) k)
-behind_kept P links seen n k None last room h gap now le lt here = absurd (both_ways (P k) (last k lt) here)
-behind_kept P links seen n k (Some t) last room h gap now le lt here =
-    elim (cases_eq k t) [
-      | inl e ↦ rw (e, get_or-set_same links t (Some n) None (room t refl))
-          (omega arith, omega arith, now, λ j ge below. elim (cases_lt j seen) [ inl before ↦ last.2 j (omega arith) before | inr past ↦ gap j past below ])
-      | inr ne ↦ rw (get_or-set_other links t k (Some n) None ne)
-          (let before : k + 1 ≤ t = elim (cases_lt t k) [ inl above ↦ absurd (both_ways (P k) (last.2 k above lt) here) | inr up ↦ omega arith ] in
-          next_still P (k + 1) seen n t (link_at links k) (h (λ e. ne (let same : k ≡ t = cc in same))) before last.0 last.1 le)
-    ]
+behind_kept P links seen n k o last room h gap now le lt here = grind (arith, get_or-set_same, get_or-set_other)
 
 -- the walk past a field that the next band doesn't need
 pub walk_passed : (entries : List Entry) (links : List (Option ℕ)) (b n : ℕ) (w v : Walk) → IsWalk entries links b w → IsNext (meets_at entries b) w.seen (length entries) (Some n) → carried_at entries (b + 1) n ≡ false →
@@ -171,22 +109,15 @@ ended_here e b le = grind (arith, nat_tests)
 
 -- up to the table's end
 next_to : (P : ℕ → Bool) (from seen to : ℕ) (o : Option ℕ) → IsNext P from seen o → ((k : ℕ) → seen ≤ k → k < to → P k ≡ false) → seen ≤ to → IsNext P from to o
-next_to P from seen to None h gap le = λ k ge lt. elim (cases_lt k seen) [ inl below ↦ h k ge below | inr past ↦ gap k past lt ]
-next_to P from seen to (Some m) h gap le = (h.0, omega (arith, h.1), h.2, h.3)
+next_to P from seen to o h gap le = grind arith
 
 -- the last field seen, a number in the table
 pub tail_in : (entries : List Entry) (links : List (Option ℕ)) (b : ℕ) (w : Walk) → IsWalk entries links b w → length entries ≤ length links → ForSome w.tail (λ t. t < length links)
-tail_in entries links b w walk room = λ t e.
-    let h : IsLast (carried_at entries (b + 1)) w.seen (Some t) = subst (IsLast (carried_at entries (b + 1)) w.seen) e walk.tail in omega (arith, h.0, walk.within)
+tail_in entries links b w walk room = grind arith
 
 behind_ended : (P : ℕ → Bool) (links : List (Option ℕ)) (seen to k : ℕ) (o : Option ℕ) → IsLast P seen o → ForSome o (λ t. t < length links) → (Some k ≢ o → IsNext P (k + 1) seen (link_at links k)) → ((j : ℕ) → seen ≤ j → j < to → P j ≡ false) → seen ≤ to → k < seen → P k ≡ true →
     IsNext P (k + 1) to (link_at (ended links o) k)
-behind_ended P links seen to k None last room h gap le lt here = absurd (both_ways (P k) (last k lt) here)
-behind_ended P links seen to k (Some t) last room h gap le lt here =
-    elim (cases_eq k t) [
-      | inl e ↦ rw (e, get_or-set_same links t None None (room t refl)) (λ j ge below. elim (cases_lt j seen) [ inl before ↦ last.2 j (omega arith) before | inr past ↦ gap j past below ])
-      | inr ne ↦ rw (get_or-set_other links t k None None ne) (next_to P (k + 1) seen to (link_at links k) (h (λ e. ne (let same : k ≡ t = cc in same))) gap le)
-    ]
+behind_ended P links seen to k o last room h gap le lt here = grind (arith, get_or-set_same, get_or-set_other)
 
 -- at the walk's end the next band's fields are threaded
 pub walk_ended : (entries : List Entry) (links : List (Option ℕ)) (b : ℕ) (w : Walk) → IsWalk entries links b w → length entries ≤ length links → IsNext (meets_at entries b) w.seen (length entries) None → IsThreaded entries (ended links w.tail) (b + 1) w.kept
@@ -202,12 +133,4 @@ walk_ended entries links b w walk room none =
 -- at the walk's start
 pub walk_started : (entries : List Entry) (links : List (Option ℕ)) (b : ℕ) (carried begins : Option ℕ) → IsThreaded entries links b carried → IsNext (begins_at entries b) 0 (length entries) begins →
     IsWalk entries links b (record { carried = carried; begins = begins; seen = 0; kept = None; tail = None })
-walk_started entries links b carried begins threaded start = record {
-  within = omega arith;
-  carried = threaded.head;
-  begins = start;
-  ahead = λ k ge lt now. threaded.rest k lt now;
-  kept = λ k ge lt. absurd (omega arith);
-  tail = λ k lt. absurd (omega arith);
-  behind = λ k lt now other. absurd (omega arith);
-}
+walk_started entries links b carried begins threaded start = grind arith
