@@ -11,9 +11,4 @@ use Rattle.vp_closing.proofs.Reading.{row_taken}
 pub picture_stored : (stored : List ℕ) (head : PictureHead) (codes : Span) → IsHead head
     → codes.start + codes.len ≤ length stored → length stored ≤ STORED
     → has_refused (picture_of stored (picture_with head codes)) ≡ false → IsPicture stored (picture_with head codes)
-picture_stored stored head codes fits among few none = record {
-  codes = record { inside = among; few = omega arith };
-  some = omega (arith, fits.row_bytes.least);
-  short = fits.row_bytes.most;
-  read = λ y below. row_taken (picture_of stored (picture_with head codes)) y none below;
-}
+picture_stored stored head codes fits among few none = grind (arith, row_taken)

@@ -1,5 +1,5 @@
 -- Pictures whose rows are read.
-use Rattle.std.proofs.Common.{◌≡◌, ℕ, zero, suc, ◌+◌, ◌<◌, Bool, true, false, inl, inr, Result, MatchResult, ap, sym, ◌∙◌, refl, subst, arith, below_more}
+use Rattle.std.proofs.Common.{◌≡◌, ℕ, zero, suc, ◌+◌, ◌<◌, true, false, inl, inr, Result, MatchResult, ap, ◌∙◌, refl, arith, below_more}
 use Rattle.std.proofs.lemmas.Bool.{cases_Bool, lt-ltb}
 use Rattle.std.proofs.lemmas.List.Folds.{list_any_none, list_any_at}
 use Rattle.std.proofs.lemmas.List.FromFn.{length-range_with_len, get_or-range_with_len}
@@ -11,10 +11,7 @@ use Rattle.vp_closing.specs.Graphics.{has_refused}
 
 pub none_refused : (p : Picture) → ((y : ℕ) → y < p.rows → is_refused p y ≡ false) → has_refused p ≡ false
 unfolding has_refused
-none_refused p taken =
-    list_any_none (is_refused p) (range_with_len 0 p.rows)
-    (λ k d l. let below : k < p.rows = omega (arith, length-range_with_len 0 p.rows) in
-    ap (is_refused p) (get_or-range_with_len 0 p.rows k d below) ∙ taken (0 + k) (omega arith))
+none_refused p taken = grind (arith, list_any_none, length-range_with_len, get_or-range_with_len)
 
 pub row_refused : (p : Picture) (y : ℕ) → y < p.rows → is_refused p y ≡ true → has_refused p ≡ true
 unfolding has_refused
@@ -35,16 +32,7 @@ passed p (suc n) y all taken = elim (cases_Bool (is_refused p y)) [
 
 pub all_passed : (p : Picture) (r : Result (Unit {0}) Fault) → r ≡ passing p 0 p.rows
     → MatchResult r (λ _. has_refused p ≡ false) (λ why. (why ≡ Graphic) × (has_refused p ≡ true))
-all_passed p r e =
-    subst (λ (q : Result (Unit {0}) Fault). MatchResult q (λ _. has_refused p ≡ false) (λ why. (why ≡ Graphic) × (has_refused p ≡ true)))
-    (sym e) (passed p p.rows 0 (omega arith) (λ z l. absurd (omega (arith, l))))
-
--- a picture without a refused symbol in its rows
-row-taken : (p : Picture) (y : ℕ) (refused : Bool) → has_refused p ≡ false → y < p.rows
-    → is_refused p y ≡ refused → is_refused p y ≡ false
-row-taken p y false none below is = is
-row-taken p y true none below is =
-    let bad : true ≡ false = sym (row_refused p y below is) ∙ none in absurd (cc)
+all_passed p r e = grind (arith, passed)
 
 pub row_taken : (p : Picture) (y : ℕ) → has_refused p ≡ false → y < p.rows → is_refused p y ≡ false
-row_taken p y none below = row-taken p y (is_refused p y) none below refl
+row_taken p y none below = grind (arith, row_refused)
