@@ -1,10 +1,10 @@
 -- Many rows of an image, as they are put out.
-use Rattle.std.proofs.Common.{◌≡◌, ℕ, suc, ◌+◌, ◌-◌, ◌*◌, ◌<◌, ◌≤◌, ap, sym, ◌∙◌, arith, List, ◌++◌, length, take, drop, length-append}
+use Rattle.std.proofs.Common.{◌≡◌, ℕ, suc, ◌+◌, ◌-◌, ◌*◌, ◌<◌, ◌≤◌, ap, ◌∙◌, arith, List, ◌++◌, length, take, drop, length-append}
+use Rattle.std.proofs.lemmas.Grind.{common_steps}
 use Rattle.std.specs.List.{range_with_len, flat_map}
-use Rattle.std.proofs.Math.Nat.{suc-mul, add-mul, mul-le-mul_right}
-use Rattle.std.proofs.lemmas.List.{take_at, drop-drop, take-append-le}
+use Rattle.std.proofs.Math.Nat.{suc-mul, mul-le-mul_right}
+use Rattle.std.proofs.lemmas.List.{take_at, take-append-le}
 use borrow.Rule.Slice.PartMut.{put_mid}
-use Rattle.vp_dots.specs.Headers.{header_of}
 use Rattle.vp_dots.specs.Images.{Image, row_bytes, image_row}
 use Rattle.vp_dots.proofs.ImageLaws.{length-pieces}
 use Rattle.vp_output.specs.declared.place.Line.TheVariants.{Row}
@@ -38,11 +38,7 @@ module _ (row : ℕ → List ℕ) (b : ℕ) (even : (y : ℕ) → length (row y)
       → room ≡ take (k * b) (rows y n) ++ drop (k * b) old
       → part ≡ row (y + k) ++ drop (length (row (y + k))) (take (length room - k * b) (drop (k * b) room))
       → put_mid (k * b) (length room - k * b) room part ≡ take ((k + 1) * b) (rows y n) ++ drop ((k + 1) * b) old
-  row_copied y k n old room part h fits before new =
-      let all = mul-le-mul_right b (let l : k + 1 ≤ n = omega arith in l) in
-      rw (one_more b k) (put_more (rows y n) old room part (k * b) b (omega (arith, one_more b k, all, length-pieces row b even y n)) (omega (arith, one_more b k, fits)) before
-      (new ∙ ap (λ m. row (y + k) ++ drop m (take (length room - k * b) (drop (k * b) room))) (even (y + k))
-      ∙ ap (λ xs. xs ++ drop b (take (length room - k * b) (drop (k * b) room))) (sym (row_in y k n h))))
+  row_copied y k n old room part h fits before new = grind (arith, common_steps, one_more, put_more, length-pieces, row_in)
 
 pub even_rows : (i : Image) (y : ℕ) → length (image_row i y) ≡ row_bytes i.width
 even_rows i y = length-line i (Row y)
@@ -63,19 +59,9 @@ module _ (i : Image) (some : 0 < i.height) where
 
   -- so many rows are no more than what is left
   pub rows_within : (copies y n : ℕ) → 0 < copies → 0 < i.width → y < i.height → y + n ≤ i.height → n * row_bytes i.width ≤ length (pending i (at copies (start y)))
-  rows_within copies y n c wide h l =
-      omega (arith, long y n l, ap length (from_row copies y c wide h), length-append (rows_from (lines_of i) y) (copies_text i (copies - 1)))
+  rows_within copies y n c wide h l = grind (arith, long, from_row, length-append)
 
   -- and are its front
   pub rows_front : (copies y n : ℕ) → 0 < copies → 0 < i.width → y < i.height → y + n ≤ i.height
       → take (n * row_bytes i.width) (rows_from (lines_of i) y) ≡ take (n * row_bytes i.width) (pending i (at copies (start y)))
-  rows_front copies y n c wide h l =
-      sym (ap (take (n * row_bytes i.width)) (from_row copies y c wide h) ∙ take-append-le (n * row_bytes i.width) (rows_from (lines_of i) y) (copies_text i (copies - 1)) (long y n l))
-
-  -- what is left behind them
-  pub rows_behind : (copies y n : ℕ) → pending i (at copies (start (y + n))) ≡ drop (n * row_bytes i.width) (pending i (at copies (start y)))
-  rows_behind copies y n =
-      let b = row_bytes i.width in
-      let head = length (header_of i.width i.height) in
-      ap (λ m. drop m (copies_text i copies)) (let e : head + (y + n) * b + 0 ≡ head + y * b + 0 + n * b = omega (arith, add-mul y n b) in e)
-      ∙ sym (drop-drop (n * b) (head + y * b + 0) (copies_text i copies))
+  rows_front copies y n c wide h l = grind (arith, from_row, take-append-le, long)

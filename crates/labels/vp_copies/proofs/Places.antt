@@ -1,11 +1,11 @@
 -- What is pending at a place.
-use Rattle.std.proofs.Common.{◌≡◌, ℕ, zero, suc, ◌+◌, ◌-◌, ◌<◌, ◌≤◌, Option, Some, None, ap, sym, ◌∙◌, arith, [], ◌++◌, length, take, drop, append_assoc, length-append, length-drop, refl}
+use Rattle.std.proofs.Common.{◌≡◌, ℕ, zero, suc, ◌-◌, ◌<◌, ◌≤◌, Option, Some, None, ap, sym, ◌∙◌, arith, ◌++◌, length, take, drop, append_assoc, length-append, length-drop}
+use Rattle.std.proofs.lemmas.Grind.{common_steps}
 use Rattle.std.proofs.lemmas.List.{drop-drop, drop-append-le, take-append-le}
 use Rattle.vp_dots.specs.Images.{Image, pbm}
 use Rattle.vp_output.specs.declared.place.Place.{Place as InImage}
 use Rattle.vp_output.specs.Lines.{line_text, IsLineOf}
 use Rattle.vp_output.specs.Places.{advanced as advanced_in, pending as pending_in, pending_if}
-use Rattle.vp_output.proofs.Parts.{each_place, pending_long}
 use Rattle.vp_copies.specs.Copies.{at, place_after, bytes_above, line_bytes, lines_of, copies_text, pending}
 use Rattle.vp_copies.proofs.Texts.{rows_behind, text_from, length-line}
 
@@ -38,25 +38,14 @@ module _ (i : Image) (some : 0 < i.height) where
   IsNext (Some p) = IsPlaceIn p
 
   pub next_is : 0 < i.width → (n : ℕ) (p : InImage) → IsPlaceIn p → IsNext (advanced_in i.height (line_bytes i.width i.height p.line) n p)
-  next_is wide n p b =
-      each_place IsNext i.height (line_bytes i.width i.height p.line) n p
-      (λ less. record { line = b.line; byte = less })
-      (λ end more. record { line = more; byte = omega arith })
-      (λ end last. tt)
-
-  pub pending_behind : (copies : ℕ) (q : Option InImage) → 0 < copies → IsNext q → pending i (place_after copies q) ≡ pending_if (lines_of i) q ++ copies_text i (copies - 1)
-  pending_behind copies None c b = refl
-  pending_behind copies (Some p) c b = pending_is copies p c b
+  next_is wide n p b = grind arith
 
   -- bytes are pending while copies are
   pub some_pending : (copies : ℕ) (p : InImage) → 0 < copies → IsPlaceIn p → 0 < length (pending i (at copies p))
-  some_pending copies p c b =
-      let one : 1 ≤ length (pending_in (lines_of i) p) = pending_long (lines_of i) p 1 (omega (arith, b.byte, length-line i p.line)) in
-      omega (arith, one, ap length (pending_is copies p c b), length-append (pending_in (lines_of i) p) (copies_text i (copies - 1)))
+  some_pending copies p c b = grind (arith, common_steps, length-line, pending_is, length-append)
 
   pub none_pending : (copies : ℕ) (p : InImage) → 0 < length (pending i (at copies p)) → 0 < copies
-  none_pending zero p h = absurd (omega (arith, length-drop {A = ℕ} (bytes_above i.width i.height p.line + p.byte) []))
-  none_pending (suc q) p h = omega arith
+  none_pending copies p h = grind arith
 
   -- bytes of one copy are the next ones, and what is left is left of the copies
   pub pending_longer : (copies : ℕ) (p : InImage) (n : ℕ) → 0 < copies → IsPlaceIn p → n ≤ length (pending_in (lines_of i) p) → n ≤ length (pending i (at copies p))
@@ -67,6 +56,4 @@ module _ (i : Image) (some : 0 < i.height) where
 
   pub pending_on : (copies : ℕ) (p : InImage) (q : Option InImage) (n : ℕ) → 0 < copies → IsPlaceIn p → IsNext q → n ≤ length (pending_in (lines_of i) p) → pending_if (lines_of i) q ≡ drop n (pending_in (lines_of i) p) →
       pending i (place_after copies q) ≡ drop n (pending i (at copies p))
-  pending_on copies p q n c b d h e =
-      pending_behind copies q c d ∙ ap (λ t. t ++ copies_text i (copies - 1)) e
-      ∙ sym (drop-append-le n (pending_in (lines_of i) p) (copies_text i (copies - 1)) h) ∙ ap (drop n) (sym (pending_is copies p c b))
+  pending_on copies p q n c b d h e = grind (arith, drop-append-le, pending_is)

@@ -1,5 +1,5 @@
 -- The text of an image, cut at the start of a line.
-use Rattle.std.proofs.Common.{◌≡◌, ℕ, zero, suc, ◌+◌, ◌-◌, ◌*◌, ◌/◌, ◌%◌, ◌<◌, ◌≤◌, false, refl, ap, sym, ◌∙◌, arith, cond, eqb, ltb, ◌&&◌, List, [], ◌++◌, length, take, drop, length-append}
+use Rattle.std.proofs.Common.{◌≡◌, ℕ, zero, suc, ◌+◌, ◌-◌, ◌*◌, ◌/◌, ◌%◌, ◌<◌, ◌≤◌, false, refl, ap, sym, ◌∙◌, arith, cond, eqb, List, [], ◌++◌, length, take, drop, length-append}
 use Rattle.std.specs.List.{range_with_len, flat_map}
 use Rattle.std.proofs.Math.Nat.{suc-mul}
 use Rattle.std.proofs.lemmas.List.{drop_at, drop-drop, get_or-take}
@@ -15,12 +15,7 @@ use Rattle.vp_copies.specs.Copies.{bytes_above, copies_text, line_bytes, lines_o
 -- pieces of one length from one of them on
 module _ (piece : ℕ → List ℕ) (n : ℕ) (even : (k : ℕ) → length (piece k) ≡ n) where
   pub drop-pieces : (a h k : ℕ) → k ≤ h → drop (k * n) (flat_map piece (range_with_len a h)) ≡ flat_map piece (range_with_len (a + k) (h - k))
-  drop-pieces a h zero l =
-      let none : zero * n ≡ zero = omega arith in
-      let here : a ≡ a + zero = omega arith in
-      let all : h ≡ h - zero = omega arith in
-      ap (λ d. drop d (flat_map piece (range_with_len a h))) none ∙ ap (λ b. flat_map piece (range_with_len b h)) here
-      ∙ ap (λ m. flat_map piece (range_with_len (a + zero) m)) all
+  drop-pieces a h zero l = grind arith
   drop-pieces a zero (suc k) l = absurd (omega arith)
   drop-pieces a (suc h) (suc k) l =
       let rest = flat_map piece (range_with_len (a + 1) h) in
@@ -33,8 +28,7 @@ module _ (piece : ℕ → List ℕ) (n : ℕ) (even : (k : ℕ) → length (piec
 
 module _ (i : Image) where
   pub length-line : (l : Line) → length (line_text (lines_of i) l) ≡ line_bytes i.width i.height l
-  length-line Head = refl
-  length-line (Row y) = length-row_from (row_bytes i.width) (λ x. ltb x i.width && i.is_black x y) 0
+  length-line l = grind (arith, length-row_from)
 
   -- the rows behind a line
   abbrev pub rows_behind : Line → List ℕ
@@ -45,9 +39,7 @@ module _ (i : Image) where
 
   -- the text from a line on
   pub text_from : (l : Line) → 0 < i.height → IsLineOf i.height l → drop (bytes_above i.width i.height l) (pbm i) ≡ line_text (lines_of i) l ++ rows_behind l
-  text_from Head h b =
-      let all : i.height ≡ i.height - 0 = omega arith in
-      pbm_is h ∙ ap (λ n. header_of i.width i.height ++ flat_map (image_row i) (range_with_len 0 n)) all
+  text_from Head h b = grind arith
   text_from (Row y) h b =
       let head = header_of i.width i.height in
       let w = row_bytes i.width in
