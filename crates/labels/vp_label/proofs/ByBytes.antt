@@ -1,5 +1,5 @@
 -- What the bytes of a format bound.
-use Rattle.std.proofs.Common.{◌≡◌, ◌≤◌, ℕ, zero, suc, ◌+◌, ◌*◌, Bool, true, false, cond, Option, Some, None, Result, List, [], ◌∷◌, ◌++◌, length, reverse, ap, refl, arith, lit≤, option_map}
+use Rattle.std.proofs.Common.{◌≡◌, ◌≤◌, ℕ, zero, suc, ◌+◌, ◌*◌, Bool, true, false, Option, Some, None, Result, List, [], ◌∷◌, length, reverse, ap, refl, arith, lit≤, option_map}
 use Rattle.std.proofs.lemmas.Grind.{common_steps}
 use Rattle.std.proofs.lemmas.Nat.{mul-le}
 use Rattle.std.proofs.lemmas.List.{length_push}
@@ -7,8 +7,7 @@ use Rattle.std.proofs.lemmas.List.Sums.{sum_by_push, count_by-le-length}
 use Rattle.vp_dots.specs.declared.fault.Fault.{Fault}
 use Rattle.vp_dots.specs.declared.Op.{Op}
 use Rattle.vp_glyph.specs.Sheets.{Sheets}
-use Rattle.vp_zpl.specs.declared.item.Command.{Command}
-use Rattle.vp_zpl.specs.Items.{Item, least_by, least_bytes}
+use Rattle.vp_zpl.specs.Items.{Item, least_bytes}
 use Rattle.vp_zpl.specs.Items.Item.{Given, Data}
 use Rattle.vp_zpl.proofs.Least.{least_append}
 use Rattle.vp_format.specs.declared.field.Content.{Content}
@@ -17,8 +16,8 @@ use Rattle.vp_field.specs.declared.view.View.{View}
 use Rattle.vp_label_settings.specs.declared.settings.Settings.{Settings}
 use Rattle.vp_label_settings.specs.declared.parts.OpenContent.{OpenContent}
 use Rattle.vp_label_settings.specs.declared.parts.FieldParts.{FieldParts}
-use Rattle.vp_label_settings.specs.Formats.{is_open, is_open_by, stored, stored_by}
-use Rattle.vp_label_settings.specs.Parts.{content, content_by}
+use Rattle.vp_label_settings.specs.Formats.{is_open, stored}
+use Rattle.vp_label_settings.specs.Parts.{content}
 use Rattle.vp_label_settings.specs.Settings.{settings_of}
 use Rattle.vp_closing.specs.Closing.{field_with, field_of}
 use Rattle.vp_closing.proofs.Codes.{data_in, begin_of, closed_data}
@@ -26,7 +25,7 @@ use Rattle.vp_bands.specs.Meeting.{bands_of, copy_work, pairs, field_meets}
 use Rattle.vp_bands.proofs.Painted.{pairs_more, no_pairs}
 use Rattle.vp_label.specs.Bytes.{format_bytes, all_codes, all_texts}
 use Rattle.vp_label_settings.specs.Laws.{AreInRange}
-use Rattle.vp_label.specs.Entries.{entries, entries_by, with_kept, printed_entries}
+use Rattle.vp_label.specs.Entries.{entries, with_kept, printed_entries}
 use Rattle.vp_label.specs.Prints.{view_of}
 use Rattle.vp_label.specs.Work.{label_work, most_work}
 
@@ -43,17 +42,8 @@ of_start false = 0
 abbrev spent : List Field → Option OpenContent → List ℕ → Bool → ℕ
 spent fields c bytes opened = 6 * length fields + of_content c + length bytes + of_start opened
 
-kept_result : (fields : List Field) (r : Result Field Fault) → length (with_kept fields (Some r)) ≤ length fields + 1
-kept_result fields r = grind (arith, length_push)
-
 kept_few : (fields : List Field) (g : OpenContent → Result Field Fault) (c : Option OpenContent) → 6 * length (with_kept fields (option_map g c)) ≤ 6 * length fields + 2 * of_content c
-kept_few fields g c = grind (arith, kept_result)
-
-command_spent : (command : Command) (opened : Bool) (fields : List Field) (g : OpenContent → Result Field Fault) (c : Option OpenContent) (bytes : List ℕ) (f : ℕ)
-    → spent fields c bytes opened ≤ f → (opened ≡ false → f ≡ 0)
-    → spent (cond opened (entries_by (option_map g c) command fields) fields) (cond opened (content_by (length bytes) command c) c)
-    (cond opened (stored_by command bytes) bytes) (is_open_by command opened) ≤ cond (is_open_by command opened) (3 + f) 0
-command_spent co opened fields g c bytes f h k = grind (arith, kept_few)
+kept_few fields g c = grind (arith, length_push)
 
 none_open : (before : List Item) → is_open before ≡ false → format_bytes before ≡ 0
 none_open [] e = refl
@@ -61,7 +51,7 @@ none_open (item ∷ before) e = rw e refl
 
 all_spent : (sheets : Sheets) (before : List Item) → spent (entries sheets before) (content before) (stored before) (is_open before) ≤ format_bytes before
 all_spent sheets [] = lit≤ tt
-all_spent sheets (Given c name sent ∷ before) = grind (arith, command_spent, none_open, all_spent sheets before)
+all_spent sheets (Given c name sent ∷ before) = grind (arith, none_open, all_spent sheets before, kept_few)
 all_spent sheets (Data byte ∷ before) = grind (arith, common_steps, none_open, all_spent sheets before)
 
 -- The texts and codes of closed fields stand before the bytes of the open content.
@@ -85,30 +75,18 @@ kept_codes : (sheets : Sheets) (bytes : List ℕ) (s : Settings) (p : FieldParts
     → Codes fields c bytes → all_data (with_kept fields (option_map (field_of sheets bytes s p) c)) ≤ length bytes
 kept_codes sheets bytes s p fields c h = grind (arith, kept_with, closed_data)
 
-command_codes : (sheets : Sheets) (s : Settings) (p : FieldParts) (command : Command) (opened : Bool) (fields : List Field) (c : Option OpenContent) (bytes : List ℕ) → Codes fields c bytes
-    → Codes (cond opened (entries_by (option_map (field_of sheets bytes s p) c) command fields) fields) (cond opened (content_by (length bytes) command c) c)
-    (cond opened (stored_by command bytes) bytes)
-command_codes sheets s p co opened fields c bytes h = grind (arith, kept_codes)
-
 longer : (c : Option OpenContent) (n : ℕ) → begin_by c n ≤ n → (begin_by c n ≤ begin_by c (n + 1)) × (begin_by c (n + 1) ≤ n + 1)
 longer c n h = grind arith
 
-data_codes : (byte : ℕ) (opened : Bool) (fields : List Field) (c : Option OpenContent) (bytes : List ℕ) → Codes fields c bytes → Codes fields c (cond opened (bytes ++ byte ∷ []) bytes)
-data_codes byte opened fields c bytes h = grind (arith, length_push)
-
 codes_within : (sheets : Sheets) (before : List Item) → Codes (entries sheets before) (content before) (stored before)
 codes_within sheets [] = record { codes = lit≤ tt; within = lit≤ tt }
-codes_within sheets (Given c name sent ∷ before) = grind (arith, command_codes, codes_within sheets before)
-codes_within sheets (Data byte ∷ before) = grind (arith, data_codes, codes_within sheets before)
+codes_within sheets (Given c name sent ∷ before) = grind (arith, codes_within sheets before, kept_codes)
+codes_within sheets (Data byte ∷ before) = grind (arith, codes_within sheets before, length_push)
 
 -- The image that ^XZ prints, which closes the last field.
 
-closed_few : (opened : Bool) (kept fields : List Field) (c : Option OpenContent) (bytes : List ℕ) (f : ℕ) → spent fields c bytes opened ≤ f → (opened ≡ false → f ≡ 0)
-    → 6 * length kept ≤ 6 * length fields + 2 * of_content c → all_data kept ≤ length bytes → 6 * length kept + all_data kept ≤ f
-closed_few opened kept fields c bytes f h k few codes = grind arith
-
 pub fields_few : (sheets : Sheets) (before : List Item) → 6 * length (printed_entries sheets before) + all_codes (printed_entries sheets before) + all_texts (printed_entries sheets before) ≤ format_bytes before
-fields_few sheets before = grind (arith, closed_few, all_spent, none_open, kept_few, kept_codes, codes_within)
+fields_few sheets before = grind (arith, all_spent, none_open, kept_few, kept_codes, codes_within)
 
 -- The bytes that were read.
 
@@ -116,12 +94,9 @@ least_reverse : (items : List Item) → least_bytes (reverse items) ≡ least_by
 least_reverse [] = refl
 least_reverse (item ∷ items) = grind (arith, common_steps, least_append, least_reverse items)
 
-if_least : (opened : Bool) (n f all : ℕ) → f ≤ all → cond opened (n + f) 0 ≤ n + all
-if_least opened n f all h = grind arith
-
 format_least : (before : List Item) → format_bytes before ≤ least_bytes before
 format_least [] = lit≤ tt
-format_least (item ∷ before) = if_least (is_open (item ∷ before)) (least_by item) (format_bytes before) (least_bytes before) (format_least before)
+format_least (item ∷ before) = grind (arith, format_least before)
 
 pub bytes_read : (items : List Item) (n : ℕ) → least_bytes items ≤ n → format_bytes (reverse items) ≤ n
 bytes_read items n h = omega (arith, h, format_least (reverse items), least_reverse items)
@@ -154,14 +129,11 @@ copy_few sheets before view n h =
 
 -- The label that was printed last.
 
-times_few : (bands bytes all : ℕ) → bands ≤ 250 → bytes ≤ all → 7327 * (bands * bytes) ≤ 7327 * (250 * all)
-times_few bands bytes all h k = let few : bands * bytes ≤ 250 * all = mul-le bands bytes 250 all h k in omega (arith, few)
-
 module _ (sheets : Sheets) (copy : (before : List Item) → label_work sheets before ≤ 7327 * (bands_of (view_of (settings_of before)) * format_bytes before))
     (ranges : (before : List Item) → AreInRange (settings_of before)) where
   last_least : (before : List Item) → most_work sheets before ≤ 7327 * (250 * least_bytes before)
   last_least [] = lit≤ tt
-  last_least (item ∷ before) = grind (arith, times_few, format_least, last_least before)
+  last_least (item ∷ before) = grind (arith, format_least, last_least before, mul-le)
 
   pub last_few : (items : List Item) (n : ℕ) → least_bytes items ≤ n → most_work sheets (reverse items) ≤ 7327 * (250 * n)
   last_few items n h = let last = last_least (reverse items) in omega (arith, last, least_reverse items, h)

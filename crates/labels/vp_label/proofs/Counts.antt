@@ -1,5 +1,5 @@
 -- What is held, by the bytes that are pending.
-use Rattle.std.proofs.Common.{◌≡◌, ◌<◌, ◌≤◌, ◌+◌, ◌-◌, ◌*◌, ◌/◌, ◌%◌, ◌∙◌, ℕ, false, List, ◌∷◌, length, ap, sym, refl, arith, length-drop}
+use Rattle.std.proofs.Common.{◌≡◌, ◌<◌, ◌≤◌, ◌+◌, ◌-◌, ◌*◌, ◌/◌, ◌%◌, ◌∙◌, ℕ, false, List, length, ap, sym, refl, arith, length-drop}
 use Rattle.std.proofs.lemmas.Bool.{lt-ltb, le-ltb}
 use Rattle.std.proofs.lemmas.Nat.{div-mul-add}
 use Rattle.std.proofs.Math.Nat.{zero-mod}
@@ -11,15 +11,14 @@ use Rattle.vp_label.proofs.Effects.{idle}
 use Rattle.vp_format.specs.Formats.{Held}
 use Rattle.vp_zpl.specs.Items.{Item}
 use Rattle.vp_label_settings.specs.Formats.{is_open}
-use Rattle.vp_label_settings.specs.Settings.{quantity}
 use Rattle.vp_output.specs.declared.place.Line.{Line}
 use Rattle.vp_output.specs.declared.place.Line.TheVariants.{Head, Row}
 use Rattle.vp_copies.specs.Copies.{band_rows, bytes_above, copies_text, line_bytes, pending, Place}
 use Rattle.vp_copies.specs.Progress.{IsPlaceOf}
 use Rattle.vp_label.specs.Held.{band_rows_after, fields_after, rows_at}
 use Rattle.vp_label.specs.Press.{press_image, IsBetween}
-use Rattle.vp_label.specs.Prints.{image, label_image, prints, view_of}
-use Rattle.vp_label.specs.Standing.{IsEndOf, IsPrinting}
+use Rattle.vp_label.specs.Prints.{image, label_image, view_of}
+use Rattle.vp_label.specs.Standing.{IsPrinting}
 use Rattle.vp_label.specs.declared.gathered.Gathered.{Gathered}
 use Rattle.vp_label.specs.declared.press.Press.{Press}
 use Rattle.vp_label.specs.Gathered.{IsPrinted}
@@ -48,27 +47,10 @@ rows_of_line i (Row y) byte b =
     let here : (head + y * w + byte - head) / w ≡ y = (let n : head + y * w + byte - head ≡ y * w + byte = omega arith in ap (λ k. k / w) n) ∙ div-mul-add y w byte b in
     rw (le-ltb (head + y * w + byte) head (omega arith)) (ap (λ k. band_rows i.height (Row k)) here)
 
-all_printed : (sheets : Sheets) (before : List Item) (item : Item) → 0 < length (prints sheets before item) → prints sheets before item ≡ copies_text (image sheets before) (quantity before)
-all_printed sheets before item some = grind arith
-
--- the rows that are held at a place of the image that the newest item prints
-rows_of_newest : PlaceLaw → (sheets : Sheets) (before : List Item) (item : Item) (left : List ℕ) (p : Place) → 0 < length left → IsEndOf left (prints sheets before item) →
-    left ≡ pending (image sheets before) p → 0 < (image sheets before).height → IsPlaceOf (image sheets before).width (image sheets before).height p → 0 < p.copies →
-    band_rows (image sheets before).height p.line ≡ band_rows_after sheets (item ∷ before) left
-rows_of_newest law sheets before item left p some end is high place copies =
-    let i = image sheets before in
-    let text = prints sheets before item in
-    let few : length left ≤ length text = omega (arith, ap length end.1, length-drop end.0 text) in
-    let all : text ≡ copies_text i (quantity before) = all_printed sheets before item (omega arith) in
-    let at : (length text - length left) % length (pbm i) ≡ bytes_above i.width i.height p.line + p.byte =
-    ap (λ (t : List ℕ). (length t - length left) % length (pbm i)) all ∙ ap (λ (t : List ℕ). (length (copies_text i (quantity before)) - length t) % length (pbm i)) is
-    ∙ law i p (quantity before) high place copies (omega (arith, ap length all, ap length is)) in
-    sym (rw (lt-ltb 0 (length left) some) (ap (rows_at i) at ∙ rows_of_line i p.line p.byte place.byte))
-
 pub held_rows : {A : Type 0} → PlaceLaw → (sheets : Sheets) (g : Gathered A) (before : List Item) (left : List ℕ) (i : Image) (p : Place) → 0 < length left → IsPrinting sheets g left before →
     ((earlier : List Item) → IsPrinted sheets g earlier → i ≡ image sheets earlier) → left ≡ pending i p → 0 < i.height → IsPlaceOf i.width i.height p → 0 < p.copies →
     band_rows i.height p.line ≡ band_rows_after sheets before left
-held_rows law sheets g before left i p some printing same is high place copies = grind (arith, rows_of_newest)
+held_rows law sheets g before left i p some printing same is high place copies = grind (arith, length-drop, lt-ltb, rows_of_line)
 
 -- no fields outside a format
 pub no_fields : (sheets : Sheets) (before : List Item) (left : List ℕ) → length left ≤ 0 → is_open before ≡ false → fields_after sheets before left ≡ 0

@@ -67,14 +67,10 @@ idle sheets (Given FormatStart name sent ∷ before) shut = cc
 idle sheets (Given FormatEnd name sent ∷ before) shut = ended sheets (is_open before) name sent before refl (λ so. idle sheets before so)
 idle sheets (Given _ name sent ∷ before) shut = rw shut (idle sheets before shut)
 
-holds_by : (opened : Bool) (sheets : Sheets) (before : List Item) (held : Held) (command : Command) (name : Name) (sent : List Kept) → is_open before ≡ opened → effect_of (is_open before) command ≡ Sets →
-    (is_open before ≡ true → Holds sheets before held) → is_open (Given command name sent ∷ before) ≡ true → Holds sheets (Given command name sent ∷ before) held
-holds_by opened sheets before held c name sent o e h so = grind arith
-
 -- a command that sets what is in force alone leaves what is held
 pub holds_still : (sheets : Sheets) (before : List Item) (held : Held) (command : Command) (name : Name) (sent : List Kept) → effect_of (is_open before) command ≡ Sets →
     (is_open before ≡ true → Holds sheets before held) → is_open (Given command name sent ∷ before) ≡ true → Holds sheets (Given command name sent ∷ before) held
-holds_still sheets before held command name sent e h so = holds_by (is_open before) sheets before held command name sent refl e h so
+holds_still sheets before held c name sent e h so = grind arith
 
 -- the copies of a format with fields
 pub printed_copies : (i : Image) (fields : List Field) (q : ℕ) → copies_text i (if length fields == 0 then 0 else q) ≡ unless_empty fields (copies_text i q)

@@ -1,10 +1,10 @@
 -- Nothing is pending.
-use Rattle.std.proofs.Common.{◌≡◌, ◌+◌, ◌<◌, ℕ, List, [], length, drop, arith, refl, ap, ◌↔◌}
+use Rattle.std.proofs.Common.{◌≡◌, ◌<◌, ℕ, List, [], length, arith, refl, ◌↔◌}
 use Rattle.vp_dots.specs.Images.{Image}
-use Rattle.vp_copies.specs.Copies.{bytes_above, copies_text, pending, Place}
+use Rattle.vp_copies.specs.Copies.{pending, Place}
 use Rattle.vp_copies.specs.Progress.{IsPlaceOf}
-use Rattle.std.proofs.Common.{◌∙◌, ◌∷◌}
-use Rattle.std.proofs.lemmas.List.{append-nil, drop_all}
+use Rattle.std.proofs.Common.{◌∷◌}
+use Rattle.std.proofs.lemmas.List.{append-nil}
 use Rattle.vp_glyph.specs.Sheets.{Sheets}
 use Rattle.vp_zpl.specs.Items.{Item, data_items}
 use Rattle.vp_zpl.specs.Items.Item.{Data}
@@ -14,12 +14,8 @@ use Rattle.vp_label.specs.Refusals.{first_refusal, refusal}
 abbrev pub PendingLaw : Type 0
 PendingLaw = (i : Image) (p : Place) → 0 < i.height → IsPlaceOf i.width i.height p → (0 < p.copies) ↔ (0 < length (pending i p))
 
--- where no copies are left, nothing is
-drop_none : (n : ℕ) (xs : List ℕ) → xs ≡ [] → drop n xs ≡ []
-drop_none n xs e = drop_all n xs (omega (arith, ap length e)) ∙ refl
-
 pub nothing_left : (i : Image) (p : Place) → p.copies ≡ 0 → pending i p ≡ []
-nothing_left i p e = drop_none (bytes_above i.width i.height p.line + p.byte) (copies_text i p.copies) (ap (copies_text i) e)
+nothing_left i p e = grind arith
 
 -- nothing is pending where no copies are
 pub no_copies : PendingLaw → (i : Image) (p : Place) → (0 < p.copies → (0 < i.height) × IsPlaceOf i.width i.height p) → pending i p ≡ [] → p.copies ≡ 0

@@ -10,23 +10,19 @@ use Rattle.vp_zpl.specs.declared.name.Name.{Name}
 use Rattle.vp_zpl.specs.declared.item.Command.{Command}
 use Rattle.vp_zpl.specs.Items.{Item}
 use Rattle.vp_zpl.specs.Items.Item.{Given, Data}
-use Rattle.vp_format.specs.declared.field.Field.{Field}
 use Rattle.vp_label_settings.specs.Formats.{is_open, followed_by}
 use Rattle.vp_label_settings.specs.Laws.{AreInRange}
 use Rattle.vp_label_settings.specs.Settings.{settings_of}
 use Rattle.vp_copies.specs.Copies.{copies_text}
-use Rattle.vp_label.specs.Images.{AreOfLabels, IsOfLabel, completed, completed_by, if_any, images}
-use Rattle.vp_label.specs.Prints.{all_print, printed, prints, prints_by, unless_empty}
+use Rattle.vp_label.specs.Images.{AreOfLabels, IsOfLabel, completed, completed_by, images}
+use Rattle.vp_label.specs.Prints.{all_print, printed, prints, prints_by}
 
 copies_are : (i : Image) (n : ℕ) → copies_text i n ≡ flat_map pbm (replicate n i)
 copies_are i zero = refl
 copies_are i (suc n) = ap (λ t. pbm i ++ t) (copies_are i n)
 
-any_are : (fields : List Field) (i : Image) (n : ℕ) → unless_empty fields (copies_text i n) ≡ flat_map pbm (if_any fields (replicate n i))
-any_are fields i n = grind (arith, copies_are)
-
 command_is : (sheets : Sheets) (before : List Item) (command : Command) → prints_by sheets before command ≡ flat_map pbm (completed_by sheets before command)
-command_is sheets before c = grind (arith, any_are)
+command_is sheets before c = grind (arith, copies_are)
 
 given_is : (opened : Bool) (sheets : Sheets) (before : List Item) (command : Command) (name : Name) (sent : List Kept) → is_open before ≡ opened →
     prints sheets before (Given command name sent) ≡ flat_map pbm (completed sheets before (Given command name sent))
@@ -57,11 +53,8 @@ module _ (law : (before : List Item) → AreInRange (settings_of before)) (sheet
   of_command : (before : List Item) (command : Command) → AreOfLabels (completed_by sheets before command)
   of_command before c = grind (arith, each)
 
-  of_given : (opened : Bool) (before : List Item) (command : Command) (name : Name) (sent : List Kept) → is_open before ≡ opened → AreOfLabels (completed sheets before (Given command name sent))
-  of_given opened before c name sent so = grind (arith, of_command)
-
   of_item : (before : List Item) (item : Item) → AreOfLabels (completed sheets before item)
-  of_item before (Given command name sent) = of_given (is_open before) before command name sent refl
+  of_item before (Given c name sent) = grind (arith, of_command)
   of_item before (Data byte) = tt
 
   pub all_of : (before : List Item) → AreOfLabels (images sheets before)

@@ -1,11 +1,9 @@
 -- Which band is next, some bytes further on.
-use Rattle.std.proofs.Common.{◌≡◌, ◌+◌, ◌*◌, ◌/◌, ◌%◌, ◌<◌, ◌≤◌, ℕ, false, Bool, refl, ◌∙◌, arith}
-use Rattle.std.specs.Prelude.{◌==◌, ◌||◌, nat_lt, if◌then◌else◌}
-use Rattle.std.proofs.lemmas.Bool.Decides.{nat_tests}
+use Rattle.std.proofs.Common.{◌≡◌, ◌+◌, ◌*◌, ◌/◌, ◌%◌, ◌<◌, ◌≤◌, ℕ, false, arith}
 use Rattle.vp_copies.specs.declared.place.Ahead.TheVariants.{Nothing, Band}
 use Rattle.vp_output.specs.declared.place.Line.{Line}
 use Rattle.vp_output.specs.declared.place.Line.TheVariants.{Row}
-use Rattle.vp_copies.specs.Copies.{advanced, ahead, ahead_of, Place}
+use Rattle.vp_copies.specs.Copies.{advanced, ahead, Place}
 use Rattle.vp_output.specs.Lines.{row_after, IsLineOf}
 use Rattle.vp_copies.specs.Progress.{IsPainted}
 use Rattle.std.proofs.Common.{List, [], get_or}
@@ -22,11 +20,8 @@ use Rattle.vp_label.specs.Press.{bands_above, IsBetween, IsNextBand}
 abbrev pub at : ℕ → Line → ℕ → Place
 at copies l byte = record { copies = copies; line = l; byte = byte }
 
-band_of : (t : Bool) (l : Line) (b : ℕ) → (if t then Nothing else ahead_of l) ≡ Band b → b + 1 ≡ bands_above l
-band_of t l b e = grind arith
-
 pub band_is : (copies : ℕ) (l : Line) (byte b : ℕ) → ahead (at copies l byte) ≡ Band b → b + 1 ≡ bands_above l
-band_is copies l byte b e = band_of (copies == 0 || nat_lt 0 byte) l b e
+band_is copies l byte b e = grind arith
 
 -- a band that was wanted and is painted
 pub band_painted : (copies : ℕ) (l : Line) (byte b : ℕ) (i : Image) (band : List (List ℕ)) → ahead (at copies l byte) ≡ Band b
@@ -35,12 +30,9 @@ pub band_painted : (copies : ℕ) (l : Line) (byte b : ℕ) (i : Image) (band : 
     → IsPainted i l band
 band_painted copies l byte b i band e out d = grind arith
 
-first_ahead : (copies : ℕ) (l : Line) → 0 < copies → ahead (at copies l 0) ≡ ahead_of l
-first_ahead copies l h = let t : (copies == 0 || nat_lt 0 0) ≡ false = grind (arith, nat_tests) in rw t refl
-
 -- inside a band none is wanted
 pub inside_ahead : (copies y : ℕ) → 0 < copies → 0 < y % 32 → ahead (at copies (Row y) 0) ≡ Nothing
-inside_ahead copies y some inside = first_ahead copies (Row y) some ∙ (let f : (y % 32 == 0) ≡ false = grind (arith, nat_tests) in rw f refl)
+inside_ahead copies y some inside = grind arith
 
 -- at no band are there more looks than that
 pub most : (sheets : Sheets) (held : Held) (view : View) (t : Threaded) → LooksBounded → (b : ℕ) × (b ≤ bands_of view) × IsBefore sheets held view b t →

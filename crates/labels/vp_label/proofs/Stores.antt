@@ -38,9 +38,6 @@ taken sheets before b h = rw (fits (is_open before) (length (stored before)) h) 
 refused : (sheets : Sheets) (before : List Item) (b : ℕ) → is_open before ≡ true → STORED ≤ length (stored before) → refusal sheets before (Data b) ≡ Some StoreFull
 refused sheets before b is_so h = rw (is_so, le-leb STORED (length (stored before)) h) refl
 
-unheard : (sheets : Sheets) (before : List Item) (b : ℕ) → is_open before ≡ false → refusal sheets before (Data b) ≡ None
-unheard sheets before b shut = rw shut refl
-
 pub all_taken : (sheets : Sheets) (before : List Item) (bytes : List ℕ) → is_open before ≡ true → length (stored before) + length bytes ≤ STORED → first_refusal sheets before (data_items bytes) ≡ None
 all_taken sheets before [] is_so h = refl
 all_taken sheets before (b ∷ bytes) is_so h =
@@ -49,7 +46,7 @@ all_taken sheets before (b ∷ bytes) is_so h =
 
 pub all_unheard : (sheets : Sheets) (before : List Item) (bytes : List ℕ) → is_open before ≡ false → first_refusal sheets before (data_items bytes) ≡ None
 all_unheard sheets before [] shut = refl
-all_unheard sheets before (b ∷ bytes) shut = rw (unheard sheets before b shut) (all_unheard sheets (Data b ∷ before) bytes shut)
+all_unheard sheets before (b ∷ bytes) shut = grind (arith, all_unheard sheets (Data b ∷ before) bytes shut)
 
 pub one_refused : (sheets : Sheets) (before : List Item) (bytes : List ℕ) → is_open before ≡ true → STORED < length (stored before) + length bytes → length (stored before) ≤ STORED →
     first_refusal sheets before (data_items bytes) ≡ Some StoreFull
