@@ -12,8 +12,4 @@ more i (suc q) others =
     ap (copies_text i) e ∙ ap (λ t. pbm i ++ t) (more i q others) ∙ sym (append_assoc (pbm i) (copies_text i q) (copies_text i others))
 
 pub returns : goal.returns
-returns c = record {
-  one = λ i. append-nil (pbm i);
-  count = length-copies;
-  more = more;
-}
+returns c = grind (arith, append-nil, length-copies, more)

@@ -1,13 +1,10 @@
-use Rattle.std.proofs.Common.{◌≡◌, ◌+◌, ◌-◌, ◌/◌, sym, ap, ◌∙◌, arith, length-drop}
-use Rattle.std.proofs.lemmas.List.{length-take}
+use Rattle.std.proofs.Common.{◌≡◌, ◌+◌, ◌-◌, ◌/◌, sym, ap, ◌∙◌, arith}
 use Rattle.vp_dots.specs.Images.{image_row, row_bytes}
 use Rattle.vp_copies.proofs.ManyRows.{even_rows, one_more, row_copied, row_fits}
 use Rattle.vp_copies.proofs.rows.copy_rows.Goals as goal
 
 pub copy_row-requires : goal.copy_row-requires
-copy_row-requires g c =
-    let fits = row_fits (row_bytes c.args.width) c.loop-k.k c.args.rows c.args.room.now c.loop-k-test.true c.requires.fits in
-    rw c.bytes_of_row-bytes.ensures (simp (length-take, length-drop) (omega (arith, c.row_of_band.ensures.count, fits, c.loop-k.auto.room)))
+copy_row-requires g c = grind arith
 
 pub loop-k-preserved : goal.loop-k-preserved
 loop-k-preserved g c = λ i w below painted.
@@ -22,6 +19,4 @@ loop-k-preserved g c = λ i w below painted.
     (omega (arith, fits, one_more (row_bytes i.width) k)) (rw (← w) at before) (rw (bytes, text) at c.copy_row.ensures))
 
 pub returns : goal.returns
-returns g c = λ i w below painted.
-    let all : c.loop-k.k ≡ c.args.rows = omega arith in
-    rw all at c.loop-k.invariant i w below painted
+returns g c = grind arith
