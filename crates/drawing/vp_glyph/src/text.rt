@@ -70,16 +70,15 @@ fn paint_short<A: Small>(
     let w = stretch.width;
     let source = source_row(y, h);
     let (from, to) = seen_dots(at, 0, w * text.len() as u32, row.len());
-    let mut k = whole_cells(from, w) as usize;
+    let first = whole_cells(from, w);
+    let mut k = first as usize;
     let mut front = 0u64;
-    let mut gathered = 0;
     while k < text.len() && w * (k as u32) < to {
         front |= cell_front(sheet, text[k], source, stretch, at, w * k as u32);
         k += 1;
-        gathered += 1;
     }
     paint_word(op, front, 0, row);
-    gathered
+    k as u32 - first
 }
 
 /// Paints line y of the cells of a text, each stretched to a width and drawn h dots high, from a sheet with

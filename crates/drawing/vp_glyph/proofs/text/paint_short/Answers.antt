@@ -1,5 +1,5 @@
 use Rattle.std.proofs.Common.{inl, inr, arith, refl, ap, ◌-◌, length, take, sym, w64, to_z, of_z, ◌+◌, ◌*◌, ◌/◌, ◌<◌, ◌≤◌, ◌≡◌}
-use Rattle.std.proofs.Math.Nat.{div-lt_iff_lt-mul, div-mul-le_self, mul-le-mul_left, mul-le-mul_right}
+use Rattle.std.proofs.Math.Nat.{div-lt_iff_lt-mul, div-mul-le_self, mul-le-mul_left}
 use Rattle.std.proofs.lemmas.Int.{to_z-of_z}
 use Rattle.vp_glyph.proofs.Handed.{cells_few, text_unseen, seen_some, no_text, short_last}
 use Rattle.vp_glyph.proofs.Moved.{short_row}
@@ -19,18 +19,18 @@ loop-k-init g c =
     let w = c.args.stretch.now.width in
     let from = c.seen_dots-from.result.0 in
     let below : from / w < length c.args.text.now + 1 = (div-lt_iff_lt-mul {k = w} {x = from} {y = length c.args.text.now + 1} c.requires.some).1 (omega (arith, c.seen_dots-from.ensures.first)) in
-    let whole : w * c.whole_cells-k.result ≡ w * (from / w) = ap (λ n. w * n) c.whole_cells-k.ensures in
+    let whole : w * c.whole_cells-first.result ≡ w * (from / w) = ap (λ n. w * n) c.whole_cells-first.ensures in
     record {
       within = omega arith;
-      counted = omega (arith, c.whole_cells-k.ensures);
-      begun = inl c.whole_cells-k.ensures;
-      gathered = λ d l. front_none c.args.op _ c.args.sheet.now c.args.text.now (length c.args.text.now) w c.args.h 0 c.args.y (omega arith) c.requires.some c.whole_cells-k.result (λ x e g m n. c.seen_dots-from.ensures.before x e g (omega arith) n) d;
+      after = omega (arith, c.whole_cells-first.ensures);
+      begun = inl c.whole_cells-first.ensures;
+      gathered = λ d l. front_none c.args.op _ c.args.sheet.now c.args.text.now (length c.args.text.now) w c.args.h 0 c.args.y (omega arith) c.requires.some c.whole_cells-first.result (λ x e g m n. c.seen_dots-from.ensures.before x e g (omega arith) n) d;
     }
 
 pub loop-k-preserved : goal.loop-k-preserved
 loop-k-preserved g c = record {
   within = omega arith;
-  counted = omega (arith, c.loop-k.invariant.counted);
+  after = omega (arith, c.loop-k.invariant.after);
   begun = inr (let same : c.loop-k.k + 1 - 1 ≡ c.loop-k.k = omega arith in rw same (omega arith));
   gathered = λ d l.
       front_more c.args.op _ c.args.sheet.now c.args.text.now (length c.args.text.now) c.args.stretch.now.width c.args.h 0 c.args.y (omega arith) c.requires.some c.loop-k.k _ (c.args.stretch.now.width * c.loop-k.k) (omega arith) refl (omega arith) c.loop-k.front c.cell_front-front.result _ d
@@ -52,14 +52,9 @@ returns g c =
     rw (sym (to_z-of_z w64 c.args.at c.ranges.at)) (record {
       painted = text_all _ _ c.args.sheet.now c.args.text.now w c.args.h c.args.y c.requires.some c.loop-k.k c.loop-k.k _ _ (omega arith) (λ x d g m n. c.seen_dots-from.ensures.behind x d (omega arith) m n)
           (short_row _ (to_z w64 (of_z w64 c.args.at)) (so_far c.args.sheet.now (take (length c.args.text.now) c.args.text.now) w c.args.h 0 c.args.y c.loop-k.k) c.loop-k.front _ _ c.requires.short c.loop-k.invariant.gathered c.paint_word.ensures);
-      most = omega (arith, few, c.loop-k.invariant.counted, c.loop-k.invariant.within);
+      most = omega (arith, few, c.loop-k.invariant.after, c.whole_cells-first.ensures);
       some = λ d l t. seen_some _ _
           (λ e. text_unseen _ c.args.sheet.now c.args.text.now w c.args.h c.args.y _ _ _ d
-          (let same : c.loop-k.k ≡ c.seen_dots-from.result.0 / w = omega (arith, e, c.loop-k.invariant.counted) in let m = rw same at all in omega (arith, m, whole)) c.seen_dots-from.ensures.before c.seen_dots-from.ensures.behind l)
+          (let same : c.loop-k.k ≡ c.seen_dots-from.result.0 / w = omega (arith, e, c.loop-k.invariant.after, c.whole_cells-first.ensures) in let m = rw same at all in omega (arith, m, whole)) c.seen_dots-from.ensures.before c.seen_dots-from.ensures.behind l)
           t;
     })
-
-pub overflow_add-gathered : goal.overflow_add-gathered
-overflow_add-gathered g c =
-    let few : 1 * length c.args.text.now ≤ c.args.stretch.now.width * length c.args.text.now = mul-le-mul_right (length c.args.text.now) (omega (arith, c.requires.some)) in
-    omega (arith, few, c.requires.fits, c.loop-k.invariant.counted, c.loop-k.invariant.within)
