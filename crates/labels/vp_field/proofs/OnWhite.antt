@@ -1,14 +1,11 @@
 -- Lines of dots, drawn on white.
-use Rattle.std.proofs.Common.{◌≡◌, ℕ, ◌+◌, ◌-◌, ◌*◌, ◌/◌, ◌%◌, ◌<◌, Bool, true, false, cond, eqb, ltb, ◌&&◌, refl, ap, ◌∙◌, arith, List, length, replicate, ℤ, pos, neg_ℤ, ◌-ℤ◌}
-use Rattle.std.proofs.lemmas.Int.{ints}
+use Rattle.std.proofs.Common.{◌≡◌, ℕ, ◌-◌, ◌*◌, ◌/◌, ◌%◌, ◌<◌, Bool, true, false, cond, eqb, ltb, ◌&&◌, refl, ap, ◌∙◌, arith, List, length, replicate, ℤ}
 use Rattle.std.proofs.lemmas.List.{get_or-replicate, length-replicate}
 use Rattle.std.proofs.lemmas.Nat.Bits.{bit_at-zero}
 use Rattle.std.proofs.lemmas.Bool.{lt-ltb}
 use Rattle.vp_dots.specs.Dots.{bit, dot, shifted}
 use Rattle.vp_dots.specs.Painting.{Painted}
 use Rattle.vp_dots.specs.declared.Op.TheVariants.{Black}
-use Rattle.vp_field.specs.Places.{at_place}
-use Rattle.vp_field.proofs.Places.{shifted_at}
 
 pub dot_white : (n x : ℕ) → x / 8 < n → dot (replicate n 0) x ≡ false
 unfolding dot bit
@@ -19,11 +16,13 @@ black_alone true = refl
 black_alone false = refl
 
 -- a line painted on white
-pub on_white : (n : ℕ) (at : ℤ) (f : ℕ → Bool) (new : List ℕ) → Painted Black (shifted at f) (replicate n 0) new → (p : ℕ) → p < 8 * n → dot new p ≡ shifted at f p
-on_white n at f new q p h =
-    let long : length (replicate {A = ℕ} n 0) ≡ n = length-replicate {A = ℕ} n 0 in
-    let inside : p < 8 * length (replicate {A = ℕ} n 0) = omega (arith, long) in
-    q.dots_are p inside ∙ rw (dot_white n p (omega arith)) (black_alone (shifted at f p))
+pub on_white : (n : ℕ) (at : ℤ) (f : ℕ → Bool) (old new : List ℕ) → length old ≡ n → ((p : ℕ) → p < 8 * n → dot old p ≡ false) → Painted Black (shifted at f) old new
+    → (p : ℕ) → p < 8 * n → dot new p ≡ shifted at f p
+on_white n at f old new long white q p h = q.dots_are p (omega (arith, long, h)) ∙ rw (white p h) (black_alone (shifted at f p))
+
+-- and on zeros
+pub on_zeros : (n : ℕ) (at : ℤ) (f : ℕ → Bool) (new : List ℕ) → Painted Black (shifted at f) (replicate n 0) new → (p : ℕ) → p < 8 * n → dot new p ≡ shifted at f p
+on_zeros n at f new q = on_white n at f (replicate n 0) new (length-replicate {A = ℕ} n 0) (λ p h. dot_white n p (omega (arith, h))) q
 
 -- and read from its end
 pub turned : (n : ℕ) (old line new : List ℕ) → length line ≡ length old → length old ≡ n → ((d : ℕ) → dot new d ≡ (ltb d (8 * length line) && dot line (8 * length line - 1 - d)))

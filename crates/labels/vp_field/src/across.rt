@@ -79,7 +79,8 @@ fn halves_of<I: Pieces>(
     let mut i = 0;
     while i < many {
         let shown = pen.shown(columns, x + i, x + many);
-        let line = pen.on(shown, rows, first);
+        let mut line = [0u8; 4];
+        pen.draw_on(shown, rows, first, &mut line);
         let behind = i + shown.places;
         set_run(half_of(&line), i as usize, behind as usize, &mut halves);
         i = behind;
@@ -135,7 +136,9 @@ fn paint_columns<I: Pieces, A: Small>(
 {
     let shown = pen.shown(columns, x, end);
     if shown.places >= RUN {
-        paint_run(op, pen.on(shown, rows, first), x, x + shown.places, band);
+        let mut line = [0u8; 4];
+        pen.draw_on(shown, rows, first, &mut line);
+        paint_run(op, line, x, x + shown.places, band);
         return shown.places;
     }
     let left = halves_of(pen, columns, rows, x, end, first);

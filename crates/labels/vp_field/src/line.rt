@@ -47,32 +47,39 @@ pub fn drawn_at(axis: Axis, from: u32, bytes: usize) -> i64
     }
 }
 
-/// A line as it was drawn on N bytes, and of how many pieces.
-#[derive(Clone, Copy)]
-pub struct DrawnLine<const N: usize> {
-    pub dots: [u8; N],
-    pub pieces: u64,
+/// Draws line v of the ink at an offset, read from its end: of how many pieces.
+fn draw_reversed<I: Pieces, const N: usize>(ink: &I, v: u32, at: i64, line: &mut [u8; N]) -> u64
+    ensures dots { (p : ℕ) → p < 8 * N → dot line.new p ≡ shifted at (λ u. I.ink_at ink.now u v)
+        (8 * N - 1 - p) }
+    ensures most { result ≤ I.most_pieces ink.now (8 * N) }
+    ensures some { (p : ℕ) → p < 8 * N → dot line.new p ≡ true → 0 < result }
+{
+    let mut drawn = [0u8; N];
+    let pieces = ink.paint_pieces(v, Op::Black, at, &mut drawn);
+    copy_reversed(&drawn, line);
+    pieces
 }
 
-/// What line v of the ink has on the places of N bytes, the first of which is `from`.
-pub fn drawn<I: Pieces, const N: usize>(ink: &I, v: u32, axis: Axis, from: u32) -> DrawnLine<N>
+/// Draws line v of the ink on N white bytes, the first place of which is `from`: of how many pieces.
+pub fn draw<I: Pieces, const N: usize>(
+    ink: &I,
+    v: u32,
+    axis: Axis,
+    from: u32,
+    line: &mut [u8; N],
+) -> u64
     requires near { IsWithin (2 ^ 41) axis }
     requires few { N ≤ BAND_BYTES }
-    ensures dots { (p : ℕ) → p < 8 * N → dot result.dots p ≡ at_place (λ u. I.ink_at ink.now u v)
+    requires white { (p : ℕ) → p < 8 * N → dot line.old p ≡ false }
+    ensures dots { (p : ℕ) → p < 8 * N → dot line.new p ≡ at_place (λ u. I.ink_at ink.now u v)
         (dot_on axis (pos (from + p))) }
-    ensures most { result.pieces ≤ I.most_pieces ink.now (8 * N) }
-    ensures some { (p : ℕ) → p < 8 * N → dot result.dots p ≡ true → 0 < result.pieces }
+    ensures most { result ≤ I.most_pieces ink.now (8 * N) }
+    ensures some { (p : ℕ) → p < 8 * N → dot line.new p ≡ true → 0 < result }
 {
-    let mut line = [0u8; N];
     let at = drawn_at(axis, from, N);
-    let pieces = ink.paint_pieces(v, Op::Black, at, &mut line);
     match axis {
-        Axis::Forward(_) => DrawnLine { dots: line, pieces },
-        Axis::Back(_) => {
-            let mut dots = [0u8; N];
-            copy_reversed(&line, &mut dots);
-            DrawnLine { dots, pieces }
-        }
+        Axis::Forward(_) => ink.paint_pieces(v, Op::Black, at, line),
+        Axis::Back(_) => draw_reversed(ink, v, at, line),
     }
 }
 
@@ -103,6 +110,23 @@ pub fn paint_bytes(op: Op, line: &[u8], from: usize, to: usize, row: &mut [u8])
     paint_into(op, &line[from..to], byte_offset(from), row);
 }
 
+/// Applies the operation to the dots of a row of a label on which line v of the ink has ink. The line is drawn
+/// first: of how many pieces comes back.
+fn paint_drawn<I: Pieces>(ink: &I, v: u32, op: Op, axis: Axis, row: &mut [u8]) -> u64
+    requires near { IsWithin (2 ^ 41) axis }
+    requires row { length row.old ≡ BAND_BYTES }
+    ensures painted { Painted op (λ p. at_place (λ u. I.ink_at ink.now u v) (dot_on axis (pos p))) row.old
+        row.new }
+    ensures most { result ≤ I.most_pieces ink.now (8 * BAND_BYTES) }
+    ensures some { (p : ℕ) → p < 8 * BAND_BYTES
+        → at_place (λ u. I.ink_at ink.now u v) (dot_on axis (pos p)) ≡ true → 0 < result }
+{
+    let mut line = [0u8; BAND_BYTES];
+    let pieces = draw::<I, BAND_BYTES>(ink, v, axis, 0, &mut line);
+    paint_over(op, &line, row);
+    pieces
+}
+
 /// Applies the operation to the dots of a row of a label on which line v of the ink has ink: of how many
 /// pieces the line was painted.
 pub fn paint_line<I: Pieces>(ink: &I, v: u32, op: Op, axis: Axis, row: &mut [u8]) -> u64
@@ -116,10 +140,6 @@ pub fn paint_line<I: Pieces>(ink: &I, v: u32, op: Op, axis: Axis, row: &mut [u8]
 {
     match axis {
         Axis::Forward(at) => ink.paint_pieces(v, op, at, row),
-        Axis::Back(_) => {
-            let line = drawn::<I, BAND_BYTES>(ink, v, axis, 0);
-            paint_over(op, &line.dots, row);
-            line.pieces
-        }
+        Axis::Back(_) => paint_drawn(ink, v, op, axis, row),
     }
 }

@@ -53,7 +53,41 @@ fn reached(columns: Axis, width: u32) -> Reach
     Reach { from, to }
 }
 
-/// Paints rows of the band, from row k on, each of which shows the same line.
+/// Paints rows of the band, from row k on, each of which shows the same line, which is drawn once.
+fn paint_drawn<I: Pieces, A: Small>(
+    pen: &mut Pen<'_, I, BAND_BYTES>,
+    shown: Shown,
+    op: Op,
+    columns: Axis,
+    reach: Reach,
+    k: usize,
+    band: &mut LabelBand<A>,
+)
+    requires columns { IsWithin (2 ^ 41) columns }
+    requires order { reach.from ≤ reach.to }
+    requires to { reach.to ≤ BAND_BYTES }
+    requires white { (v p : ℕ) → p < 8 * BAND_BYTES → span (8 * reach.from) (8 * reach.to) p ≡ false
+        → at_place (λ u. I.ink_at pen.old.ink.now u v) (dot_on columns (pos p)) ≡ false }
+    requires inside { k + shown.places ≤ BAND_ROWS }
+    requires count { pen.old.lines < 2 ^ 22 }
+    requires within { ArePieces (I.most_pieces pen.old.ink.now (8 * BAND_BYTES)) pen.old.lines
+        pen.old.pieces }
+    ensures ink { pen.new.ink ≡ pen.old.ink }
+    ensures counted { pen.new.lines ≡ pen.old.lines + 1 }
+    ensures within { ArePieces (I.most_pieces pen.new.ink.now (8 * BAND_BYTES)) pen.new.lines
+        pen.new.pieces }
+    ensures painted { RowsPainted BAND_ROWS op (λ x r. span k (k + shown.places) r && unwrap_or (option_map
+        (λ v. at_place (λ u. I.ink_at pen.old.ink.now u v) (dot_on columns (pos x))) shown.line) false)
+        band.old band.new }
+{
+    let mut line = [0u8; BAND_BYTES];
+    pen.draw_on(shown, columns, 0, &mut line);
+    for i in 0..shown.places as usize {
+        paint_bytes(op, &line, reach.from, reach.to, band.row_mut(k + i));
+    }
+}
+
+/// Paints rows of the band, from row k on, each of which shows the same line: a single one at once.
 fn paint_alike<I: Pieces, A: Small>(
     pen: &mut Pen<'_, I, BAND_BYTES>,
     shown: Shown,
@@ -84,10 +118,7 @@ fn paint_alike<I: Pieces, A: Small>(
         pen.paint_on(shown, op, columns, band.row_mut(k));
         return;
     }
-    let line = pen.on(shown, columns, 0);
-    for i in 0..shown.places as usize {
-        paint_bytes(op, &line, reach.from, reach.to, band.row_mut(k + i));
-    }
+    paint_drawn(pen, shown, op, columns, reach, k, band);
 }
 
 /// Paints ink whose lines lie along the rows: how many lines it drew, and pieces of them.

@@ -8,7 +8,7 @@ ghost use Rattle.vp_field.specs.Counts.{ArePieces};
 ghost use Rattle.vp_label_size.specs.declared.TheConstants.{BAND_BYTES};
 
 use crate::axis::Axis;
-use crate::line::{drawn, paint_line};
+use crate::line::{draw, paint_line};
 use crate::pieces::Pieces;
 use vp_dots::{Ink, Op};
 use vp_label_size::BAND_BYTES;
@@ -104,10 +104,12 @@ impl<'a, I: Pieces, const BYTES: usize> Pen<'a, I, BYTES> {
         shown.line
     }
 
-    /// What a line that is shown has on the places from one on, white where there is none.
-    pub fn on(&mut self, shown: Shown, dots: Axis, from: u32) -> [u8; BYTES]
+    /// Draws what a line that is shown has on the places from one on, on bytes that are white and stay so where
+    /// there is none.
+    pub fn draw_on(&mut self, shown: Shown, dots: Axis, from: u32, line: &mut [u8; BYTES])
         requires near { IsWithin (2 ^ 41) dots }
         requires few { BYTES ≤ BAND_BYTES }
+        requires white { (p : ℕ) → p < 8 * BYTES → dot line.old p ≡ false }
         requires count { self.old.lines < 2 ^ 22 }
         requires within { ArePieces (I.most_pieces self.old.ink.now (8 * BYTES)) self.old.lines
             self.old.pieces }
@@ -115,18 +117,13 @@ impl<'a, I: Pieces, const BYTES: usize> Pen<'a, I, BYTES> {
         ensures counted { self.new.lines ≡ self.old.lines + 1 }
         ensures within { ArePieces (I.most_pieces self.new.ink.now (8 * BYTES)) self.new.lines
             self.new.pieces }
-        ensures some { (p : ℕ) → p < 8 * BYTES → dot result p ≡ true → self.old.pieces < self.new.pieces }
-        ensures dots { (p : ℕ) → p < 8 * BYTES → dot result p ≡ unwrap_or (option_map
+        ensures some { (p : ℕ) → p < 8 * BYTES → dot line.new p ≡ true → self.old.pieces < self.new.pieces }
+        ensures dots { (p : ℕ) → p < 8 * BYTES → dot line.new p ≡ unwrap_or (option_map
             (λ v. at_place (λ u. I.ink_at self.old.ink.now u v) (dot_on dots (pos (from + p)))) shown.line)
             false }
     {
-        match self.handed(shown) {
-            Some(v) => {
-                let drawn = drawn::<I, BYTES>(self.ink, v, dots, from);
-                self.pieces += drawn.pieces;
-                drawn.dots
-            }
-            None => [0; BYTES],
+        if let Some(v) = self.handed(shown) {
+            self.pieces += draw::<I, BYTES>(self.ink, v, dots, from, line);
         }
     }
 

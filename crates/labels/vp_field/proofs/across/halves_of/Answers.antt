@@ -5,6 +5,7 @@ use Rattle.vp_glyph.proofs.Overlaid.{zero_at}
 use Rattle.vp_field.specs.Axes.{dot_on, laid}
 use Rattle.vp_field.specs.declared.axis.Lines.TheVariants.{Across}
 use Rattle.vp_field.proofs.Columns.{white_half, before_end, from_end}
+use Rattle.vp_field.proofs.OnWhite.{dot_white}
 use Rattle.vp_field.proofs.across.halves_of.Goals as goal
 
 pub loop-i-init : goal.loop-i-init
@@ -20,22 +21,27 @@ loop-i-init g c = record {
   white = λ j h. zero_at 64 j;
 }
 
+pub draw_on-requires : goal.draw_on-requires
+draw_on-requires g c =
+    let old = c.loop-i.invariant in
+    (omega arith, (omega arith, (c.requires.near, (omega arith, ((λ p h. dot_white 4 p (omega (arith, h))), (omega (arith, c.requires.count, old.lines, old.within, c.min-many.ensures), old.counted))))))
+
 pub loop-i-preserved : goal.loop-i-preserved
 loop-i-preserved g c =
     let i = c.loop-i.i in
     let old = c.loop-i.invariant in
     let set = c.set_run.ensures in
-    let counted : c.on-line.new.self.lines ≡ c.loop-i.pen.lines + 1 = c.on-line.ensures.counted in
+    let counted : c.draw_on.new.self.lines ≡ c.loop-i.pen.lines + 1 = c.draw_on.ensures.counted in
     let same = rw old.ink at c.shown-shown.ensures.line in
-    let drawn = rw old.ink at c.on-line.ensures.dots in
+    let drawn = rw old.ink at c.draw_on.ensures.dots in
     let ink = λ (u v : ℕ). g.I.Ink.ink_at c.args.pen.now.ink.now u v in
     let dots = λ (d k : ℕ). laid Across c.args.columns c.args.rows ink (pos d) (pos (c.args.first + k)) in
     record {
       count = c.set_run.array_long;
       within = omega (arith, c.shown-shown.ensures.within);
-      ink = c.on-line.ensures.ink ∙ old.ink;
+      ink = c.draw_on.ensures.ink ∙ old.ink;
       lines = omega (arith, old.lines, c.shown-shown.ensures.some, counted);
-      counted = c.on-line.ensures.within;
+      counted = c.draw_on.ensures.within;
       more = omega (arith, old.more, counted);
       some = λ h. omega (arith, old.more, counted);
       drawn = λ j k h l. elim (cases_lt j i) [

@@ -1,8 +1,6 @@
-use Rattle.std.proofs.Common.{◌≡◌, ℕ, ◌+◌, arith, rules, ap, ◌∙◌, w64, pos}
+use Rattle.std.proofs.Common.{ℕ, arith, rules, ◌∙◌, w64}
 use mir.Val.{SFits}
 use Rattle.std.proofs.lemmas.Int.{to_z-of_z}
-use Rattle.vp_field.specs.Axes.{dot_on}
-use Rattle.vp_field.specs.Places.{at_place}
 use Rattle.vp_field.proofs.Places.{shifted_at}
 use Rattle.vp_field.proofs.line.paint_line.Goals as goal
 
@@ -12,9 +10,3 @@ returns-in-Forward-clause-some g c = λ p h e.
     let near = rw c.in-Forward.is at c.requires.near in
     let small : SFits w64 c.in-Forward.at = search (rules, near) in
     (rw (to_z-of_z w64 c.in-Forward.at small) at c.paint_pieces.ensures.some) p (omega (arith, h, c.requires.row)) (shifted_at c.in-Forward.at line p ∙ (rw c.in-Forward.is at e))
-
-pub returns-in-Back-clause-some : goal.returns-in-Back-clause-some
-returns-in-Back-clause-some g c = λ p h e.
-    let line = λ (u : ℕ). g.I.Ink.ink_at c.args.ink.now u c.args.v in
-    let there : 0 + p ≡ p = omega arith in
-    c.drawn-line.ensures.some p (omega (arith, h)) (c.drawn-line.ensures.dots p (omega (arith, h)) ∙ ap (λ n. at_place line (dot_on c.args.axis (pos n))) there ∙ e)

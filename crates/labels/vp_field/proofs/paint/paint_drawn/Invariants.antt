@@ -3,7 +3,7 @@ use Rattle.std.specs.Prelude.{option_map, unwrap_or}
 use Rattle.vp_dots.specs.Places.{RowsPainted}
 use Rattle.vp_field.specs.Axes.{dot_on}
 use Rattle.vp_field.specs.Places.{at_place}
-use Rattle.vp_field.proofs.paint.paint_alike.Given as goal
+use Rattle.vp_field.proofs.paint.paint_drawn.Given as goal
 
 -- i rows are done
 abbrev pub invariant-loop-i : goal.invariant-loop-i
