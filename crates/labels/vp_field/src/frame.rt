@@ -98,6 +98,30 @@ impl Frame {
         }
         side_dots(self.t, self.w - self.t, self.w)
     }
+
+    /// Paints line y, which is one of the box's, of a box no wider than a word.
+    // Not inlined, so that a wide line keeps no registers for it.
+    #[inline(never)]
+    fn paint_narrow(&self, y: u32, op: Op, at: i64, row: &mut [u8])
+        requires line { y < self.now.h }
+        requires narrow { self.now.w ≤ WORD }
+        ensures { Painted op (shifted at (λ x. frame_dot self.now.w self.now.h self.now.t x y)) row.old
+            row.new }
+    {
+        paint_word(op, self.narrow_line(y), at, row);
+    }
+
+    /// Paints a line that shows the sides of the box alone.
+    // Not inlined, so that a line that is filled keeps no registers for it.
+    #[inline(never)]
+    fn paint_sides(&self, op: Op, at: i64, row: &mut [u8])
+        requires { self.now.t < self.now.w - self.now.t }
+        ensures { Painted op (shifted at (λ x. span 0 self.now.t x
+            || span (self.now.w - self.now.t) self.now.w x)) row.old row.new }
+    {
+        paint_side(op, at, 0, self.t, row);
+        paint_side(op, at, self.w.saturating_sub(self.t), self.t, row);
+    }
 }
 
 impl Ink for Frame {
@@ -128,15 +152,14 @@ impl Ink for Frame {
             return;
         }
         if self.w <= WORD {
-            paint_word(op, self.narrow_line(y), at, row);
+            self.paint_narrow(y, op, at, row);
             return;
         }
         if self.is_solid(y) {
             fill_moved(op, at, 0, self.w, row);
             return;
         }
-        paint_side(op, at, 0, self.t, row);
-        paint_side(op, at, self.w.saturating_sub(self.t), self.t, row);
+        self.paint_sides(op, at, row);
     }
 }
 
