@@ -217,6 +217,8 @@ impl Strokes<'_> {
     }
 
     /// Draws characters, each behind another, and gives the pen behind them and how many it handed out.
+    // Inlined, so that the pen stays in registers.
+    #[inline(always)]
     fn draw_next(&self, values: &[u8], pen: Pen, op: Op, at: i64, row: &mut [u8]) -> (Pen, usize)
         requires { pen.x + total (flat_map (next_widths self.now.symbology self.now.narrow self.now.wide)
             values.now) < 2 ^ 32 }
