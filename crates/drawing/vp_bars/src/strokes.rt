@@ -130,17 +130,18 @@ impl Strokes<'_> {
         self.character_width(*first) + self.step() * regular.len() as u32 + self.next_width(last)
     }
 
-    /// The pen behind elements.
-    fn behind(&self, elements: &[u8], pen: Pen) -> Pen
-        requires { pen.x + total (sized self.now.symbology self.now.narrow self.now.wide elements.now) < 2 ^
-            32 }
+    /// The pen behind elements that are so wide together.
+    fn behind(&self, elements: &[u8], width: u32, pen: Pen) -> Pen
+        requires width { width ≡ total (sized self.now.symbology self.now.narrow self.now.wide
+            elements.now) }
+        requires room { pen.x + width < 2 ^ 32 }
         ensures x { result.x ≡ pen.x + total (sized self.now.symbology self.now.narrow self.now.wide
             elements.now) }
         ensures bar { result.bar ≡ turned pen.bar (sized self.now.symbology self.now.narrow self.now.wide
             elements.now) }
     {
         Pen {
-            x: pen.x + self.width(elements),
+            x: pen.x + width,
             bar: pen.bar != (elements.len() % 2 == 1),
         }
     }
@@ -175,24 +176,34 @@ impl Strokes<'_> {
         pen
     }
 
-    /// Draws elements where the row has a dot of them, at once where a word has room for them, and gives the
-    /// pen behind them. Beside it stands how many it handed out: one, or none where the row has no dot.
-    fn draw_some(&self, elements: &[u8], pen: Pen, op: Op, at: i64, row: &mut [u8]) -> (Pen, usize)
-        requires { pen.x + total (sized self.now.symbology self.now.narrow self.now.wide elements.now) < 2 ^
-            32 }
+    /// Draws elements that are so wide together where the row has a dot of them, at once where a word has room
+    /// for them, and gives the pen behind them. Beside it stands how many it handed out: one, or none where
+    /// the row has no dot.
+    fn draw_some(
+        &self,
+        elements: &[u8],
+        width: u32,
+        pen: Pen,
+        op: Op,
+        at: i64,
+        row: &mut [u8],
+    ) -> (Pen, usize)
+        requires width { width ≡ total (sized self.now.symbology self.now.narrow self.now.wide
+            elements.now) }
+        requires room { pen.x + width < 2 ^ 32 }
         ensures strokes { Draws op at row.old row.new pen result.0
             (sized self.now.symbology self.now.narrow self.now.wide elements.now) }
         ensures pieces { HandedOut at (dots row.old) pen.x result.0.x result.1 }
         ensures few { result.1 ≤ 1 }
     {
-        let next = self.behind(elements, pen);
+        let next = self.behind(elements, width, pen);
         if !is_shown(at, pen.x, next.x, row) {
             return (next, 0);
         }
         let Some(place) = at.checked_add(i64::from(pen.x)) else {
             return (self.draw_each(elements, pen, op, at, row), 1);
         };
-        if next.x - pen.x >= 64 {
+        if width >= 64 {
             return (self.draw_each(elements, pen, op, at, row), 1);
         }
         paint_word(op, self.word(elements, pen.bar), place, row);
@@ -213,7 +224,7 @@ impl Strokes<'_> {
         if elements.is_empty() {
             return (pen, 0);
         }
-        self.draw_some(elements, pen, op, at, row)
+        self.draw_some(elements, self.width(elements), pen, op, at, row)
     }
 
     /// Draws characters, each behind another, and gives the pen behind them and how many it handed out.
@@ -231,7 +242,9 @@ impl Strokes<'_> {
         let mut pieces = 0;
         for v in values {
             let (start, gap) = self.draw(gap_of(self.symbology), pen, op, at, row);
-            let (end, character) = self.draw(pattern_of(self.symbology, *v), start, op, at, row);
+            let width = self.character_width(*v);
+            let elements = pattern_of(self.symbology, *v);
+            let (end, character) = self.draw_some(elements, width, start, op, at, row);
             pen = end;
             pieces += gap.max(character);
         }

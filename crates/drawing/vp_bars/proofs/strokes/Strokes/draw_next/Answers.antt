@@ -15,14 +15,25 @@ draw-gap-requires c =
     let both = total-append (sized s.symbology s.narrow s.wide (gap_of s.symbology)) (sized s.symbology s.narrow s.wide (pattern_of s.symbology v)) in
     rw c.gap_of.ensures (omega (arith, room, both, c.loop-v.invariant.0.ends))
 
-pub draw-character-requires : goal.draw-character-requires
-draw-character-requires c =
+pub character_width-width-requires : goal.character_width-width-requires
+character_width-width-requires c =
+    let s = c.args.self.now in
+    let v = get_or c.args.values.now c.loop-v.v-index 0 in
+    let room = flat_room (next_widths s.symbology s.narrow s.wide) c.args.values.now c.loop-v.v-index c.loop-v-test.true in
+    let both = total-append (sized s.symbology s.narrow s.wide (gap_of s.symbology)) (sized s.symbology s.narrow s.wide (pattern_of s.symbology v)) in
+    omega (arith, room, both, c.loop-v.invariant.0.ends)
+
+pub draw_some-character-requires : goal.draw_some-character-requires
+draw_some-character-requires c =
     let s = c.args.self.now in
     let v = get_or c.args.values.now c.loop-v.v-index 0 in
     let room = flat_room (next_widths s.symbology s.narrow s.wide) c.args.values.now c.loop-v.v-index c.loop-v-test.true in
     let both = total-append (sized s.symbology s.narrow s.wide (gap_of s.symbology)) (sized s.symbology s.narrow s.wide (pattern_of s.symbology v)) in
     let gap = rw c.gap_of.ensures at c.draw-gap.ensures.strokes.ends in
-    rw c.pattern_of.ensures (omega (arith, room, both, gap, c.loop-v.invariant.0.ends))
+    record {
+      width = rw c.pattern_of-elements.ensures c.character_width-width.ensures;
+      room = omega (arith, room, both, gap, c.loop-v.invariant.0.ends, c.character_width-width.ensures);
+    }
 
 pub loop-v-init : goal.loop-v-init
 loop-v-init c = (draws_none _ _ _ _, handed_none _ _ _, omega arith)
@@ -32,12 +43,12 @@ loop-v-preserved c =
     let s = c.args.self.now in
     let sized_all : List ℕ → List ℕ = λ es. sized s.symbology s.narrow s.wide es in
     let v = get_or c.args.values.now c.loop-v.v-index 0 in
-    let one : sized_all c.gap_of.result.now ++ sized_all c.pattern_of.result.now ≡ next_widths s.symbology s.narrow s.wide v =
-    ap (λ es. sized_all es ++ sized_all c.pattern_of.result.now) c.gap_of.ensures ∙ ap (λ es. sized_all (gap_of s.symbology) ++ sized_all es) c.pattern_of.ensures in (
+    let one : sized_all c.gap_of.result.now ++ sized_all c.pattern_of-elements.result.now ≡ next_widths s.symbology s.narrow s.wide v =
+    ap (λ es. sized_all es ++ sized_all c.pattern_of-elements.result.now) c.gap_of.ensures ∙ ap (λ es. sized_all (gap_of s.symbology) ++ sized_all es) c.pattern_of-elements.ensures in (
       draws_same _ _ _ _ _ _ _ _ (flat_more (next_widths s.symbology s.narrow s.wide) c.args.values.now c.loop-v.v-index c.loop-v-test.true) (
-          draws_then _ _ _ _ _ _ _ _ _ _ c.loop-v.invariant.0 (draws_same _ _ _ _ _ _ _ _ one (draws_then _ _ _ _ _ _ _ _ _ _ c.draw-gap.ensures.strokes c.draw-character.ensures.strokes))),
-      handed_then _ _ _ c.loop-v.auto.row _ _ _ _ _ c.loop-v.invariant.1 (handed_with _ _ _ c.draw-gap.auto.row _ _ _ _ _ _ c.max-pieces.ensures c.draw-gap.ensures.pieces c.draw-character.ensures.pieces),
-      omega (arith, c.loop-v.invariant.2, c.max-pieces.ensures, c.draw-gap.ensures.few, c.draw-character.ensures.few),
+          draws_then _ _ _ _ _ _ _ _ _ _ c.loop-v.invariant.0 (draws_same _ _ _ _ _ _ _ _ one (draws_then _ _ _ _ _ _ _ _ _ _ c.draw-gap.ensures.strokes c.draw_some-character.ensures.strokes))),
+      handed_then _ _ _ c.loop-v.auto.row _ _ _ _ _ c.loop-v.invariant.1 (handed_with _ _ _ c.draw-gap.auto.row _ _ _ _ _ _ c.max-pieces.ensures c.draw-gap.ensures.pieces c.draw_some-character.ensures.pieces),
+      omega (arith, c.loop-v.invariant.2, c.max-pieces.ensures, c.draw-gap.ensures.few, c.draw_some-character.ensures.few),
     )
 
 pub returns-clause-strokes : goal.returns-clause-strokes

@@ -17,9 +17,9 @@ returns-then-not-is_shown-clause-pieces c =
     let on : c.args.pen.x ≤ c.behind-next.result.x = omega (arith, c.behind-next.ensures.x) in
     rw (sym (to_z-of_z w64 c.args.at c.ranges.at)) (handed_not _ _ _ _ on (sym c.is_shown.ensures ∙ c.if-not-is_shown.true))
 
-pub returns-then-next-pen-ge64-clause-pieces : goal.returns-then-next-pen-ge64-clause-pieces
-returns-then-next-pen-ge64-clause-pieces c =
-    rw (sym (to_z-of_z w64 c.args.at c.ranges.at)) (handed_shown _ _ _ _ _ (c.draw_each-then-next-pen-ge64.ensures.ends ∙ sym c.behind-next.ensures.x) (sym c.is_shown.ensures ∙ c.if-not-is_shown.false))
+pub returns-then-width-ge64-clause-pieces : goal.returns-then-width-ge64-clause-pieces
+returns-then-width-ge64-clause-pieces c =
+    rw (sym (to_z-of_z w64 c.args.at c.ranges.at)) (handed_shown _ _ _ _ _ (c.draw_each-then-width-ge64.ensures.ends ∙ sym c.behind-next.ensures.x) (sym c.is_shown.ensures ∙ c.if-not-is_shown.false))
 
 pub returns-clause-strokes : goal.returns-clause-strokes
 returns-clause-strokes c =
