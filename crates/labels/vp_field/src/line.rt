@@ -48,6 +48,8 @@ pub fn drawn_at(axis: Axis, from: u32, bytes: usize) -> i64
 }
 
 /// Draws line v of the ink at an offset, read from its end: of how many pieces.
+// Inlined, and apart, so that a line that is read forwards makes no room for another.
+#[inline(always)]
 fn draw_reversed<I: Pieces, const N: usize>(ink: &I, v: u32, at: i64, line: &mut [u8; N]) -> u64
     ensures dots { (p : ℕ) → p < 8 * N → dot line.new p ≡ shifted at (λ u. I.ink_at ink.now u v)
         (8 * N - 1 - p) }

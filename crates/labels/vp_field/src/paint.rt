@@ -54,8 +54,7 @@ fn reached(columns: Axis, width: u32) -> Reach
 }
 
 /// Paints rows of the band, from row k on, each of which shows the same line, which is drawn once.
-// Not inlined, so that no single row makes room for a line.
-#[inline(never)]
+// Apart, so that a single row makes no room for a line.
 fn paint_drawn<I: Pieces, A: Small>(
     pen: &mut Pen<'_, I, BAND_BYTES>,
     shown: Shown,
