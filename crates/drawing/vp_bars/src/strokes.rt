@@ -176,9 +176,9 @@ impl Strokes<'_> {
         pen
     }
 
-    /// Draws elements that are so wide together where the row has a dot of them, at once where a word has room
-    /// for them, and gives the pen behind them. Beside it stands how many it handed out: one, or none where
-    /// the row has no dot.
+    /// Draws elements that are so wide together where the row has a dot of them, at once where a word has
+    /// room for them, and gives the pen behind them. Beside it stands how many it handed out: one, or none
+    /// where the row has no dot.
     fn draw_some(
         &self,
         elements: &[u8],

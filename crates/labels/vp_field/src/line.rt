@@ -112,8 +112,8 @@ pub fn paint_bytes(op: Op, line: &[u8], from: usize, to: usize, row: &mut [u8])
     paint_into(op, &line[from..to], byte_offset(from), row);
 }
 
-/// Applies the operation to the dots of a row of a label on which line v of the ink has ink. The line is drawn
-/// first: of how many pieces comes back.
+/// Applies the operation to the dots of a row of a label on which line v of the ink has ink. The line is
+/// drawn first: of how many pieces comes back.
 fn paint_drawn<I: Pieces>(ink: &I, v: u32, op: Op, axis: Axis, row: &mut [u8]) -> u64
     requires near { IsWithin (2 ^ 41) axis }
     requires row { length row.old ≡ BAND_BYTES }

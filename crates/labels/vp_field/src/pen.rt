@@ -104,8 +104,8 @@ impl<'a, I: Pieces, const BYTES: usize> Pen<'a, I, BYTES> {
         shown.line
     }
 
-    /// Draws what a line that is shown has on the places from one on, on bytes that are white and stay so where
-    /// there is none.
+    /// Draws what a line that is shown has on the places from one on, on bytes that are white and stay so
+    /// where there is none.
     pub fn draw_on(&mut self, shown: Shown, dots: Axis, from: u32, line: &mut [u8; BYTES])
         requires near { IsWithin (2 ^ 41) dots }
         requires few { BYTES ≤ BAND_BYTES }
