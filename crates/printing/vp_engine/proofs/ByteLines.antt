@@ -1,5 +1,5 @@
 -- The lines of bytes of data: how long they are, and one among others.
-use Rattle.std.proofs.Common.{◌≡◌, ℕ, zero, suc, ◌<◌, ◌+◌, ◌*◌, List, [], ◌∷◌, ◌++◌, length, take, drop, get_or, refl, sym, ap, ◌∙◌, arith, length-append}
+use Rattle.std.proofs.Common.{◌≡◌, ℕ, zero, suc, ◌<◌, ◌+◌, ◌*◌, List, [], ◌∷◌, ◌++◌, length, take, drop, get_or, refl, sym, ap, ◌∙◌, arith}
 use Rattle.std.proofs.lemmas.List.{take_at, drop_at, drop-drop}
 use Rattle.vp_esc.specs.declared.item.EscItem.TheVariants.{RasterByte}
 use Rattle.vp_dots.specs.Listing.{listed}
@@ -10,10 +10,6 @@ use Rattle.vp_engine.specs.Lines.{byte_lines}
 pub line_length : (b : ℕ) → length (line_of (RasterByte b)) ≡ 8
 unfolding listed encode_with
 line_length b = refl
-
-pub lines_length : (xs : List ℕ) → length (byte_lines xs) ≡ 8 * length xs
-lines_length [] = refl
-lines_length (b ∷ xs) = omega (arith, length-append (line_of (RasterByte b)) (byte_lines xs), line_length b, lines_length xs)
 
 -- a line among those of other bytes
 pub line_among : (xs : List ℕ) (k : ℕ) → k < length xs → take 8 (drop (8 * k) (byte_lines xs)) ≡ line_of (RasterByte (get_or xs k 0))

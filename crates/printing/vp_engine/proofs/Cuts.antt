@@ -1,7 +1,7 @@
 -- A list of which the part from a on was written anew.
 use Rattle.vp_dots.specs.declared.fault.Fault.{Fault}
-use Rattle.std.proofs.Common.{Option, None, is_some, ◌<◌, ◌∷◌, true, false, ◌≡◌, ◌≤◌, ℕ, ◌+◌, ◌-◌, List, [], ◌++◌, length, take, drop, refl, sym, ap, ◌∙◌, arith, length-append, length-drop}
-use Rattle.std.proofs.lemmas.List.{append-nil, length-take-le, length-take, take_at, drop_at, drop-take, drop-drop}
+use Rattle.std.proofs.Common.{Option, None, is_some, ◌<◌, true, false, ◌≡◌, ◌≤◌, ℕ, ◌+◌, ◌-◌, List, [], ◌++◌, length, take, drop, sym, ap, ◌∙◌, arith, length-append, length-drop}
+use Rattle.std.proofs.lemmas.List.{length-take-le, length-take, take_at, drop_at, drop-take, drop-drop}
 use Rattle.std.proofs.lemmas.Grind.{common_steps}
 use Rattle.std.proofs.Math.Seq.{take-length, take-add, take-append-add, drop-append-add}
 use borrow.Rule.Slice.PartMut.{put_mid}
@@ -11,31 +11,22 @@ pub part_is : (a : ℕ) (xs : List ℕ) → take (length xs - a) (drop a xs) ≡
 part_is a xs = ap (λ n. take n (drop a xs)) (sym (length-drop a xs)) ∙ take-length (drop a xs)
 
 pub cut_is : (a : ℕ) (xs ys : List ℕ) → put_mid a (length xs - a) xs ys ≡ take a xs ++ ys
-cut_is a xs ys = ap (λ z. take a xs ++ (ys ++ z)) (none a xs) ∙ ap (λ z. take a xs ++ z) (append-nil ys)
-  where
-    none : (a : ℕ) (xs : List ℕ) → drop (length xs - a) (drop a xs) ≡ []
-    none a xs = grind (arith, common_steps)
+cut_is a xs ys = grind (arith, common_steps)
 
 pub cut_length : (a : ℕ) (xs ys : List ℕ) → a ≤ length xs → length ys ≡ length (take (length xs - a) (drop a xs)) → length (put_mid a (length xs - a) xs ys) ≡ length xs
 cut_length a xs ys h e = omega (arith, ap length (cut_is a xs ys), length-append (take a xs) ys, length-take-le a xs h, ap length (part_is a xs), length-drop a xs)
 
 pub cut_take : (a n : ℕ) (xs ys : List ℕ) → a ≤ length xs → take (a + n) (put_mid a (length xs - a) xs ys) ≡ take a xs ++ take n ys
-cut_take a n xs ys h =
-    let front = length-take-le a xs h in
-    ap (take (a + n)) (cut_is a xs ys) ∙ ap (λ k. take (k + n) (take a xs ++ ys)) (sym front) ∙ take-append-add (take a xs) ys n
+cut_take a n xs ys h = grind (arith, common_steps, take-append-add)
 
 pub cut_drop : (a n : ℕ) (xs ys : List ℕ) → a ≤ length xs → drop n ys ≡ drop n (take (length xs - a) (drop a xs)) → drop (a + n) (put_mid a (length xs - a) xs ys) ≡ drop (a + n) xs
-cut_drop a n xs ys h e =
-    let front = length-take-le a xs h in
-    ap (drop (a + n)) (cut_is a xs ys) ∙ ap (λ k. drop (k + n) (take a xs ++ ys)) (sym front) ∙ drop-append-add (take a xs) ys n
-    ∙ e ∙ ap (drop n) (part_is a xs) ∙ drop-drop n a xs
+cut_drop a n xs ys h e = grind (arith, common_steps, drop-append-add)
 
 pub rest_same : (a n : ℕ) (xs ys : List ℕ) → drop a xs ≡ drop a ys → drop (a + n) xs ≡ drop (a + n) ys
 rest_same a n xs ys e = sym (drop-drop n a xs) ∙ ap (drop n) e ∙ drop-drop n a ys
 
 pub empty_unless : (xs : List ℕ) → (0 < length xs → false ≡ true) → xs ≡ []
-empty_unless [] h = refl
-empty_unless (x ∷ xs) h = let no : false ≡ true = h (omega arith) in cc
+empty_unless xs h = grind (arith, common_steps)
 
 pub none_is_not_some : (o : Option Fault) → None ≡ o → is_some o ≡ true → ⊥
 none_is_not_some o e h = let no : false ≡ true = ap is_some e ∙ h in cc

@@ -1,5 +1,6 @@
 -- Where a session stands after it did something.
-use Rattle.std.proofs.Common.{inl, inr, zero, suc, subst, ◌≡◌, ℕ, ◌<◌, ◌≤◌, ◌+◌, ◌-◌, ◌^◌, min, List, [], ◌++◌, length, take, drop, length-drop, Option, Some, None, refl, sym, ap, ◌∙◌, arith, length-append, append_assoc}
+use Rattle.std.proofs.Common.{subst, ◌≡◌, ℕ, ◌<◌, ◌≤◌, ◌+◌, ◌-◌, ◌^◌, min, List, [], ◌++◌, length, take, drop, length-drop, Option, Some, None, refl, sym, ap, ◌∙◌, arith, length-append, append_assoc}
+use Rattle.std.proofs.lemmas.Grind.{common_steps}
 use Rattle.std.proofs.lemmas.List.{append-nil, take-append-drop, length-take-le}
 use Rattle.std.specs.Io.KnownBytes.{Appends, Consumes, Keeps}
 use Rattle.vp_engine.specs.Setups.{Setup, rules_of}
@@ -16,59 +17,31 @@ pub counted_more : (a b n m : ℕ) → a ≡ counted n → b ≡ min (a + m) (2 
 counted_more a b n m e f = omega arith
 
 appends_more : (a b c : Option (List ℕ)) (x y : List ℕ) → Appends a b x → Appends b c y → Appends a c (x ++ y)
-appends_more None b c x y h k = tt
-appends_more (Some a) None c x y h k = absurd h
-appends_more (Some a) (Some b) None x y h k = absurd k
-appends_more (Some a) (Some b) (Some c) x y h k = k ∙ ap (λ z. z ++ y) h ∙ append_assoc a x y
+appends_more a b c x y h k = grind (arith, append_assoc)
 
 appends_none : (a : Option (List ℕ)) → Appends a a []
-appends_none None = tt
-appends_none (Some a) = sym (append-nil a)
+appends_none a = grind (arith, append-nil)
 
 keeps_appends : (a b : Option (List ℕ)) → Keeps a b → Appends a b []
-keeps_appends None b h = tt
-keeps_appends (Some a) None h = h
-keeps_appends (Some a) (Some b) h = h ∙ sym (append-nil a)
+keeps_appends a b h = grind (arith, append-nil)
 
 take_nil : (n : ℕ) → n ≤ 0 → take {A = ℕ} n [] ≡ []
-take_nil zero h = refl
-take_nil (suc n) h = refl
+take_nil n h = grind arith
 
 consumes_more : (a b c : Option (List ℕ)) (x y : List ℕ) → Consumes a b x → Consumes b c y → Consumes a c (x ++ y)
-consumes_more None b c x y h k = tt
-consumes_more (Some a) None c x y h k = absurd h
-consumes_more (Some a) (Some b) None x y h k = absurd k
-consumes_more (Some a) (Some b) (Some c) x y h k = h ∙ ap (λ z. x ++ z) k ∙ sym (append_assoc x y c)
+consumes_more a b c x y h k = grind (arith, append_assoc)
 
 pub consumes_none : (a : Option (List ℕ)) → Consumes a a []
-consumes_none None = tt
-consumes_none (Some a) = refl
+consumes_none a = grind arith
 
 -- one read more in a call
 pub reads_more : (start now next n : ℕ) → (n ≡ 0 → now ≡ start) → (0 < n → now ≡ grown start n) → next ≡ grown now 1 → next ≡ grown start (n + 1)
-reads_more start now next zero first later e = omega (arith, first refl, e)
-reads_more start now next (suc n) first later e = omega (arith, later (omega arith), e)
+reads_more start now next n first later e = grind arith
 
 pub none_of : (f : Option Fault) → ((x : Fault) → f ≡ Some x → ⊥) → f ≡ None
-none_of None h = refl
-none_of (Some f) h = absurd (h f refl)
+none_of f h = grind arith
 
 module _ (setup : Setup) where
-  -- some bytes more are accepted
-  pub at_accepts : (s q : Desk) (r w x : List ℕ) → IsAt setup s r w → q.printer ≡ s.printer → q.unread ≡ s.unread → q.taken ≡ s.taken →
-      x ++ q.unwritten ≡ s.unwritten → q.written ≡ min (s.written + length x) (2 ^ 64 - 1) → IsAt setup q r (w ++ x)
-  at_accepts s q r w x a pr un ta wr co = record {
-    t = a.t;
-    o = a.o;
-    stands = rw pr a.stands;
-    read = ap (λ y. a.t ++ y) un ∙ a.read;
-    wrote = append_assoc w x q.unwritten ∙ ap (λ y. w ++ y) wr ∙ a.wrote;
-    taken = ta ∙ a.taken;
-    written = counted_more s.written q.written (length w) (length x) a.written co ∙ ap counted (sym (length-append w x));
-    unread_fit = omega (arith, a.unread_fit, ap length un);
-    unwritten_fit = omega (arith, a.unwritten_fit, ap length wr, length-append x q.unwritten);
-  }
-
   -- nothing is accepted
   pub at_still : (s q : Desk) (r w : List ℕ) → IsAt setup s r w → q ≡ s → IsAt setup q r (w ++ [])
   at_still s q r w a e = rw (append-nil w, e) a
@@ -89,10 +62,7 @@ module _ (setup : Setup) where
   -- n bytes of the output are accepted
   pub at_wrote : (s q : Desk) (r w slice : List ℕ) (n : ℕ) → IsAt setup s r w → slice ≡ s.unwritten → n ≤ length slice → q.printer ≡ s.printer → q.unread ≡ s.unread → q.taken ≡ s.taken →
       q.unwritten ≡ drop n s.unwritten → q.written ≡ min (s.written + n) (2 ^ 64 - 1) → IsAt setup q r (w ++ take n slice)
-  at_wrote s q r w slice n a e h pr un ta wr co =
-      at_accepts s q r w (take n slice) a pr un ta
-      (ap (λ x. take n x ++ q.unwritten) e ∙ ap (λ x. take n s.unwritten ++ x) wr ∙ take-append-drop n s.unwritten)
-      (co ∙ ap (λ k. min (s.written + k) (2 ^ 64 - 1)) (sym (length-take-le n slice h)))
+  at_wrote s q r w slice n a e h pr un ta wr co = grind (arith, common_steps)
 
   -- the printer takes n bytes of the input, and what it puts out is held
   pub at_steps : (s q : Desk) (r w slice : List ℕ) (n : ℕ) → IsAt setup s r w → slice ≡ s.unread → n ≤ length slice → s.unwritten ≡ [] →
@@ -132,17 +102,7 @@ module _ (setup : Setup) where
 
   -- bytes are read
   pub at_fills : (s q : Desk) (r w : List ℕ) → IsAt setup s r w → s.unread ≡ [] → q.printer ≡ s.printer → q.unwritten ≡ s.unwritten → q.taken ≡ s.taken → q.written ≡ s.written → length q.unread ≤ buffer_size → IsAt setup q (r ++ q.unread) w
-  at_fills s q r w a none pr un ta wr fit = record {
-    t = a.t;
-    o = a.o;
-    stands = rw pr a.stands;
-    read = ap (λ x. x ++ q.unread) (sym (append-nil a.t) ∙ ap (λ x. a.t ++ x) (sym none) ∙ a.read);
-    wrote = ap (λ x. w ++ x) un ∙ a.wrote;
-    taken = ta ∙ a.taken;
-    written = wr ∙ a.written;
-    unread_fit = fit;
-    unwritten_fit = omega (arith, a.unwritten_fit, ap length un);
-  }
+  at_fills s q r w a none pr un ta wr fit = grind (arith, append-nil)
 
   -- what was read and written so far, and then what is accepted more
   pub reaches_accepts : (a b c d e : Option (List ℕ)) (s q : Desk) (r w : List ℕ) → Reaches a b c d setup s r w → ((u v : List ℕ) → IsAt setup s u v → Accepts d e setup q u v) → Reaches a b c e setup q r w
@@ -170,64 +130,24 @@ module _ (setup : Setup) where
   pub reaches_start : (a b : Option (List ℕ)) (s : Desk) (r w : List ℕ) → IsAt setup s r w → Reaches a a b b setup s r w
   reaches_start a b s r w h = record { read = []; accepted = []; consumed = consumes_none a; appended = appends_none b; at = rw (append-nil r, append-nil w) h }
 
-  -- where all is written and printed, what is written is the paper of what was taken
-  drained_paper : (s : Desk) (r w : List ℕ) → (a : IsAt setup s r w) → s.unwritten ≡ [] → s.printer.pending ≡ [] → w ≡ paper (rules_of setup) a.t
-  drained_paper s r w a un pe =
-      sym (append-nil w) ∙ ap (λ x. w ++ x) (sym un) ∙ a.wrote ∙ sym (append-nil a.o) ∙ ap (λ x. a.o ++ x) (sym pe) ∙ a.stands.pending
-
   pub all_taken : (s : Desk) (r w : List ℕ) → (a : IsAt setup s r w) → s.unread ≡ [] → a.t ≡ r
   all_taken s r w a un = sym (append-nil a.t) ∙ ap (λ x. a.t ++ x) (sym un) ∙ a.read
 
   pub stop_answer : (s : Desk) (r w : List ℕ) (f : Fault) (after : ℕ) (end : Type 0) → IsAt setup s r w → IsDrained s → s.printer.stopped ≡ Some f → after ≡ s.taken →
       StopsAt (rules_of setup) f after r w (HasEnded s f after) end
-  stop_answer s r w f after end a d st ta = record {
-    t = a.t;
-    rest = s.unread;
-    split = a.read;
-    after_is = ta ∙ a.taken;
-    paper_of = drained_paper s r w a d.unwritten d.pending;
-    fault_is = inl (record { fault_of = sym a.stands.stopped ∙ st; last = a.stands.last; ended = record { stopped = st; drained = d; after_is = sym ta } });
-  }
+  stop_answer s r w f after end a d st ta = grind (arith, common_steps)
 
   pub whole_answer : (s : Desk) (r w : List ℕ) (report : Report) (end : Type 0) → IsAt setup s r w → IsDrained s → s.unread ≡ [] →
       ((t o : List ℕ) → Stands setup s.printer t o → fault_at_end (rules_of setup) t ≡ None) → report.taken ≡ s.taken → report.written ≡ s.written → end → IsReported setup s report r w end
-  whole_answer s r w report end a d un fi ta wr e =
-      let t_is = all_taken s r w a un in
-      record {
-        whole = record {
-          paper_of = drained_paper s r w a d.unwritten d.pending ∙ ap (paper (rules_of setup)) t_is;
-          fault_of = ap (fault_at_end (rules_of setup)) (sym t_is) ∙ fi a.t a.o a.stands;
-          at_end = e;
-        };
-        none_left = un;
-        taken = ta ∙ a.taken ∙ ap (λ (x : List ℕ). counted (length x)) t_is;
-        written = wr ∙ a.written;
-      }
+  whole_answer s r w report end a d un fi ta wr e = grind (arith, common_steps)
 
   pub end_answer : (s : Desk) (r w : List ℕ) (f : Fault) (after : ℕ) (end : Type 0) → IsAt setup s r w → IsDrained s → s.unread ≡ [] → s.printer.stopped ≡ None →
       ((t o : List ℕ) → Stands setup s.printer t o → fault_at_end (rules_of setup) t ≡ Some f) → after ≡ s.taken → end → StopsAt (rules_of setup) f after r w (HasEnded s f after) end
-  end_answer s r w f after end a d un run fi ta e = record {
-    t = a.t;
-    rest = s.unread;
-    split = a.read;
-    after_is = ta ∙ a.taken;
-    paper_of = drained_paper s r w a d.unwritten d.pending;
-    fault_is = inr (record { all = un; no_fault = sym a.stands.stopped ∙ run; fault_of = fi a.t a.o a.stands; at_end = e });
-  }
+  end_answer s r w f after end a d un run fi ta e = grind (arith, common_steps)
 
   -- a new session
   pub at_first : (s : Desk) → Stands setup s.printer [] [] → s.unread ≡ [] → s.unwritten ≡ [] → s.taken ≡ 0 → s.written ≡ 0 → IsAt setup s [] []
-  at_first s st un uw ta wr = record {
-    t = [];
-    o = [];
-    stands = st;
-    read = un;
-    wrote = uw;
-    taken = ta;
-    written = wr;
-    unread_fit = omega (arith, ap length un);
-    unwritten_fit = omega (arith, ap length uw);
-  }
+  at_first s st un uw ta wr = grind arith
 
   -- what is written is a front of the paper of what is read
   pub written_front : (s : Desk) (r w : List ℕ) → IsAt setup s r w → ((bytes more : List ℕ) → IsPrefix (paper (rules_of setup) bytes) (paper (rules_of setup) (bytes ++ more))) → IsPrefix w (paper (rules_of setup) r)

@@ -11,42 +11,21 @@ pub without_last_more : (t : List ℕ) (b : ℕ) → without_last (t ++ b ∷ []
 without_last_more t b = grind (arith, common_steps)
 
 pub none_first : (a b : Option Fault) → option_or a b ≡ None → a ≡ None
-none_first None b e = refl
-none_first (Some f) b e = e
+none_first a b e = grind arith
 
 pub none_second : (a b : Option Fault) → option_or a b ≡ None → b ≡ None
-none_second None b e = e
-none_second (Some f) b e = cc
+none_second a b e = grind arith
 
 or_none : (a : Option Fault) → option_or a None ≡ a
-or_none None = refl
-or_none (Some f) = refl
-
-or_assoc : (a b c : Option Fault) → option_or a (option_or b c) ≡ option_or (option_or a b) c
-or_assoc None b c = refl
-or_assoc (Some f) b c = refl
-
-or_stays : (a b c : Option Fault) (f : Fault) → option_or a b ≡ Some f → (b ≡ Some f → c ≡ Some f) → option_or a c ≡ Some f
-or_stays None b c f e g = g e
-or_stays (Some x) b c f e g = e
+or_none a = grind arith
 
 -- what comes where there is no fault yet
 else_same : (fault : Option Fault) (xs ys zs : List ℕ) → (fault ≡ None → ys ≡ zs) → cond (is_some fault) xs ys ≡ cond (is_some fault) xs zs
-else_same None xs ys zs e = e refl
-else_same (Some f) xs ys zs e = refl
-
--- what comes where there is one
-then_is : (fault : Option Fault) (xs ys : List ℕ) (f : Fault) → option_or fault None ≡ Some f → cond (is_some fault) xs ys ≡ xs
-then_is None xs ys f e = cc
-then_is (Some g) xs ys f e = refl
+else_same fault xs ys zs e = grind arith
 
 -- where there is no fault, there was none before
 pub sticks : {Item : Type 0} (reading : Reading Item) → Reads reading → (bytes more : List ℕ) → reading.fault_of (bytes ++ more) ≡ None → reading.fault_of bytes ≡ None
-sticks reading reads bytes more e = none_by (reading.fault_of bytes) (λ f h. let no : None ≡ Some f = sym e ∙ reads.stays bytes more f h in cc)
-  where
-    none_by : (o : Option Fault) → ((f : Fault) → o ≡ Some f → ⊥) → o ≡ None
-    none_by None h = refl
-    none_by (Some f) h = absurd (h f refl)
+sticks reading reads bytes more e = grind arith
 
 module _ {Item : Type 0} (rules : Rules Item) where
   pub paper_is : (t : List ℕ) → paper rules t ≡ printed rules (history rules (before_fault rules t))
@@ -57,10 +36,7 @@ module _ {Item : Type 0} (rules : Rules Item) where
       first_fault rules front (rest ++ b ∷ []) ≡ option_or (first_fault rules front rest) (fault_at rules ((front ++ rest) ++ b ∷ []))
   unfolding first_fault
   first_more front [] b = or_none (fault_at rules (front ++ b ∷ [])) ∙ ap (λ x. fault_at rules (x ++ b ∷ [])) (sym (append-nil front))
-  first_more front (x ∷ rest) b =
-      let next = front ++ x ∷ [] in
-      ap (option_or (fault_at rules next)) (first_more next rest b) ∙ or_assoc (fault_at rules next) (first_fault rules next rest) (fault_at rules ((next ++ rest) ++ b ∷ []))
-      ∙ ap (λ y. option_or (option_or (fault_at rules next) (first_fault rules next rest)) (fault_at rules (y ++ b ∷ []))) (append_assoc front (x ∷ []) rest)
+  first_more front (x ∷ rest) b = grind (arith, append_assoc, first_more (front ++ x ∷ []) rest b)
 
   pub fault_more : (t : List ℕ) (b : ℕ) → fault rules (t ++ b ∷ []) ≡ option_or (fault rules t) (fault_at rules (t ++ b ∷ []))
   unfolding fault
@@ -70,9 +46,7 @@ module _ {Item : Type 0} (rules : Rules Item) where
   unfolding first_fault sound
   sound_whole front [] e = sym (append-nil front)
   sound_whole front (b ∷ rest) e =
-      let next = front ++ b ∷ [] in
-      ap (λ f. cond (is_some f) front (sound rules next rest)) (none_first (fault_at rules next) (first_fault rules next rest) e)
-      ∙ sound_whole next rest (none_second (fault_at rules next) (first_fault rules next rest) e) ∙ append_assoc front (b ∷ []) rest
+      grind (arith, append_assoc, sound_whole (front ++ b ∷ []) rest (none_second (fault_at rules (front ++ b ∷ [])) (first_fault rules (front ++ b ∷ []) rest) e))
 
   -- bytes without a fault are all before it
   pub before_whole : (t : List ℕ) → fault rules t ≡ None → before_fault rules t ≡ t
@@ -81,7 +55,7 @@ module _ {Item : Type 0} (rules : Rules Item) where
 
   sound_stop : (front rest : List ℕ) (b : ℕ) (f : Fault) → first_fault rules front (rest ++ b ∷ []) ≡ Some f → sound rules front (rest ++ b ∷ []) ≡ sound rules front rest
   unfolding first_fault sound
-  sound_stop front [] b f e = then_is (fault_at rules (front ++ b ∷ [])) front (front ++ b ∷ []) f e
+  sound_stop front [] b f e = grind arith
   sound_stop front (x ∷ rest) b f e =
       let next = front ++ x ∷ [] in
       else_same (fault_at rules next) front (sound rules next (rest ++ b ∷ [])) (sound rules next rest)
@@ -95,9 +69,7 @@ module _ {Item : Type 0} (rules : Rules Item) where
   first_stays : (front rest more : List ℕ) (f : Fault) → first_fault rules front rest ≡ Some f → first_fault rules front (rest ++ more) ≡ Some f
   unfolding first_fault
   first_stays front [] more f e = cc
-  first_stays front (b ∷ rest) more f e =
-      let next = front ++ b ∷ [] in
-      or_stays (fault_at rules next) (first_fault rules next rest) (first_fault rules next (rest ++ more)) f e (first_stays next rest more f)
+  first_stays front (b ∷ rest) more f e = grind (arith, first_stays (front ++ b ∷ []) rest more f)
 
   sound_stays : (front rest more : List ℕ) (f : Fault) → first_fault rules front rest ≡ Some f → sound rules front (rest ++ more) ≡ sound rules front rest
   unfolding first_fault sound
@@ -204,6 +176,4 @@ module _ {Item : Type 0} (rules : Rules Item) where
   pub ends : (t : List ℕ) (missing_now : Option Fault) → fault rules t ≡ None →
       missing_now ≡ missing (rules.reading.is_between t) (rules.is_at_rest (history rules (before_fault rules t))) → fault_at_end rules t ≡ missing_now
   unfolding ending
-  ends t missing_now none e =
-      ap (λ f. option_or f (ending rules t)) none
-      ∙ ap (λ x. missing (rules.reading.is_between t) (rules.is_at_rest (history rules x))) (sym (before_whole t none)) ∙ sym e
+  ends t missing_now none e = grind (arith, before_whole)

@@ -1,5 +1,5 @@
 -- The items of a label's bytes: what a label printer and a listing do with them.
-use Rattle.std.proofs.Common.{◌≡◌, ℕ, List, [], ◌∷◌, ◌++◌, flat_map, reverse, append_assoc, Option, Some, None, Result, Ok, Err, OnOk, OnErr, MatchResult, refl, sym, ap, subst, ◌∙◌}
+use Rattle.std.proofs.Common.{◌≡◌, ℕ, List, [], ◌∷◌, ◌++◌, flat_map, reverse, append_assoc, Option, Some, None, Result, Ok, Err, OnOk, OnErr, MatchResult, refl, sym, ap, subst, ◌∙◌, arith}
 use Rattle.std.specs.Option.{option_or}
 use Rattle.std.proofs.lemmas.List.{reverse-append, reverse-reverse, append-nil, map-append}
 use Rattle.vp_dots.specs.declared.fault.Fault.{Fault}
@@ -71,8 +71,7 @@ module _ (sheets : Sheets) where
         ∙ full before (reverse back) b f (ap (λ xs. first_refusal sheets before (data_items xs)) (sym split) ∙ e)
 
     first_is : (o : Option Fault) (f : Fault) → option_or o None ≡ Some f → o ≡ Some f
-    first_is None f e = e
-    first_is (Some g) f e = e
+    first_is o f e = grind arith
 
     newest_refused : (item : ZplItem) (before : List Item) (f : Fault) → first_refusal sheets before (shown_item item) ≡ Some f →
         newest_refusal rules (reverse (shown_item item) ++ before) ≡ Some f
@@ -86,10 +85,6 @@ module _ (sheets : Sheets) where
         OnOk result ((sheets : Sheets) (before : List Item) → LabelStands sheets old before → LabelStands sheets new (followed_by before (shown_item item))) →
         OnOk result ((sheets : Sheets) (before : List Item) → LabelStands sheets old before → new.pending ≡ all_print sheets before (shown_item item)) → OnErr result (new ≡ old) →
         Comes rules (λ bytes before. Reads bytes × LabelStands sheets (plain new) before) new.pending bytes before (Ok (shown_item item)) result
-    items_come Reads old new bytes before item (Ok done) reads at idle refused stands prints err = (
-      all_accepted (shown_item item) before refused,
-      (reads, to_plain sheets new _ (subst (LabelStands sheets new) (order before (shown_item item)) (stands sheets before at))),
-      all_printed (shown_item item) before ∙ ap (λ x. printed rules before ++ x) (sym (prints sheets before at)),
-    )
+    items_come Reads old new bytes before item (Ok done) reads at idle refused stands prints err = grind (arith, all_accepted, all_printed)
     items_come Reads old new bytes before item (Err f) reads at idle refused stands prints err =
         (newest_refused item before f refused, (reads, to_plain sheets new before (subst (λ (p : Printing _). LabelStands sheets p before) (sym err) at)), ap (λ (p : Printing _). p.pending) err ∙ idle)

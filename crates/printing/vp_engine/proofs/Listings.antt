@@ -1,14 +1,14 @@
 -- Listings: how many lines there are, and what a session's answer says of them.
-use Rattle.std.proofs.Common.{◌≡◌, ℕ, List, [], ◌++◌, length, reverse, Option, Ok, Err, inl, inr, ◌⊎◌, ap, ◌∙◌, arith, length-append}
+use Rattle.std.proofs.Common.{◌≡◌, ℕ, List, [], ◌++◌, length, reverse, Option, Ok, Err, ◌⊎◌, arith, length-append}
+use Rattle.std.proofs.lemmas.Grind.{common_steps}
 use Rattle.std.proofs.lemmas.List.{length-reverse}
 use Rattle.vp_dots.specs.declared.fault.Fault.{Fault}
 use Rattle.vp_engine.specs.declared.session.Report.{Report}
 use Rattle.vp_engine.specs.declared.session.RunFault.{RunFault}
-use Rattle.vp_engine.specs.declared.session.RunFault.TheVariants.{Print, Read, Write, TooManyTurns}
 use Rattle.vp_engine.specs.Bytes.{IsPrefix}
 use Rattle.vp_streams.specs.Count.{counted, grown}
 use Rattle.vp_engine.specs.Listing.{lines, ListsBy, IsListing}
-use Rattle.vp_engine.specs.Paper.{history, before_fault, fault, ending, paper}
+use Rattle.vp_engine.specs.Paper.{history, before_fault, fault, paper}
 use Rattle.vp_engine.specs.Session.{Desk, IsFirstFault, IsEnding, HasEnded, IsAnswer, Pumps}
 use Rattle.vp_engine.specs.Setups.{Setup, Item, rules_of}
 use Rattle.vp_engine.proofs.Desks.{written_front}
@@ -24,40 +24,14 @@ module _ (setup : Setup) (line : Item setup → List ℕ) (before after held hol
   pub lists_all : (report : Report) (n : ℕ) → (p : Pumps before after held holds setup s [] [] (Ok report)) →
       ((bytes : List ℕ) → paper (rules_of setup) bytes ≡ lines (rules_of setup) line (before_fault (rules_of setup) bytes)) →
       n ≡ counted (length (history (rules_of setup) (before_fault (rules_of setup) p.reaches.read))) → ListsBy (rules_of setup) line before after held holds (Ok n)
-  lists_all report n p law count =
-      let r = p.reaches.read in
-      let whole = p.answer.whole in
-      let sound : before_fault (rules_of setup) r ≡ r = before_whole (rules_of setup) r (none_first (fault (rules_of setup) r) (ending (rules_of setup) r) whole.fault_of) in
-      record {
-        read = r;
-        accepted = p.reaches.accepted;
-        consumed = p.reaches.consumed;
-        appended = p.reaches.appended;
-        front = written_front setup s r p.reaches.accepted p.reaches.at grows;
-        answer = record {
-          whole = whole;
-          lines_of = whole.paper_of ∙ law r ∙ ap (lines (rules_of setup) line) sound;
-          count = count ∙ ap (λ x. counted (length (history (rules_of setup) x))) sound ∙ ap counted (length-reverse ((rules_of setup).reading.items r));
-        };
-      }
+  lists_all report n p law count = grind (arith, common_steps, before_whole, none_first)
 
   stops : (f : Fault) (after : ℕ) (t rest : List ℕ) (end : Type 0) → IsFirstFault (rules_of setup) f t (HasEnded s f after) ⊎ IsEnding (rules_of setup) f t rest end →
       IsFirstFault (rules_of setup) f t (Unit {0}) ⊎ IsEnding (rules_of setup) f t rest end
-  stops f after t rest end (inl first) = inl (record { fault_of = first.fault_of; last = first.last; ended = tt })
-  stops f after t rest end (inr e) = inr e
+  stops f after t rest end h = grind arith
 
   answers : (fault : RunFault) (r w : List ℕ) (end : Type 0) → IsAnswer setup s (Err fault) r w end → IsListing (rules_of setup) line (Err fault) r w end
-  answers (Print f after) r w end a = record {
-    t = a.t;
-    rest = a.rest;
-    split = a.split;
-    after_is = a.after_is;
-    paper_of = a.paper_of;
-    fault_is = stops f after a.t a.rest end a.fault_is;
-  }
-  answers Read r w end a = tt
-  answers Write r w end a = tt
-  answers TooManyTurns r w end a = tt
+  answers fault r w end a = grind arith
 
   -- it ends early
   pub lists_some : (fault : RunFault) → Pumps before after held holds setup s [] [] (Err fault) → ListsBy (rules_of setup) line before after held holds (Err fault)

@@ -1,5 +1,5 @@
 -- What a listing does with a byte, and with a run of bytes of data, with places or without.
-use Rattle.std.proofs.Common.{◌≡◌, ℕ, Bool, true, false, suc, ◌≤◌, List, [], ◌∷◌, ◌++◌, length, take, map, flat_map, append_assoc, Option, Some, None, Ok, Err, refl, sym, ap, subst, ◌∙◌, arith, length-append}
+use Rattle.std.proofs.Common.{◌≡◌, ℕ, Bool, true, false, suc, ◌≤◌, List, [], ◌∷◌, ◌++◌, length, take, map, flat_map, append_assoc, Option, Some, None, Ok, Err, refl, sym, ap, ◌∙◌, arith, length-append}
 use Rattle.std.proofs.lemmas.List.{append-nil, take-take, length-take-le}
 use Rattle.std.proofs.Math.Seq.{take-length}
 use Rattle.vp_dots.specs.declared.fault.Fault.{Fault}
@@ -9,22 +9,20 @@ use Rattle.vp_streams.specs.Count.{counted, grown}
 use Rattle.vp_engine.specs.Bytes.{IsPrefix}
 use Rattle.vp_engine.specs.Lines.{Listed, no_lines, taken_of, more_taken, listed_line, byte_lines, byte_lines_after, listed_bytes}
 use Rattle.vp_engine.specs.Machines.{AreLines}
-use Rattle.vp_engine.specs.Offsets.{Placed, ListedItem, listed_items, listed_by, line_by, offset_line, placed_line}
+use Rattle.vp_engine.specs.Offsets.{Placed, ListedItem, listed_items, listed_by, line_by, placed_line}
 use Rattle.vp_engine.specs.Paper.{Reading, listing, printed}
 use Rattle.vp_engine.specs.Takes.{Takes, TakesRun}
 use Rattle.vp_engine.proofs.Listings.{lines_more}
-use Rattle.vp_engine.proofs.Offsets.{at_place, placed_byte, placed_count, line_at, lines_at}
+use Rattle.vp_engine.proofs.Offsets.{at_place, placed_byte, placed_count, lines_at}
 use Rattle.vp_engine.proofs.Rasters.{all_listed, printed_lines}
 
 -- as many bytes more are taken
 pub all_taken : (w : Bool) (old new : Option ℕ) (t more : List ℕ) → old ≡ taken_of w t → new ≡ more_taken old (length more) → new ≡ taken_of w (t ++ more)
-all_taken false old new t more e f = f ∙ ap (λ o. more_taken o (length more)) e
-all_taken true old new t more e f = f ∙ ap (λ o. more_taken o (length more)) e ∙ ap Some (omega (arith, length-append t more))
+all_taken w old new t more e f = grind (arith, length-append)
 
 -- none yet
 pub none_listed : (w : Bool) {Item : Type 0} (lines : Listed) → lines ≡ no_lines w → AreLines w {Item = Item} lines [] []
-none_listed false lines e = record { count = ap (λ (l : Listed). l.count) e; taken = ap (λ (l : Listed). l.taken) e }
-none_listed true lines e = record { count = ap (λ (l : Listed). l.count) e; taken = ap (λ (l : Listed). l.taken) e }
+none_listed w lines e = grind arith
 
 module _ {Item : Type 0} (reading : Reading Item) (line : Item → List ℕ)
     (grows : (bytes more : List ℕ) → IsPrefix (reading.items bytes) (reading.items (bytes ++ more))) where
@@ -106,10 +104,7 @@ module _ {Item : Type 0} (reading : Reading Item) (line : Item → List ℕ)
     -- their lines
     after_lines : (n taken : ℕ) (run : List ℕ) → counted taken ≡ counted n → flat_map (placed_line line) (placed_after n run) ≡ byte_lines_after taken run
     after_lines n taken [] e = refl
-    after_lines n taken (b ∷ run) e =
-        ap (λ x. offset_line (suc n) x ++ flat_map (placed_line line) (placed_after (suc n) run)) (same b)
-        ∙ ap (λ x. x ++ flat_map (placed_line line) (placed_after (suc n) run)) (sym (line_at (suc n) (suc taken) (line_of (RasterByte b)) (omega (arith, e))))
-        ∙ ap (λ x. offset_line (suc taken) (line_of (RasterByte b)) ++ x) (after_lines (suc n) (suc taken) run (omega (arith, e)))
+    after_lines n taken (b ∷ run) e = grind (arith, after_lines (suc n) (suc taken) run (omega (arith, e)))
 
     -- a run whose bytes each give their item
     after_run : (t run : List ℕ) → ((n : ℕ) → n ≤ length run → reading.items (t ++ take n run) ≡ reading.items t ++ map of (take n run)) →
@@ -183,13 +178,5 @@ module _ {Item : Type 0} (reading : Reading Item) (line : Item → List ℕ)
         reading.fault_of (t ++ take n (take room input)) ≡ None → Reads (t ++ take n (take room input)) →
         text ≡ listed_bytes old.taken (take n input) → new.count ≡ grown old.count (length (take n input)) → new.taken ≡ more_taken old.taken (length (take n input)) →
         TakesRun (listing (listed_by w reading) (line_by w line)) (λ t before. Reads t × AreLines w new t before) t before (take n input) text
-    lists_run w Reads old new t input room n text before at within fits gives known reads text_is count taken =
-        let less : n ≤ room = omega (arith, fits, length-take-le room input within) in
-        let short : length (take n input) ≡ n = length-take-le n input (omega (arith, less, within)) in
-        let front : take n (take room input) ≡ take n input = take-take n room input less in
-        let each : (k : ℕ) → k ≤ n → take k (take n input) ≡ take k (take room input) =
-        λ k l. take-take k n input l ∙ sym (take-take k room input (omega (arith, l, less))) in
-        lists_all w Reads old new t (take n input) text before at
-        (λ k l. let some : k ≤ n = omega (arith, l, short) in
-        ap (λ x. reading.items (t ++ x)) (each k some) ∙ gives k some ∙ ap (λ x. reading.items t ++ map of x) (sym (each k some)))
-        (ap (λ x. reading.fault_of (t ++ x)) (sym front) ∙ known) (subst (λ x. Reads (t ++ x)) front reads) text_is count taken
+    lists_run w Reads old new t input room n text before h within fits gives known reads text_is count taken =
+        grind (arith, length-take-le, take-take, lists_all)

@@ -1,8 +1,7 @@
 -- The lines of bytes of data behind their places: the digits of these, where a line is written, and whose lines they are.
-use Rattle.std.proofs.Common.{◌≡◌, ℕ, Bool, true, false, suc, ◌+◌, ◌-◌, ◌*◌, ◌/◌, ◌%◌, ◌^◌, ◌<◌, ◌≤◌, eqb, cond, decimal, List, [], ◌∷◌, ◌++◌, length, take, drop, append_assoc, slice_set, refl, sym, ap, ◌∙◌, arith, length-append}
+use Rattle.std.proofs.Common.{◌≡◌, ℕ, suc, ◌+◌, ◌-◌, ◌*◌, ◌/◌, ◌%◌, ◌^◌, ◌<◌, ◌≤◌, decimal, List, [], ◌∷◌, ◌++◌, length, take, drop, append_assoc, slice_set, refl, sym, ap, ◌∙◌, arith, length-append}
 use Rattle.std.proofs.lemmas.List.{append-nil, take_at, drop_at, drop_all, take_all, drop-drop, length-drop, take-append-le, take-take, length-take-le, drop-set-lt}
 use Rattle.std.proofs.Math.Seq.{drop-append-add}
-use Rattle.std.proofs.lemmas.Bool.{eqb-true, eqb-false}
 use borrow.Rule.Slice.PartMut.{put_mid}
 use Rattle.std.proofs.lemmas.Fmt.{decimal_digit, decimal_step_wide, length-decimal-le}
 use Rattle.hex.proofs.Pairs.{take-two_writes}
@@ -13,33 +12,15 @@ use Rattle.vp_engine.specs.Lines.{byte_lines_after, leading, line_behind, lines_
 use Rattle.vp_engine.specs.Offsets.{offset_line}
 use Rattle.vp_engine.proofs.ByteLines.{line_length}
 
--- the digits but the last of a place that has some
-leads_at : (n : ℕ) → 0 < n → (t : Bool) → eqb n 0 ≡ t → leading n ≡ decimal n
-leads_at n some true e = absurd (omega (arith, some, eqb-true n 0 e))
-leads_at n some false e = ap (λ t. cond t [] (decimal n)) e
-
 pub leads : (n : ℕ) → 0 < n → leading n ≡ decimal n
-leads n some = leads_at n some (eqb n 0) refl
-
-divided_at : (n : ℕ) → n < 10 ^ 64 → (t : Bool) → eqb (n / 10) 0 ≡ t → decimal n ≡ leading (n / 10) ++ (48 + n % 10) ∷ []
-divided_at n l true e =
-    let none = eqb-true (n / 10) 0 e in
-    decimal_digit n (omega (arith, none)) ∙ ap (λ k. (48 + k) ∷ []) (let small : n ≡ n % 10 = omega (arith, none) in small)
-    ∙ sym (ap (λ t. cond t [] (decimal (n / 10)) ++ (48 + n % 10) ∷ []) e)
-divided_at n l false e =
-    let some = eqb-false (n / 10) 0 e in
-    decimal_step_wide n (omega (arith, some)) l ∙ sym (ap (λ t. cond t [] (decimal (n / 10)) ++ (48 + n % 10) ∷ []) e)
+leads n some = grind arith
 
 -- a number by its last digit and those before it
 pub divided : (n : ℕ) → n < 10 ^ 64 → decimal n ≡ leading (n / 10) ++ (48 + n % 10) ∷ []
-divided n l = divided_at n l (eqb (n / 10) 0) refl
+divided n l = grind (arith, decimal_digit, decimal_step_wide)
 
 pub leading_short : (offset : ℕ) → offset < 2 ^ 64 → length (leading (offset / 10)) ≤ 19
-leading_short offset l = short_at (offset / 10) (omega (arith, l)) (eqb (offset / 10) 0) refl
-  where
-    short_at : (n : ℕ) → n < 10 ^ 19 → (t : Bool) → eqb n 0 ≡ t → length (leading n) ≤ 19
-    short_at n l true e = omega (arith, ap (λ t. length (cond t [] (decimal n))) e)
-    short_at n l false e = omega (arith, ap (λ t. length (cond t [] (decimal n))) e, length-decimal-le 19 n (omega arith) l (omega (arith, l)))
+leading_short offset l = grind (arith, length-decimal-le)
 
 -- how many digits but the last there are, and that they change in the last of them alone within a hundred
 module _ (digits : List ℕ) (count tens : ℕ) (some : 0 < tens) (small : tens < 10 ^ 64) (fits : count ≤ length digits) (is : take count digits ≡ leading tens) where
@@ -81,47 +62,21 @@ written_over digits output line n last l m room =
 pub written_behind : (put n : ℕ) (lines line old output rest : List ℕ) → output ≡ lines ++ drop put old → length lines ≡ put →
     rest ≡ line ++ drop n (take (length output - put) (drop put output)) → put_mid put (length output - put) output rest ≡ (lines ++ line) ++ drop (put + n) old
 written_behind put n lines line old output rest is long e =
-    let left = length output - put in
-    let front : take put output ≡ lines = ap (take put) is ∙ take_at lines (drop put old) put long in
-    let behind : drop put output ≡ drop put old = ap (drop put) is ∙ drop_at lines (drop put old) put long in
-    let all : take left (drop put output) ≡ drop put output = take_all left (drop put output) (omega (arith, length-drop put output)) in
-    let none : drop left (drop put output) ≡ [] = drop_all left (drop put output) (omega (arith, length-drop put output)) in
-    ap (λ x. x ++ (rest ++ drop left (drop put output))) front ∙ ap (λ x. lines ++ (rest ++ x)) none
-    ∙ ap (λ x. lines ++ x) (append-nil rest ∙ e ∙ ap (λ x. line ++ drop n x) (all ∙ behind) ∙ ap (λ x. line ++ x) (drop-drop n put old))
-    ∙ sym (append_assoc lines line (drop (put + n) old))
+    grind (arith, take_at, drop_at, take_all, length-drop, drop_all, append-nil, drop-drop, append_assoc)
 
 -- one line more behind the same digits
 pub one_line_behind : (digits : List ℕ) (last : ℕ) (xs : List ℕ) (b : ℕ) →
     lines_behind digits last (xs ++ b ∷ []) ≡ lines_behind digits last xs ++ line_behind digits (last + length xs) b
 one_line_behind digits last [] b = append-nil (line_behind digits last b) ∙ ap (λ n. line_behind digits n b) (omega arith)
-one_line_behind digits last (x ∷ xs) b =
-    ap (λ lines. line_behind digits last x ++ lines) (one_line_behind digits (suc last) xs b)
-    ∙ sym (append_assoc (line_behind digits last x) (lines_behind digits (suc last) xs) (line_behind digits (suc last + length xs) b))
-    ∙ ap (λ n. lines_behind digits last (x ∷ xs) ++ line_behind digits n b) (omega arith)
+one_line_behind digits last (x ∷ xs) b = grind (arith, append_assoc, one_line_behind digits (suc last) xs b)
 
 pub length_behind : (digits : List ℕ) (last : ℕ) (xs : List ℕ) → length (lines_behind digits last xs) ≡ (length digits + 10) * length xs
 length_behind digits last [] = omega arith
-length_behind digits last (b ∷ xs) =
-    omega (
-      arith,
-      length-append (line_behind digits last b) (lines_behind digits (suc last) xs),
-      length-append digits ((48 + last) ∷ 0x20 ∷ line_of (RasterByte b)),
-      line_length b,
-      length_behind digits (suc last) xs,
-      let e : (length digits + 10) * suc (length xs) ≡ (length digits + 10) * length xs + (length digits + 10) = grind arith in e,
-    )
+length_behind digits last (b ∷ xs) = grind (arith, length-append, line_length, length_behind digits (suc last) xs)
 
 pub short_behind : (digits : List ℕ) (last : ℕ) (xs : List ℕ) → length digits ≤ 19 → length (lines_behind digits last xs) ≤ 29 * length xs
 short_behind digits last [] l = omega arith
-short_behind digits last (b ∷ xs) l =
-    omega (
-      arith,
-      l,
-      length-append (line_behind digits last b) (lines_behind digits (suc last) xs),
-      length-append digits ((48 + last) ∷ 0x20 ∷ line_of (RasterByte b)),
-      line_length b,
-      short_behind digits (suc last) xs l,
-    )
+short_behind digits last (b ∷ xs) l = grind (arith, length-append, line_length, short_behind digits (suc last) xs l)
 
 -- lines behind the digits of their places
 pub lines_at : (tens last taken : ℕ) (xs : List ℕ) → last + length xs ≤ 10 → 10 * tens + last + length xs ≤ 2 ^ 64 →
@@ -143,7 +98,4 @@ lines_at tens last taken (b ∷ xs) l m is =
 -- the lines of more bytes
 pub lines_more : (taken : ℕ) (xs ys : List ℕ) → byte_lines_after taken (xs ++ ys) ≡ byte_lines_after taken xs ++ byte_lines_after (taken + length xs) ys
 lines_more taken [] ys = ap (λ n. byte_lines_after n ys) (omega arith)
-lines_more taken (x ∷ xs) ys =
-    ap (λ lines. offset_line (suc taken) (line_of (RasterByte x)) ++ lines) (lines_more (suc taken) xs ys)
-    ∙ sym (append_assoc (offset_line (suc taken) (line_of (RasterByte x))) (byte_lines_after (suc taken) xs) (byte_lines_after (suc taken + length xs) ys))
-    ∙ ap (λ n. byte_lines_after taken (x ∷ xs) ++ byte_lines_after n ys) (omega arith)
+lines_more taken (x ∷ xs) ys = grind (arith, append_assoc, lines_more (suc taken) xs ys)

@@ -1,6 +1,6 @@
 -- The places of items: they stay, they don't go down, and each is that of the byte that gives its item.
-use Rattle.std.proofs.Common.{◌≡◌, Bool, true, false, ℕ, suc, ◌+◌, ◌<◌, ◌≤◌, List, [], ◌∷◌, ◌++◌, length, take, map, flat_map, decimal, nat_lt, cond, append_assoc, refl, sym, ap, ◌∙◌, arith, length-append, subst, zero-add, eqb}
-use Rattle.std.proofs.lemmas.Bool.{lt-ltb, le-ltb, ltb-true, ltb-false, eqb-true, eqb-false}
+use Rattle.std.proofs.Common.{◌≡◌, Bool, true, false, ℕ, suc, ◌+◌, ◌<◌, ◌≤◌, List, [], ◌∷◌, ◌++◌, length, take, map, flat_map, decimal, nat_lt, cond, append_assoc, refl, sym, ap, ◌∙◌, arith, length-append, subst}
+use Rattle.std.proofs.lemmas.Bool.{lt-ltb, le-ltb, ltb-true, eqb-true, eqb-false}
 use Rattle.std.proofs.lemmas.List.{append-nil, take_at}
 use Rattle.vp_streams.specs.Count.{counted}
 use Rattle.vp_engine.specs.Bytes.{IsPrefix}
@@ -31,38 +31,23 @@ module _ {Item : Type 0} (reading : Reading Item) where
   at_front k front [] l = none_more k front
   at_front k front (b ∷ rest) l = there k front b rest l
 
-  at_false : (k : ℕ) (front : List ℕ) → nat_lt k (length (reading.items front)) ≡ false → length (reading.items front) ≤ k
-  at_false k front e = ltb-false k (length (reading.items front)) e
-
   shift : (front : List ℕ) (b : ℕ) (rest : List ℕ) → (front ++ b ∷ []) ++ rest ≡ front ++ b ∷ rest
   shift front b rest = append_assoc front (b ∷ []) rest
 
   -- what is given keeps its place
   stays_by : (k : ℕ) (front rest more : List ℕ) → k < length (reading.items (front ++ rest)) → offset_from reading k front (rest ++ more) ≡ offset_from reading k front rest
-  stays_by k front [] more l =
-      at_front k front more (subst (λ x. k < length (reading.items x)) (append-nil front) l) ∙ sym (none_more k front)
+  stays_by k front [] more l = grind (arith, at_front, append-nil)
   stays_by k front (b ∷ rest) more l = one_more k front b (rest ++ more)
       ∙ ap (cond (nat_lt k (length (reading.items front))) (length front)) (stays_by k (front ++ b ∷ []) rest more (subst (λ x. k < length (reading.items x)) (sym (shift front b rest)) l))
       ∙ sym (one_more k front b rest)
 
-  -- a place is no less than where the search begins, and within the bytes
-  least_at : (k : ℕ) (front : List ℕ) (b : ℕ) (rest : List ℕ) → length (front ++ b ∷ []) ≤ offset_from reading k (front ++ b ∷ []) rest →
-      (t : Bool) → nat_lt k (length (reading.items front)) ≡ t → length front ≤ offset_from reading k front (b ∷ rest)
-  least_at k front b rest next true e = omega (arith, there k front b rest (ltb-true k (length (reading.items front)) e))
-  least_at k front b rest next false e = omega (arith, later k front b rest (at_false k front e), next, length-append front (b ∷ []))
-
   least_by : (k : ℕ) (front rest : List ℕ) → length front ≤ offset_from reading k front rest
   least_by k front [] = omega (arith, none_more k front)
-  least_by k front (b ∷ rest) = least_at k front b rest (least_by k (front ++ b ∷ []) rest) (nat_lt k (length (reading.items front))) refl
-
-  within_at : (k : ℕ) (front : List ℕ) (b : ℕ) (rest : List ℕ) → offset_from reading k (front ++ b ∷ []) rest ≤ length ((front ++ b ∷ []) ++ rest) →
-      (t : Bool) → nat_lt k (length (reading.items front)) ≡ t → offset_from reading k front (b ∷ rest) ≤ length (front ++ b ∷ rest)
-  within_at k front b rest next true e = omega (arith, there k front b rest (ltb-true k (length (reading.items front)) e), length-append front (b ∷ rest))
-  within_at k front b rest next false e = omega (arith, later k front b rest (at_false k front e), next, ap length (shift front b rest))
+  least_by k front (b ∷ rest) = grind (arith, least_by k (front ++ b ∷ []) rest, there, ltb-true, later, length-append)
 
   within_by : (k : ℕ) (front rest : List ℕ) → offset_from reading k front rest ≤ length (front ++ rest)
   within_by k front [] = omega (arith, none_more k front, length-append front [])
-  within_by k front (b ∷ rest) = within_at k front b rest (within_by k (front ++ b ∷ []) rest) (nat_lt k (length (reading.items front))) refl
+  within_by k front (b ∷ rest) = grind (arith, within_by k (front ++ b ∷ []) rest, there, ltb-true, length-append, later, shift)
 
   pub place_within : (bytes : List ℕ) (k : ℕ) → offset_of reading bytes k ≤ length bytes
   place_within bytes k = within_by k [] bytes
@@ -70,55 +55,27 @@ module _ {Item : Type 0} (reading : Reading Item) where
   -- so many bytes give the item
   gives_at : (k : ℕ) (front : List ℕ) (b : ℕ) (rest : List ℕ) → k < length (reading.items (take (offset_from reading k (front ++ b ∷ []) rest) ((front ++ b ∷ []) ++ rest))) →
       (t : Bool) → nat_lt k (length (reading.items front)) ≡ t → k < length (reading.items (take (offset_from reading k front (b ∷ rest)) (front ++ b ∷ rest)))
-  gives_at k front b rest next true e =
-      let here = ltb-true k (length (reading.items front)) e in
-      subst (λ x. k < length (reading.items x)) (sym (take_at front (b ∷ rest) (offset_from reading k front (b ∷ rest)) (sym (there k front b rest here)))) here
-  gives_at k front b rest next false e =
-      subst (λ n. k < length (reading.items (take n (front ++ b ∷ rest)))) (sym (later k front b rest (at_false k front e)))
-      (subst (λ x. k < length (reading.items (take (offset_from reading k (front ++ b ∷ []) rest) x))) (shift front b rest) next)
+  gives_at k front b rest next t e = grind (arith, ltb-true, take_at, there, later, shift)
 
   gives_by : (k : ℕ) (front rest : List ℕ) → k < length (reading.items (front ++ rest)) → k < length (reading.items (take (offset_from reading k front rest) (front ++ rest)))
-  gives_by k front [] l =
-      let whole : take (offset_from reading k front []) (front ++ []) ≡ front = take_at front [] (offset_from reading k front []) (sym (none_more k front)) in
-      subst (λ x. k < length (reading.items x)) (append-nil front ∙ sym whole) l
+  gives_by k front [] l = grind (arith, take_at, none_more, append-nil)
   gives_by k front (b ∷ rest) l =
       gives_at k front b rest (gives_by k (front ++ b ∷ []) rest (subst (λ x. k < length (reading.items x)) (sym (shift front b rest)) l)) (nat_lt k (length (reading.items front))) refl
 
   pub place_gives : (bytes : List ℕ) (k : ℕ) → k < length (reading.items bytes) → k < length (reading.items (take (offset_of reading bytes k) bytes))
   place_gives bytes k l = gives_by k [] bytes l
 
-  -- and no fewer do
-  shortest_at : (k n : ℕ) (front : List ℕ) (b : ℕ) (rest : List ℕ) → length front ≤ n → n < offset_from reading k front (b ∷ rest) →
-      (length (front ++ b ∷ []) ≤ n → n < offset_from reading k (front ++ b ∷ []) rest → length (reading.items (take n ((front ++ b ∷ []) ++ rest))) ≤ k) →
-      (t : Bool) → nat_lt k (length (reading.items front)) ≡ t → (u : Bool) → eqb n (length front) ≡ u → length (reading.items (take n (front ++ b ∷ rest))) ≤ k
-  shortest_at k n front b rest from l next true e u f = omega (arith, from, l, there k front b rest (ltb-true k (length (reading.items front)) e))
-  shortest_at k n front b rest from l next false e true f =
-      subst (λ x. length (reading.items x) ≤ k) (sym (take_at front (b ∷ rest) n (sym (eqb-true n (length front) f)))) (at_false k front e)
-  shortest_at k n front b rest from l next false e false f =
-      let differ = eqb-false n (length front) f in
-      let more : length (front ++ b ∷ []) ≤ n = omega (arith, length-append front (b ∷ []), from, differ) in
-      let before : n < offset_from reading k (front ++ b ∷ []) rest = omega (arith, l, later k front b rest (at_false k front e)) in
-      subst (λ x. length (reading.items (take n x)) ≤ k) (shift front b rest) (next more before)
-
   shortest_by : (k n : ℕ) (front rest : List ℕ) → length front ≤ n → n < offset_from reading k front rest → length (reading.items (take n (front ++ rest))) ≤ k
   shortest_by k n front [] from l = omega (arith, from, l, none_more k front)
   shortest_by k n front (b ∷ rest) from l =
-      shortest_at k n front b rest from l (shortest_by k n (front ++ b ∷ []) rest) (nat_lt k (length (reading.items front))) refl (eqb n (length front)) refl
+      grind (arith, shortest_by k n (front ++ b ∷ []) rest, there, ltb-true, take_at, eqb-true, eqb-false, length-append, later, shift)
 
   pub place_shortest : (bytes : List ℕ) (k n : ℕ) → n < offset_of reading bytes k → length (reading.items (take n bytes)) ≤ k
   place_shortest bytes k n l = shortest_by k n [] bytes (omega arith) l
 
-  -- later items have no earlier places
-  rises_at : (j k : ℕ) (front : List ℕ) (b : ℕ) (rest : List ℕ) → j ≤ k → offset_from reading j (front ++ b ∷ []) rest ≤ offset_from reading k (front ++ b ∷ []) rest →
-      (t : Bool) → nat_lt j (length (reading.items front)) ≡ t → offset_from reading j front (b ∷ rest) ≤ offset_from reading k front (b ∷ rest)
-  rises_at j k front b rest l next true e = omega (arith, there j front b rest (ltb-true j (length (reading.items front)) e), least_by k front (b ∷ rest))
-  rises_at j k front b rest l next false e =
-      let few = at_false j front e in
-      omega (arith, later j front b rest few, later k front b rest (omega (arith, few, l)), next)
-
   rises_by : (j k : ℕ) (front rest : List ℕ) → j ≤ k → offset_from reading j front rest ≤ offset_from reading k front rest
   rises_by j k front [] l = omega (arith, none_more j front, none_more k front)
-  rises_by j k front (b ∷ rest) l = rises_at j k front b rest l (rises_by j k (front ++ b ∷ []) rest l) (nat_lt j (length (reading.items front))) refl
+  rises_by j k front (b ∷ rest) l = grind (arith, rises_by j k (front ++ b ∷ []) rest l, there, ltb-true, least_by, later)
 
   pub place_rises : (bytes : List ℕ) (j k : ℕ) → j ≤ k → offset_of reading bytes j ≤ offset_of reading bytes k
   place_rises bytes j k l = rises_by j k [] bytes l
@@ -128,22 +85,16 @@ module _ {Item : Type 0} (reading : Reading Item) where
 
   placed_stays : (bytes more : List ℕ) (k : ℕ) (items : List Item) → k + length items ≤ length (reading.items bytes) → placed_from reading (bytes ++ more) k items ≡ placed_from reading bytes k items
   placed_stays bytes more k [] l = refl
-  placed_stays bytes more k (i ∷ items) l =
-      ap (λ n. at_place n i ∷ placed_from reading (bytes ++ more) (suc k) items) (place_stays bytes more k (omega (arith, l)))
-      ∙ ap (λ x. at_place (offset_of reading bytes k) i ∷ x) (placed_stays bytes more (suc k) items (omega (arith, l)))
+  placed_stays bytes more k (i ∷ items) l = grind (arith, place_stays, placed_stays bytes more (suc k) items (omega (arith, l)))
 
   placed_append : (bytes : List ℕ) (k : ℕ) (xs ys : List Item) → placed_from reading bytes k (xs ++ ys) ≡ placed_from reading bytes k xs ++ placed_from reading bytes (k + length xs) ys
   placed_append bytes k [] ys = ap (λ n. placed_from reading bytes n ys) (omega arith)
-  placed_append bytes k (i ∷ xs) ys =
-      ap (λ x. at_place (offset_of reading bytes k) i ∷ x) (placed_append bytes (suc k) xs ys ∙ ap (λ n. placed_from reading bytes (suc k) xs ++ placed_from reading bytes n ys) (omega arith))
+  placed_append bytes k (i ∷ xs) ys = grind (arith, placed_append bytes (suc k) xs ys)
 
   -- more bytes give more items behind those that there are
   pub placed_more : (bytes more : List ℕ) (added : List Item) → reading.items (bytes ++ more) ≡ reading.items bytes ++ added →
       listed_items true reading (bytes ++ more) ≡ listed_items true reading bytes ++ placed_from reading (bytes ++ more) (length (reading.items bytes)) added
-  placed_more bytes more added e =
-      ap (placed_from reading (bytes ++ more) 0) e ∙ placed_append (bytes ++ more) 0 (reading.items bytes) added
-      ∙ ap (λ n. placed_from reading (bytes ++ more) 0 (reading.items bytes) ++ placed_from reading (bytes ++ more) n added) (zero-add (length (reading.items bytes)))
-      ∙ ap (λ x. x ++ placed_from reading (bytes ++ more) (length (reading.items bytes)) added) (placed_stays bytes more 0 (reading.items bytes) (omega arith))
+  placed_more bytes more added e = grind (arith, placed_append, placed_stays)
 
   places_read : Reads reading → Reads (listed_by true reading)
   places_read reads = record {
@@ -163,9 +114,7 @@ module _ {Item : Type 0} (reading : Reading Item) where
     no_fewer bytes more = let p = grows bytes more in omega (arith, length-append (reading.items bytes) p.0, ap length p.1)
 
     last_by : (k : ℕ) (front rest : List ℕ) (b : ℕ) → length (reading.items (front ++ rest)) ≤ k → offset_from reading k front (rest ++ b ∷ []) ≡ suc (length (front ++ rest))
-    last_by k front [] b l =
-        later k front b [] (subst (λ x. length (reading.items x) ≤ k) (append-nil front) l) ∙ none_more k (front ++ b ∷ [])
-        ∙ length-append (front) (b ∷ []) ∙ omega (arith, length-append front [])
+    last_by k front [] b l = grind (arith, later, append-nil, none_more, length-append)
     last_by k front (c ∷ rest) b l =
         let fewer = no_fewer front (c ∷ rest) in
         later k front c (rest ++ b ∷ []) (omega (arith, fewer, l)) ∙ last_by k (front ++ c ∷ []) rest b (subst (λ x. length (reading.items x) ≤ k) (sym (shift front c rest)) l)
@@ -173,9 +122,7 @@ module _ {Item : Type 0} (reading : Reading Item) where
 
     placed_last : (t : List ℕ) (b k : ℕ) (added : List Item) → length (reading.items t) ≤ k → placed_from reading (t ++ b ∷ []) k added ≡ map (at_place (suc (length t))) added
     placed_last t b k [] l = refl
-    placed_last t b k (i ∷ added) l =
-        ap (λ n. at_place n i ∷ placed_from reading (t ++ b ∷ []) (suc k) added) (last_by k [] t b l)
-        ∙ ap (λ x. at_place (suc (length t)) i ∷ x) (placed_last t b (suc k) added (omega (arith, l)))
+    placed_last t b k (i ∷ added) l = grind (arith, last_by, placed_last t b (suc k) added (omega (arith, l)))
 
     -- the items that a byte gives have its place
     pub placed_byte : (t : List ℕ) (b : ℕ) (added : List Item) → reading.items (t ++ b ∷ []) ≡ reading.items t ++ added →

@@ -1,5 +1,5 @@
 -- The items of a raster's bytes, and of those that are stored: what a receipt and a listing do with them.
-use Rattle.std.proofs.Common.{◌≡◌, ℕ, List, [], ◌∷◌, ◌++◌, reverse, append_assoc, flat_map, zero, suc, take, ◌<◌, None, arith, refl, sym, ap, ◌∙◌}
+use Rattle.std.proofs.Common.{◌≡◌, ℕ, List, [], ◌∷◌, ◌++◌, reverse, append_assoc, flat_map, take, ◌<◌, None, arith, refl, sym, ap, ◌∙◌}
 use Rattle.std.proofs.lemmas.List.{reverse-append, append-nil}
 use Rattle.vp_esc.specs.declared.item.EscItem.{EscItem}
 use Rattle.vp_esc.specs.declared.item.EscItem.TheVariants.{RasterByte, QrByte}
@@ -14,8 +14,7 @@ use Rattle.vp_engine.specs.Takes.{AreAccepted}
 
 -- where a run of none or more bytes is known at its end
 pub known_run : (t ys run : List ℕ) (n : ℕ) → take n ys ≡ run → fault_of t ≡ None → (0 < n → fault_of (t ++ take n ys) ≡ None) → fault_of (t ++ run) ≡ None
-known_run t ys run zero e none later = ap (λ x. fault_of (t ++ x)) (sym e) ∙ ap fault_of (append-nil t) ∙ none
-known_run t ys run (suc n) e none later = ap (λ x. fault_of (t ++ x)) (sym e) ∙ later (omega arith)
+known_run t ys run n e none later = grind (arith, append-nil)
 
 -- a byte of a raster, and one that is stored, is not refused
 pub accepted_bytes : (setup : ReceiptSetup) (xs : List ℕ) (before : List EscItem) → AreAccepted (rules_of (Receipts setup)) before (raster_items xs)

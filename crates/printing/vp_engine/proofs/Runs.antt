@@ -1,5 +1,5 @@
 -- Where a printer stands after a run of bytes and all that they print.
-use Rattle.std.proofs.Common.{◌≡◌, ℕ, ◌<◌, ◌≤◌, ◌+◌, ◌-◌, List, [], ◌∷◌, ◌++◌, length, take, drop, get_or, zero, suc, reverse, append_assoc, Option, Some, None, refl, sym, ap, subst, ◌∙◌, arith}
+use Rattle.std.proofs.Common.{◌≡◌, ℕ, ◌<◌, ◌≤◌, ◌+◌, ◌-◌, List, [], ◌∷◌, ◌++◌, length, take, drop, get_or, zero, suc, reverse, append_assoc, Option, None, refl, sym, ap, subst, ◌∙◌, arith}
 use Rattle.std.specs.Option.{option_or}
 use Rattle.std.proofs.lemmas.List.{reverse-append, append-nil, append_cancel_left, take_more, take-append-drop}
 use Rattle.std.proofs.Math.Seq.{take-length}
@@ -53,13 +53,10 @@ module _ {Item : Type 0} (rules : Rules Item) where
     run_history = ap reverse gives ∙ reverse-append (rules.reading.items t) added
 
     pub run_prints : paper rules t ++ text ≡ paper rules (t ++ run)
-    run_prints =
-        ap (λ x. x ++ text) (paper_is rules t ∙ ap (λ x. printed rules (history rules x)) (before_whole rules t none)) ∙ sym prints ∙ ap (printed rules) (sym run_history)
-        ∙ ap (λ x. printed rules (history rules x)) (sym (before_whole rules (t ++ run) run_sound)) ∙ sym (paper_is rules (t ++ run))
+    run_prints = grind (arith, paper_is, before_whole, run_history, run_sound)
 
   none_before : (front rest : List ℕ) (f : Option Fault) → fault rules front ≡ f → fault rules (front ++ rest) ≡ None → fault rules front ≡ None
-  none_before front rest None e h = e
-  none_before front rest (Some f) e h = let no : None ≡ Some f = sym h ∙ fault_stays rules front rest f e in cc
+  none_before front rest f e h = grind (arith, fault_stays)
 
   -- without the last byte there is no fault either
   pub last_sound : (t : List ℕ) → fault rules t ≡ None → fault rules (without_last t) ≡ None

@@ -1,11 +1,11 @@
 -- Where a printer stands after one byte more, and after it put out some.
-use Rattle.std.proofs.Common.{◌≡◌, ℕ, ◌<◌, List, [], ◌∷◌, ◌++◌, length, take, reverse, append_assoc, Option, Some, None, IsSome, MatchResult, Result, Ok, Err, refl, sym, ap, subst, ◌∙◌, arith, length-append, length-drop, min, drop}
+use Rattle.std.proofs.Common.{◌≡◌, ℕ, ◌<◌, List, [], ◌∷◌, ◌++◌, length, take, reverse, append_assoc, Option, Some, None, IsSome, MatchResult, Result, Ok, Err, sym, ap, subst, ◌∙◌, arith, length-append, length-drop, min, drop}
+use Rattle.std.proofs.lemmas.Grind.{common_steps}
 use Rattle.std.specs.Option.{option_or}
 use Rattle.std.specs.Result.{result_err}
 use Rattle.std.proofs.lemmas.List.{reverse-append, append-nil, take_at, drop_at, length-take-le, take-append-drop}
 use Rattle.vp_dots.specs.declared.fault.Fault.{Fault}
 use Rattle.vp_engine.specs.Setups.{Setup}
-use Rattle.vp_engine.specs.Bytes.{without_last}
 use Rattle.vp_engine.specs.Paper.{Rules, Reads, history, printed, newest_refusal, fault_at, fault, first_fault, before_fault, sound, paper, fault_at_end, missing}
 use Rattle.vp_engine.specs.Machines.{MachineStands}
 use Rattle.vp_engine.specs.Takes.{AreAccepted, Takes, Gives, Comes}
@@ -28,11 +28,7 @@ module _ {Item : Type 0} (rules : Rules Item) (At : List ℕ → List Item → T
   -- where the items before the fault are h then
   adds_to : (t : List ℕ) (b : ℕ) (f : Option Fault) (h : List Item) → fault rules (t ++ b ∷ []) ≡ f → history rules (before_fault rules (t ++ b ∷ [])) ≡ h → At (t ++ b ∷ []) h →
       printed rules (history rules (before_fault rules t)) ++ pending ≡ printed rules h → Adds t b f
-  adds_to t b f h fa hi at pr = record {
-    fault_is = fa;
-    stands = subst (At (t ++ b ∷ [])) (sym hi) at;
-    adds = ap (λ x. x ++ pending) (paper_is rules t) ∙ pr ∙ ap (printed rules) (sym hi) ∙ sym (paper_is rules (t ++ b ∷ []));
-  }
+  adds_to t b f h fa hi k pr = grind (arith, paper_is)
 
   nothing : (xs : List ℕ) → pending ≡ [] → xs ++ pending ≡ xs
   nothing xs e = ap (λ x. xs ++ x) e ∙ append-nil xs
@@ -45,12 +41,10 @@ module _ {Item : Type 0} (rules : Rules Item) (At : List ℕ → List Item → T
     -- the items, where the byte gives these
     items_next : (items : List Item) → rules.reading.items (t ++ b ∷ []) ≡ rules.reading.items t ++ items →
         history rules (t ++ b ∷ []) ≡ reverse items ++ history rules (before_fault rules t)
-    items_next items e = ap reverse e ∙ reverse-append (rules.reading.items t) items
-        ∙ ap (λ x. reverse items ++ history rules x) (sym (before_whole rules t none))
+    items_next items e = grind (arith, reverse-append, before_whole)
 
     newest_before : newest_refusal rules (history rules (before_fault rules t)) ≡ None
-    newest_before =
-        ap (λ x. newest_refusal rules (history rules x)) (before_whole rules t none) ∙ newest_accepted rules reads t none
+    newest_before = grind (arith, before_whole, newest_accepted)
 
     -- a known byte
     known : (refused : Option Fault) → rules.reading.fault_of (t ++ b ∷ []) ≡ None → newest_refusal rules (history rules (t ++ b ∷ [])) ≡ refused → fault rules (t ++ b ∷ []) ≡ refused
@@ -77,57 +71,26 @@ module _ (setup : Setup) where
   -- one byte more
   pub stands_more : (p q : Engine) (t o : List ℕ) (b : ℕ) (result : Result (Unit {0}) Fault) → Reads rules.reading → Stands setup p t o → p.pending ≡ [] → p.stopped ≡ None →
       Takes rules (MachineStands q.machine setup) q.pending t (history rules (before_fault rules t)) b result → q.stopped ≡ result_err result → Stands setup q (t ++ b ∷ []) o
-  stands_more p q t o b result reads s idle run takes st =
-      let none : fault rules t ≡ None = sym s.stopped ∙ run in
-      let now = adds_by rules (MachineStands q.machine setup) q.pending reads t b none takes.given result takes.gives takes.comes in
-      let short : without_last (t ++ b ∷ []) ≡ t = without_last_more t b in
-      let all : o ≡ paper rules t = sym (append-nil o) ∙ ap (λ x. o ++ x) (sym idle) ∙ s.pending in
-      record {
-        machine = now.stands;
-        stopped = st ∙ sym now.fault_is;
-        pending = ap (λ x. x ++ q.pending) all ∙ now.adds;
-        before = rw short ([], append-nil (paper rules t) ∙ sym all);
-        last = rw short none;
-      }
+  stands_more p q t o b result reads s idle run takes st = grind (arith, adds_by, without_last_more, append-nil)
 
   -- bytes that are put out
   pub stands_put : (p q : Engine) (t o x : List ℕ) → Stands setup p t o → MachineStands q.machine setup t (history rules (before_fault rules t)) → q.stopped ≡ p.stopped → p.pending ≡ x ++ q.pending → Stands setup q t (o ++ x)
-  stands_put p q t o x s at st pe = record {
-    machine = at;
-    stopped = st ∙ s.stopped;
-    pending = append_assoc o x q.pending ∙ ap (λ y. o ++ y) (sym pe) ∙ s.pending;
-    before = (s.before.0 ++ x, sym (append_assoc (paper rules (without_last t)) s.before.0 x) ∙ ap (λ y. y ++ x) s.before.1);
-    last = s.last;
-  }
+  stands_put p q t o x s h st pe = grind (arith, append_assoc)
 
   -- a new printer
   pub stands_first : (p : Engine) → Reads rules.reading → MachineStands p.machine setup [] [] → p.stopped ≡ None → p.pending ≡ [] → Stands setup p [] []
   unfolding fault first_fault before_fault sound paper
-  stands_first p reads at st pe =
-      let none : history rules [] ≡ [] = ap reverse reads.nothing in
-      record {
-        machine = subst (MachineStands p.machine setup []) (sym none) at;
-        stopped = st;
-        pending = pe ∙ ap (printed rules) (sym none);
-        before = ([], append-nil (printed rules (history rules [])) ∙ ap (printed rules) none);
-        last = refl;
-      }
+  stands_first p reads h st pe = grind arith
 
   empty_of : (xs : List ℕ) → length xs ≡ 0 → xs ≡ []
-  empty_of [] e = refl
-  empty_of (x ∷ xs) e = absurd (omega arith)
+  empty_of xs e = grind (arith, common_steps)
 
   nothing_left : (p x o rest : List ℕ) → o ++ x ≡ p → p ++ rest ≡ o → x ≡ []
   nothing_left p x o rest e f = empty_of x (omega (arith, ap length e, ap length f, length-append o x, length-append p rest))
 
   -- a printer that has stopped has nothing pending
   pub stopped_idle : (p : Engine) (t o : List ℕ) → Stands setup p t o → IsSome p.stopped → p.pending ≡ []
-  stopped_idle p t o s h = by_stop p.stopped refl h
-    where
-      by_stop : (f : Option Fault) → p.stopped ≡ f → IsSome f → p.pending ≡ []
-      by_stop None e i = cc
-      by_stop (Some f) e i =
-          nothing_left (paper rules (without_last t)) p.pending o s.before.0 (s.pending ∙ last_prints_nothing rules t f (sym s.stopped ∙ e)) s.before.1
+  stopped_idle p t o s h = grind (arith, nothing_left, last_prints_nothing)
 
   pub pending_none : (p : Engine) (t o : List ℕ) → Stands setup p t o → o ≡ paper rules t → p.pending ≡ []
   pending_none p t o s e = nothing_left (paper rules t) p.pending o [] s.pending (append-nil (paper rules t) ∙ sym e)
@@ -136,23 +99,15 @@ module _ (setup : Setup) where
   pub ends_at : (p : Engine) (t o : List ℕ) (answer : Option Fault) → Reads rules.reading → Stands setup p t o → ((f : Fault) → p.stopped ≡ Some f → ⊥) →
       ((before : List (Item setup)) → MachineStands p.machine setup t before → rules.reading.fault_of t ≡ None → answer ≡ missing (rules.reading.is_between t) (rules.is_at_rest before)) →
       fault_at_end rules t ≡ answer
-  ends_at p t o answer reads s run is =
-      let none : fault rules t ≡ None = sym s.stopped ∙ none_of p.stopped run in
-      ends rules t answer none (is (history rules (before_fault rules t)) s.machine (all_known rules reads t none))
-    where
-      none_of : (f : Option Fault) → ((x : Fault) → f ≡ Some x → ⊥) → f ≡ None
-      none_of None h = refl
-      none_of (Some f) h = absurd (h f refl)
+  ends_at p t o answer reads s run is = grind (arith, ends, all_known)
 
 -- what ending at these bytes answers, as an option
 pub answer_of : (r : Result (Unit {0}) Fault) (f : Option Fault) → MatchResult r (λ _. f ≡ None) (λ g. f ≡ Some g) → result_err r ≡ f
-answer_of (Ok x) f h = sym h
-answer_of (Err g) f h = sym h
+answer_of r f h = grind arith
 
 -- what is put out, and what stays
 pub put_text : (pending left old out : List ℕ) (n : ℕ) → n ≡ min (length pending) (length old) → out ≡ take n pending ++ drop n old → left ≡ drop n pending → pending ≡ take n out ++ left
-put_text pending left old out n count e rest =
-    sym (ap (λ x. take n x ++ left) e ∙ ap (λ x. x ++ left) (take_at (take n pending) (drop n old) n (length-take-le n pending (omega (arith, count)))) ∙ ap (λ x. take n pending ++ x) rest ∙ take-append-drop n pending)
+put_text pending left old out n count e rest = grind (arith, take_at, length-take-le, take-append-drop)
 
 pub put_rest : (pending old out : List ℕ) (n : ℕ) → n ≡ min (length pending) (length old) → out ≡ take n pending ++ drop n old → drop n out ≡ drop n old
 put_rest pending old out n count e = ap (drop n) e ∙ drop_at (take n pending) (drop n old) n (length-take-le n pending (omega (arith, count)))
