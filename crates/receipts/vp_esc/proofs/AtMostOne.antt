@@ -1,17 +1,12 @@
 -- A byte gives at most one item.
-use Rattle.std.proofs.Common.{◌≡◌, ℕ, ◌+◌, ◌*◌, ◌≤◌, Bool, cond, ltb, eqb, Option, List, [], ◌∷◌, ◌++◌, length, map, append_assoc, arith, lit≤, length-append}
+use Rattle.std.proofs.Common.{◌≡◌, ℕ, ◌+◌, ◌≤◌, Bool, cond, eqb, List, [], ◌∷◌, ◌++◌, length, map, append_assoc, arith, lit≤, length-append}
 use Rattle.std.proofs.lemmas.List.{append-nil, map_push, length_push}
 use Rattle.vp_esc.specs.declared.item.EscItem.{EscItem}
-use Rattle.vp_esc.specs.declared.item.EscItem.TheVariants as items
 use Rattle.vp_esc.specs.declared.item.Lead.{Lead}
-use Rattle.vp_esc.specs.declared.item.RasterScale.{RasterScale}
-use Rattle.vp_esc.specs.declared.item.ColumnMode.{ColumnMode}
 use Rattle.vp_esc.specs.declared.command.Command.{Command}
 use Rattle.vp_esc.specs.declared.command.Command.TheVariants.{Plain, TabStops, Columns, Raster, Symbol, Function, Graphics}
-use Rattle.vp_esc.specs.Values.{spelled, scale_of, column_mode_of}
-use Rattle.vp_esc.specs.Command.{head_len}
 use Rattle.vp_esc.specs.Qr.{qr_items, value_items}
-use Rattle.vp_esc.specs.Units.{given, given_by, given_behind, raster_bytes, columns, tall_columns, at_last}
+use Rattle.vp_esc.specs.Units.{given, given_by, given_behind, tall_columns, at_last}
 use Rattle.vp_esc.specs.Split.{items as items_of}
 use Rattle.vp_esc.proofs.Heads.{given_is}
 use Rattle.vp_esc.proofs.Splits.{items-push, items-is}
@@ -39,17 +34,11 @@ last_few n x = grind (arith, lit≤)
 
 -- Rasters and columns.
 
-raster_first : (x : EscItem) (scale : Option RasterScale) → length (x ∷ raster_bytes scale []) ≤ 1
-raster_first x scale = grind (arith, lit≤)
-
 tall_few : (bytes : List ℕ) (c : ℕ) → Few (tall_columns bytes) (tall_columns (bytes ++ c ∷ []))
 tall_few [] c = lit≤ tt
 tall_few (x ∷ []) c = lit≤ tt
 tall_few (x ∷ y ∷ []) c = lit≤ tt
 tall_few (x ∷ y ∷ z ∷ bytes) c = let few = tall_few bytes c in omega arith
-
-columns_first : (x : EscItem) (mode : ColumnMode) → length (x ∷ columns mode []) ≤ 1
-columns_first x mode = grind (arith, lit≤)
 
 -- GS ( k.
 
@@ -75,41 +64,28 @@ columns_behind : (lead : Lead) (name : ℕ) (a b d : ℕ) (args : List ℕ) (c :
 unfolding given_behind
 columns_behind lead name a b d args c = grind (arith, given_is, length_push, map_push, one_more, map, tall_few)
 
-raster_behind : (lead : Lead) (name : ℕ) (a b d e f g : ℕ) (args : List ℕ) (c : ℕ) → Few (given_by lead name Raster (a ∷ b ∷ d ∷ e ∷ f ∷ g ∷ args)) (given_by lead name Raster (a ∷ b ∷ d ∷ e ∷ f ∷ g ∷ args ++ c ∷ []))
-unfolding given_behind
-raster_behind lead name a b d e f g args c = grind (arith, given_is, length_push, lit≤, map_push, one_more, map)
-
-function_behind : (lead : Lead) (name : ℕ) (a b d : ℕ) (args : List ℕ) (c : ℕ) → Few (given_by lead name Function (a ∷ b ∷ d ∷ args)) (given_by lead name Function (a ∷ b ∷ d ∷ args ++ c ∷ []))
-unfolding given_behind
-function_behind lead name a b d args c = grind (arith, given_is, length_push, same, qr_few)
-
--- of arguments that have given no more than one
-one_by : (lead : Lead) (name : ℕ) (k : Command) (args : List ℕ) (c : ℕ) → length (given_by lead name k (args ++ c ∷ [])) ≤ 1
-    → Few (given_by lead name k args) (given_by lead name k (args ++ c ∷ []))
-one_by lead name k args c h = omega arith
-
 -- behind its head, and before
 behind_few : (lead : Lead) (name : ℕ) (k : Command) (args : List ℕ) (c : ℕ) → Few (given_by lead name k args) (given_by lead name k (args ++ c ∷ []))
 unfolding given_by given_behind
-behind_few lead name (Plain p) args c = one_by lead name (Plain p) args c (one_of (ltb (length (args ++ c ∷ [])) (head_len (Plain p) (args ++ c ∷ []))) _ _ (lit≤ tt) (lit≤ tt))
-behind_few lead name TabStops args c = one_by lead name TabStops args c (one_of (ltb (length (args ++ c ∷ [])) 0) _ _ (lit≤ tt) (last_few _ _))
-behind_few lead name Columns [] c = one_by lead name Columns [] c (lit≤ tt)
-behind_few lead name Columns (a ∷ []) c = one_by lead name Columns (a ∷ []) c (lit≤ tt)
-behind_few lead name Columns (a ∷ b ∷ []) c = one_by lead name Columns (a ∷ b ∷ []) c (columns_first (items.Columns (column_mode_of a) (b + 256 * c)) (column_mode_of a))
+behind_few lead name (Plain p) args c = grind arith
+behind_few lead name TabStops args c = grind arith
+behind_few lead name Columns [] c = grind arith
+behind_few lead name Columns (a ∷ []) c = grind arith
+behind_few lead name Columns (a ∷ b ∷ []) c = grind arith
 behind_few lead name Columns (a ∷ b ∷ d ∷ args) c = columns_behind lead name a b d args c
-behind_few lead name Raster [] c = one_by lead name Raster [] c (lit≤ tt)
-behind_few lead name Raster (a ∷ []) c = one_by lead name Raster (a ∷ []) c (lit≤ tt)
-behind_few lead name Raster (a ∷ b ∷ []) c = one_by lead name Raster (a ∷ b ∷ []) c (lit≤ tt)
-behind_few lead name Raster (a ∷ b ∷ d ∷ []) c = one_by lead name Raster (a ∷ b ∷ d ∷ []) c (lit≤ tt)
-behind_few lead name Raster (a ∷ b ∷ d ∷ e ∷ []) c = one_by lead name Raster (a ∷ b ∷ d ∷ e ∷ []) c (lit≤ tt)
-behind_few lead name Raster (a ∷ b ∷ d ∷ e ∷ f ∷ []) c = one_by lead name Raster (a ∷ b ∷ d ∷ e ∷ f ∷ []) c (raster_first (items.Raster (spelled b (scale_of b)) (d + 256 * e) (f + 256 * c)) (scale_of b))
-behind_few lead name Raster (a ∷ b ∷ d ∷ e ∷ f ∷ g ∷ args) c = raster_behind lead name a b d e f g args c
-behind_few lead name Symbol args c = grind (arith, one_by, one_of, lit≤, last_few)
-behind_few lead name Function [] c = one_by lead name Function [] c (lit≤ tt)
-behind_few lead name Function (a ∷ []) c = one_by lead name Function (a ∷ []) c (lit≤ tt)
-behind_few lead name Function (a ∷ b ∷ []) c = one_by lead name Function (a ∷ b ∷ []) c (one_of (eqb a 107) _ _ (qr_first (b + 256 * c)) (lit≤ tt))
-behind_few lead name Function (a ∷ b ∷ d ∷ args) c = function_behind lead name a b d args c
-behind_few lead name Graphics args c = one_by lead name Graphics args c (one_of (ltb (length (args ++ c ∷ [])) 5) _ _ (lit≤ tt) (lit≤ tt))
+behind_few lead name Raster [] c = grind arith
+behind_few lead name Raster (a ∷ []) c = grind arith
+behind_few lead name Raster (a ∷ b ∷ []) c = grind arith
+behind_few lead name Raster (a ∷ b ∷ d ∷ []) c = grind arith
+behind_few lead name Raster (a ∷ b ∷ d ∷ e ∷ []) c = grind arith
+behind_few lead name Raster (a ∷ b ∷ d ∷ e ∷ f ∷ []) c = grind arith
+behind_few lead name Raster (a ∷ b ∷ d ∷ e ∷ f ∷ g ∷ args) c = grind (arith, length_push, map_push)
+behind_few lead name Symbol args c = grind (arith, lit≤)
+behind_few lead name Function [] c = grind arith
+behind_few lead name Function (a ∷ []) c = grind arith
+behind_few lead name Function (a ∷ b ∷ []) c = grind (arith, qr_first)
+behind_few lead name Function (a ∷ b ∷ d ∷ args) c = grind (arith, length_push, qr_few)
+behind_few lead name Graphics args c = grind arith
 
 given_first : (lead : Lead) (name : ℕ) (k : Command) → length (given_by lead name k []) ≤ 1
 unfolding given_by given_behind

@@ -1,5 +1,6 @@
 -- Columns of ESC *.
 use Rattle.std.proofs.Common.{◌≡◌, ◌≢◌, ℕ, ◌+◌, ◌-◌, ◌*◌, ◌<◌, ◌≤◌, true, false, ltb, eqb, Option, Some, None, Ok, List, [], ◌∷◌, ◌++◌, length, take, drop, get_or, refl, sym, ap, ◌∙◌, arith, ⊎_elim}
+use Rattle.std.proofs.lemmas.Grind.{common_steps}
 use Rattle.std.specs.Prelude.{option_to_list}
 use Rattle.std.proofs.lemmas.Bool.Decides.{nat_tests}
 use Rattle.std.proofs.lemmas.Bool.{cases_lt}
@@ -100,8 +101,7 @@ drop_push : (args : List ℕ) (c : ℕ) → 3 ≤ length args → drop 3 (args +
 drop_push args c h = grind arith
 
 first_push : (args : List ℕ) (c : ℕ) → 3 ≤ length args → get_or (args ++ c ∷ []) 0 0 ≡ get_or args 0 0
-first_push [] c h = absurd (omega arith)
-first_push (x ∷ args) c h = refl
+first_push args c h = grind (arith, common_steps)
 
 tall_step : (r : EscReader) (left c : ℕ) (rest : List ℕ) (item : Option EscItem) (final : ArrayVec ℕ) (hand : InTallColumns r left rest)
     → IsNext (drop 3 hand.args) c item final.items
@@ -143,10 +143,7 @@ tall_part r left c rest final hand other k =
     tall_step r left c rest None final hand (rw w (part_next (drop 3 hand.args) c (rw (← hand.part) other)))
 
 two : (xs : List ℕ) → length xs ≡ 2 → xs ≡ get_or xs 0 0 ∷ get_or xs 1 0 ∷ []
-two [] h = absurd (omega arith)
-two (a ∷ []) h = absurd (omega arith)
-two (a ∷ b ∷ []) h = refl
-two (a ∷ b ∷ c ∷ xs) h = absurd (omega arith)
+two xs h = grind (arith, common_steps)
 
 pub tall_whole : (r : EscReader) (left c : ℕ) (rest : List ℕ) (final : ArrayVec ℕ) → InTallColumns r left rest → length r.kept.items ≡ 2
     → final.items ≡ []

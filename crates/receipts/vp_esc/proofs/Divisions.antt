@@ -61,18 +61,11 @@ pub unit_first_lem : (unit bytes : List ℕ) → IsUnit unit
 unfolding shifted
 unit_first_lem unit bytes u = grind (arith, shifted, unit_first_eq)
 
-cons_eq : {x y : ℕ} {xs ys : List ℕ} → x ≡ y → xs ≡ ys → x ∷ xs ≡ y ∷ ys
-cons_eq e f = cc
-
 pub front_of_push : (rest front more : List ℕ) (x : ℕ) → rest ++ x ∷ [] ≡ front ++ more → more ≢ [] → (z : List ℕ) × (rest ≡ front ++ z)
 front_of_push rest [] more x e n = (rest, refl)
 front_of_push [] (f ∷ []) more x e n = absurd (n (let t : [] ≡ more = cc in sym t))
 front_of_push [] (f ∷ g ∷ front) more x e n = cc
-front_of_push (r ∷ rest) (f ∷ front) more x e n =
-    let h : r ≡ f = cc in
-    let t : rest ++ x ∷ [] ≡ front ++ more = cc in
-    let w : (z : List ℕ) × (rest ≡ front ++ z) = front_of_push rest front more x t n in
-    (w.0, cons_eq h w.1)
+front_of_push (r ∷ rest) (f ∷ front) more x e n = grind (arith, front_of_push rest front more x (cc) n)
 
 pub fronts_push : (rest : List ℕ) (x : ℕ) → IsRest rest → HasUnfinishedFronts (rest ++ x ∷ [])
 fronts_push rest x r front more e n = grind (arith, front_of_push, append-nil)

@@ -1,6 +1,5 @@
 -- Where there is no fault, the rest can be made a unit.
-use Rattle.std.proofs.Common.{◌≡◌, ℕ, ◌+◌, ◌≤◌, Bool, true, false, cond, not, eqb, Option, None, Some, List, [], ◌∷◌, ◌++◌, length, replicate, refl, ap, ◌∙◌, append_assoc, arith, ⊎_elim}
-use Rattle.std.specs.List.{list_any}
+use Rattle.std.proofs.Common.{◌≡◌, ℕ, ◌+◌, ◌≤◌, Bool, true, false, cond, Option, None, Some, List, [], ◌∷◌, ◌++◌, length, replicate, refl, ap, ◌∙◌, append_assoc, arith, ⊎_elim}
 use Rattle.std.proofs.lemmas.Bool.{cases_Bool}
 use Rattle.std.proofs.lemmas.Bool.Decides.{nat_tests}
 use Rattle.std.proofs.lemmas.List.{append-nil, length-append, length-replicate}
@@ -13,7 +12,6 @@ use Rattle.vp_esc.specs.declared.command.Command.{Command}
 use Rattle.vp_esc.specs.declared.command.Command.TheVariants.{Plain, TabStops, Raster, Symbol, Graphics}
 use Rattle.vp_esc.specs.declared.command.Plain.{Plain as PlainCommand}
 use Rattle.vp_esc.specs.declared.command.Plain.TheVariants.{Sensor}
-use Rattle.vp_esc.specs.Values.{is_kind_to_zero}
 use Rattle.vp_esc.specs.Command.{lead_of, command_of, head_len, is_listed}
 use Rattle.vp_esc.specs.Units.{is_unfinished, fault_in, needs_more, is_counted, data_len, is_unfinished_after, fault_after}
 use Rattle.vp_esc.specs.Split.{split, fault_of}
@@ -64,13 +62,10 @@ stops_end : (args : List ℕ) → needs_more TabStops (args ++ 0 ∷ []) ≡ fal
 unfolding needs_more
 stops_end args = grind (arith, nat_tests, rises_push)
 
-zero_ends : (b s : Bool) (codes : List ℕ) → not b ≡ false → cond b (not (list_any (λ x. eqb x 0) (codes ++ 0 ∷ []))) s ≡ false
-zero_ends b s codes e = grind (arith, list_any-append)
-
 zero_whole : (k : Command) (a : ℕ) (args : List ℕ) → is_counted k (a ∷ args) ≡ false → needs_more k (a ∷ args ++ 0 ∷ []) ≡ false
 unfolding needs_more
 zero_whole TabStops a args e = stops_end (a ∷ args)
-zero_whole Symbol a args e = zero_ends (is_kind_to_zero a) _ args e
+zero_whole Symbol a args e = grind (arith, list_any-append)
 zero_whole _ a args e = cc
 
 end_begun : (k : Command) (a : ℕ) (args : List ℕ) → is_listed k (a ∷ args) ≡ true → CanEnd k (a ∷ args)

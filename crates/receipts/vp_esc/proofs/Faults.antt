@@ -1,5 +1,5 @@
 -- A fault: no unit begins so, and it stays.
-use Rattle.std.proofs.Common.{◌≡◌, ℕ, true, false, List, [], ◌∷◌, ◌++◌, Some, ap, ◌∙◌, append_assoc, arith}
+use Rattle.std.proofs.Common.{◌≡◌, ℕ, true, false, List, [], ◌∷◌, ◌++◌, Some, append_assoc, arith}
 use Rattle.std.proofs.lemmas.List.{append-nil}
 use Rattle.vp_dots.specs.declared.fault.Fault.{Fault}
 use Rattle.vp_esc.specs.Units.{is_unfinished, fault_in}
@@ -9,16 +9,10 @@ use Rattle.vp_esc.proofs.Divisions.{split_on-append}
 use Rattle.vp_esc.proofs.Fronts.{closed_sound, stuck}
 use Rattle.vp_esc.proofs.Rows.{row_is_unit}
 
-stays_open : (front : List ℕ) (f : Fault) → fault_in front ≡ Some f → is_unfinished front ≡ true
-stays_open front f e = grind (arith, closed_sound)
-
 -- whatever follows
 stuck_along : (front more : List ℕ) (f : Fault) → fault_in front ≡ Some f → is_unfinished (front ++ more) ≡ true
-stuck_along front [] f e = ap is_unfinished (append-nil front) ∙ stays_open front f e
-stuck_along front (c ∷ more) f e =
-    let on = stuck front c f e in
-    let h : is_unfinished ((front ++ c ∷ []) ++ more) ≡ true = stuck_along (front ++ c ∷ []) more f on.1 in
-    rw append_assoc at h
+stuck_along front [] f e = grind (arith, append-nil, closed_sound)
+stuck_along front (c ∷ more) f e = grind (arith, append_assoc, stuck_along (front ++ c ∷ []) more f (stuck front c f e).1)
 
 pub no_row : (bytes more : List ℕ) (f : Fault) → fault_of bytes ≡ Some f → IsRow ((split bytes).rest ++ more) → ⊥
 unfolding fault_of

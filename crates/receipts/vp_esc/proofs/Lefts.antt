@@ -1,5 +1,5 @@
 -- What is left of the data that stand open, by the reader's phase.
-use Rattle.std.proofs.Common.{◌≡◌, ℕ, ◌-◌, Bool, true, false, cond, ltb, Some, List, [], length, refl, sym, ap, ◌∙◌, arith}
+use Rattle.std.proofs.Common.{◌≡◌, ℕ, ◌-◌, Bool, false, cond, Some, List, [], refl, sym, ap, ◌∙◌, arith}
 use Rattle.std.proofs.lemmas.Bool.Decides.{nat_tests}
 use Rattle.std.proofs.lemmas.List.{append-nil}
 use Rattle.vp_dots.specs.declared.fault.Fault.{Fault}
@@ -10,9 +10,8 @@ use Rattle.vp_esc.specs.declared.reader.EscReader.{EscReader}
 use Rattle.vp_esc.specs.declared.reader.Data.{Data}
 use Rattle.vp_esc.specs.declared.reader.Phase.{Phase}
 use Rattle.vp_esc.specs.declared.reader.Phase.TheVariants as phases
-use Rattle.vp_esc.specs.Command.{head_len}
 use Rattle.vp_esc.specs.Units.{prints_rows, is_skipped, stores_bytes, fault_in}
-use Rattle.vp_esc.specs.Reader.{in_phase, Begun, HasLeft, InArguments, InBytes, InQr, are_rows, give_nothing, are_stored}
+use Rattle.vp_esc.specs.Reader.{in_phase, Begun, HasLeft, InBytes, InQr, are_rows, give_nothing, are_stored}
 use Rattle.vp_esc.specs.Runs.{left_in, left_before_last, text_in}
 use Rattle.vp_esc.proofs.Fronts.{lead_of-lead_byte}
 
@@ -39,17 +38,6 @@ none_other : (is_meant : Command → List ℕ → Bool) {lead : Lead} {name : �
     → Begun lead name command args rest → is_meant command args ≡ false → left_in is_meant rest ≡ 0
 none_other is_meant b e = left_begun is_meant b ∙ rw e refl
 
-none_either : (b : Bool) (n : ℕ) → n ≡ 0 → cond b n 0 ≡ 0
-none_either b n e = grind arith
-
--- in the head
-none_in_head : (is_meant : Command → List ℕ → Bool) (r : EscReader) (command : Command) (rest : List ℕ)
-    → InArguments r command rest → left_in is_meant rest ≡ 0
-none_in_head is_meant r command rest hand =
-    let args = r.kept.items in
-    let short : ltb (length args) (head_len command args) ≡ true = grind (arith, nat_tests, hand.few) in
-    left_begun is_meant hand.begun ∙ none_either (is_meant command args) _ (rw short refl)
-
 left_of : (command : Command) (args : List ℕ) (left : ℕ) → HasLeft command args left → left_before_last command args ≡ left - 1
 left_of command args left h = grind (arith, nat_tests)
 
@@ -62,7 +50,7 @@ left_is : (is_meant : Command → List ℕ → Bool) (are : Data → Bool) → I
 unfolding left_in
 left_is is_meant are tied phases.Ground r rest h = rw h refl
 left_is is_meant are tied phases.AfterLead r rest h = rw h (rw lead_of-lead_byte refl)
-left_is is_meant are tied (phases.Arguments command) r rest h = none_in_head is_meant r command rest h
+left_is is_meant are tied (phases.Arguments command) r rest h = grind arith
 left_is is_meant are tied (phases.Stops last) r rest h = none_other is_meant h.begun (tied.stops _)
 left_is is_meant are tied (phases.Bytes kind left) r rest h =
     left_begun is_meant h.begun ∙ rw (tied.bytes r kind left rest h) (ap (λ n. cond (are kind) n 0) (left_of h.command h.args left h.left_is))

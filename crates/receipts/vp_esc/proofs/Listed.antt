@@ -1,12 +1,11 @@
 -- The lines of a unit list its bytes.
-use Rattle.std.proofs.Common.{◌≡◌, ℕ, ◌+◌, ◌-◌, ◌*◌, ◌%◌, ◌<◌, ◌≤◌, Bool, true, false, cond, Option, Some, None, List, [], ◌∷◌, ◌++◌, length, take, get_or, refl, sym, ap, ◌∙◌, arith}
+use Rattle.std.proofs.Common.{◌≡◌, ℕ, ◌+◌, ◌-◌, ◌*◌, ◌<◌, ◌≤◌, true, false, Option, Some, None, List, [], ◌∷◌, ◌++◌, length, get_or, refl, sym, ap, ◌∙◌, arith}
+use Rattle.std.proofs.lemmas.Grind.{common_steps}
 use Rattle.std.specs.Prelude.{map, codes}
 use Rattle.std.specs.List.{AllByRecursion}
-use Rattle.std.proofs.lemmas.Int.{of_z-to_z}
 use Rattle.std.proofs.lemmas.Bool.{eqb-true}
 use Rattle.std.proofs.lemmas.Bool.Decides.{nat_tests}
-use Rattle.std.proofs.lemmas.List.{append-nil, length-append, take_all}
-use Rattle.std.proofs.Math.Seq.{take-append_seam, get_or-append_seam}
+use Rattle.std.proofs.lemmas.List.{append-nil, take_all}
 use Rattle.vp_dots.specs.Listing.{listed}
 use Rattle.vp_esc.specs.declared.item.EscItem.{EscItem}
 use Rattle.vp_esc.specs.declared.item.EscItem.TheVariants as items
@@ -17,12 +16,9 @@ use Rattle.vp_esc.specs.declared.item.ColumnMode.{ColumnMode}
 use Rattle.vp_esc.specs.declared.item.ColumnMode.TheVariants.{Single8, Double8, Single24, Double24}
 use Rattle.vp_esc.specs.declared.command.Command.TheVariants.{Plain, Columns, Raster, Symbol, Graphics}
 use Rattle.vp_esc.specs.declared.command.Plain.{Plain as PlainCommand}
-use Rattle.vp_esc.specs.declared.command.Plain.TheVariants.{Alone, OfByte, OfWord, Area, Cut, Sensor, RealTime, Unused}
-use Rattle.vp_esc.specs.declared.command.Alone.{Alone as AloneCommand}
-use Rattle.vp_esc.specs.declared.command.OfByte.{OfByte as OfByteCommand}
-use Rattle.vp_esc.specs.declared.command.OfWord.{OfWord as OfWordCommand}
-use Rattle.vp_esc.specs.Values.{spelled, is_cut, is_feed_cut, is_column_mode, column_mode_of, column_bytes, scale_of, is_kind_to_zero}
-use Rattle.vp_esc.specs.Units.{needs_more, rises_from, alone_item, of_byte_item, of_word_item, plain_item, stops_item, tall_columns, columns, raster_bytes, symbol_data, symbol_unit, given_behind}
+use Rattle.vp_esc.specs.declared.command.Plain.TheVariants.{Area}
+use Rattle.vp_esc.specs.Values.{spelled, is_cut, is_feed_cut, is_column_mode, column_mode_of, column_bytes, scale_of}
+use Rattle.vp_esc.specs.Units.{needs_more, plain_item, stops_item, tall_columns, columns, raster_bytes, symbol_data, symbol_unit, given_behind}
 use Rattle.vp_esc.specs.Laws.{all_bytes}
 use Rattle.vp_esc.specs.Lines.{lead_word, two_bytes, symbol_bytes, line_of}
 use Rattle.vp_esc.specs.Listings.{may_skip, Lists}
@@ -68,16 +64,6 @@ part_lines lead head word bytes parts item more b e f = grind (arith, append-nil
 pub two_is : (l h : ℕ) → l < 256 → h < 256 → two_bytes (l + 256 * h) ≡ l ∷ h ∷ []
 two_is l h p q = grind arith
 
-alone_listed : (lead : Lead) (name : ℕ) (c : AloneCommand) → IsNamed (Plain (Alone c)) lead name → line_of (alone_item c) ≡ listed (lead_word lead) (name ∷ [])
-alone_listed lead name c e = grind arith
-
-byte_listed : (lead : Lead) (name : ℕ) (c : OfByteCommand) (n : ℕ) → IsNamed (Plain (OfByte c)) lead name → line_of (of_byte_item c n) ≡ listed (lead_word lead) (name ∷ n ∷ [])
-byte_listed lead name c n e = grind arith
-
-word_listed : (lead : Lead) (name : ℕ) (c : OfWordCommand) (n : ℕ) → n < 65536 → IsNamed (Plain (OfWord c)) lead name
-    → line_of (of_word_item c n) ≡ listed (lead_word lead) (name ∷ two_bytes n)
-word_listed lead name c n l e = grind (arith, of_z-to_z)
-
 cut_only : (m : ℕ) → is_cut m ≡ true → is_feed_cut m ≡ false
 cut_only m e = grind (arith, nat_tests)
 
@@ -87,32 +73,11 @@ area_listed lead name a b c d e f g h i p = grind (arith, two_is)
 
 pub plain_listed : (lead : Lead) (name : ℕ) (p : PlainCommand) (args : List ℕ) → IsNamed (Plain p) lead name → IsPlain p args → IsBytes args
     → line_of (plain_item lead name p args) ≡ listed (lead_word lead) (name ∷ args)
-plain_listed lead name (Alone c) args i h b = alone_listed lead name c i ∙ ap (λ (t : List ℕ). listed (lead_word lead) (name ∷ t)) (sym h)
-plain_listed lead name (OfByte c) [] i h b = absurd (omega arith)
-plain_listed lead name (OfByte c) (n ∷ []) i h b = byte_listed lead name c n i
-plain_listed lead name (OfByte c) (n ∷ m ∷ args) i h b = absurd (omega arith)
-plain_listed lead name (OfWord c) [] i h b = absurd (omega arith)
-plain_listed lead name (OfWord c) (l ∷ []) i h b = absurd (omega arith)
-plain_listed lead name (OfWord c) (l ∷ k ∷ []) i h b = grind (arith, word_listed, two_is)
-plain_listed lead name (OfWord c) (l ∷ k ∷ n ∷ args) i h b = absurd (omega arith)
-plain_listed lead name Area args i h b = grind (arith, area_listed)
-plain_listed lead name Cut args i h b = grind (arith, cut_only)
-plain_listed lead name Sensor args i h b = refl
-plain_listed lead name RealTime args i h b = refl
-plain_listed lead name (Unused count) args i h b = refl
+plain_listed lead name p args i h b = grind (arith, common_steps, area_listed, cut_only)
 
 -- the stops, and the byte that ended them
 pub stops_listed : (args : List ℕ) → IsStops args → line_of (stops_item args) ≡ listed (lead_word Esc) (0x44 ∷ args)
-stops_listed args h = by_rise (rises_from 0 args) refl
-  where
-    whole : take (length args - 1) args ++ get_or args (length args - 1) 0 ∷ [] ≡ args
-    whole =
-        let count : length (h.stops ++ h.last ∷ []) - 1 ≡ length h.stops = omega (arith, length-append h.stops (h.last ∷ [])) in
-        rw (h.bytes, count, take-append_seam h.stops (h.last ∷ []), get_or-append_seam h.stops h.last [] 0) refl
-
-    by_rise : (r : Bool) → rises_from 0 args ≡ r → line_of (stops_item args) ≡ listed (lead_word Esc) (0x44 ∷ args)
-    by_rise true e = rw e (ap (λ (t : List ℕ). listed (codes "esc") (0x44 ∷ t)) (append-nil args))
-    by_rise false e = rw e (ap (λ (t : List ℕ). listed (codes "esc") (0x44 ∷ t)) whole)
+stops_listed args h = grind (arith, common_steps, append-nil)
 
 -- each byte in a line
 pub singles : List ℕ → List (List ℕ)
@@ -218,15 +183,7 @@ symbol_item args cs kind k d l n b =
     rw n (one_line Gs (0x6B ∷ args) (symbol_unit (get_or args 0 0) (symbol_data args)) line)
 
 pub to_zero_list : (args : List ℕ) → IsToZero args → length args ≤ 257 → needs_more Symbol args ≡ false → Lists Gs (0x6B ∷ args) (map line_of (given_behind Gs 0x6B Symbol args))
-to_zero_list args h l n =
-    let count : length args ≡ length h.codes + 2 = ap length h.bytes ∙ omega (arith, length-append h.codes (0 ∷ [])) in
-    symbol_item args h.codes h.kind (ap (λ (t : List ℕ). get_or t 0 0) h.bytes) (between h.kind h.codes args h.bytes h.is_kind) (omega arith) n
-    (ap (λ b. cond b (0x6B ∷ h.kind ∷ (h.codes ++ 0 ∷ [])) (0x6B ∷ h.kind ∷ length h.codes % 256 ∷ h.codes)) h.is_kind ∙ ap (λ (t : List ℕ). 0x6B ∷ t) (sym h.bytes))
-  where
-    between : (kind : ℕ) (cs args : List ℕ) → args ≡ kind ∷ (cs ++ 0 ∷ []) → is_kind_to_zero kind ≡ true → symbol_data args ≡ cs
-    between kind cs args e k =
-        let count : length (kind ∷ (cs ++ 0 ∷ [])) - 2 ≡ length cs = omega (arith, length-append cs (0 ∷ [])) in
-        rw e (rw k (rw count (take-append_seam cs (0 ∷ []))))
+to_zero_list args h l n = grind (arith, common_steps, symbol_item)
 
 pub counted_list : (args : List ℕ) → IsCountedSymbol args → IsBytes args → needs_more Symbol args ≡ false → Lists Gs (0x6B ∷ args) (map line_of (given_behind Gs 0x6B Symbol args))
 counted_list args h b n = grind (arith, symbol_item)

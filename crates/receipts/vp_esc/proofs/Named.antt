@@ -1,17 +1,17 @@
 -- The first two bytes of a command, by the command.
-use Rattle.std.proofs.Common.{◌≡◌, ℕ, Bool, true, false, eqb, cond, Option, Some, None, refl, arith}
+use Rattle.std.proofs.Common.{◌≡◌, ℕ, Bool, true, false, eqb, cond, Option, Some, None, arith}
+use Rattle.std.proofs.lemmas.Grind.{common_steps}
 use Rattle.std.proofs.lemmas.Bool.Decides.{nat_tests}
 use Rattle.std.proofs.lemmas.Bool.{eqb-true}
 use Rattle.vp_esc.specs.declared.item.Lead.{Lead}
-use Rattle.vp_esc.specs.declared.item.Lead.TheVariants.{Esc, Gs, Fs, Dle}
+use Rattle.vp_esc.specs.declared.item.Lead.TheVariants.{Esc, Gs}
 use Rattle.vp_esc.specs.declared.command.Command.{Command}
 use Rattle.vp_esc.specs.declared.command.Command.TheVariants.{Plain, TabStops, Columns, Raster, Symbol, Function, Graphics}
-use Rattle.vp_esc.specs.declared.command.Plain.TheVariants.{Alone, OfByte, OfWord, Area, Cut, Sensor, Unused}
+use Rattle.vp_esc.specs.declared.command.Plain.TheVariants.{Alone, OfByte, OfWord, Area, Cut}
 use Rattle.vp_esc.specs.declared.command.Alone.TheVariants as alone
 use Rattle.vp_esc.specs.declared.command.OfByte.TheVariants as of_byte
 use Rattle.vp_esc.specs.declared.command.OfWord.TheVariants as of_word
-use Rattle.vp_esc.specs.declared.command.Arguments.TheVariants as arguments
-use Rattle.vp_esc.specs.Command.{esc_command, gs_command, fs_command, dle_command, command_of}
+use Rattle.vp_esc.specs.Command.{esc_command, gs_command, command_of}
 
 -- this lead and this byte
 abbrev pub Is : Lead → ℕ → Lead → ℕ → Type 0
@@ -74,45 +74,12 @@ pass lead b k x true rest here other e = grind arith
 pass lead b k x false rest here other e = other e
 
 esc_command_named : (b : ℕ) (k : Command) → esc_command b ≡ Some k → IsNamed k Esc b
-esc_command_named b k e =
-    pick Esc b 0x0C k (Plain (Alone alone.PrintPage)) _ (refl, refl) (
-    pick Esc b 0x20 k (Plain (OfByte of_byte.RightSpacing)) _ (refl, refl) (
-    pick Esc b 0x21 k (Plain (OfByte of_byte.PrintMode)) _ (refl, refl) (
-    pick Esc b 0x24 k (Plain (OfWord of_word.Position)) _ (refl, refl) (
-    pick Esc b 0x2A k Columns _ (refl, refl) (
-    pick Esc b 0x2D k (Plain (OfByte of_byte.Underline)) _ (refl, refl) (
-    pick Esc b 0x32 k (Plain (Alone alone.DefaultLineSpacing)) _ (refl, refl) (
-    pick Esc b 0x33 k (Plain (OfByte of_byte.LineSpacing)) _ (refl, refl) (
-    pick Esc b 0x40 k (Plain (Alone alone.Initialize)) _ (refl, refl) (
-    pick Esc b 0x44 k TabStops _ (refl, refl) (
-    pick Esc b 0x45 k (Plain (OfByte of_byte.Emphasized)) _ (refl, refl) (
-    pick Esc b 0x47 k (Plain (OfByte of_byte.DoubleStrike)) _ (refl, refl) (
-    pick Esc b 0x4A k (Plain (OfByte of_byte.FeedDots)) _ (refl, refl) (
-    pick Esc b 0x4C k (Plain (Alone alone.PageMode)) _ (refl, refl) (
-    pick Esc b 0x4D k (Plain (OfByte of_byte.Font)) _ (refl, refl) (
-    pick Esc b 0x53 k (Plain (Alone alone.StandardMode)) _ (refl, refl) (
-    pick Esc b 0x54 k (Plain (OfByte of_byte.Direction)) _ (refl, refl) (
-    pick Esc b 0x57 k (Plain Area) _ (refl, refl) (
-    pick Esc b 0x5C k (Plain (OfWord of_word.MovePosition)) _ (refl, refl) (
-    pick Esc b 0x61 k (Plain (OfByte of_byte.Justify)) _ (refl, refl) (
-    pass Esc b k (Plain Sensor) _ _ tt (
-    pick Esc b 0x64 k (Plain (OfByte of_byte.FeedLines)) _ (refl, refl) (
-    pick Esc b 0x69 k (Plain (Alone alone.CutLeavingOnePoint)) _ (refl, refl) (
-    pick Esc b 0x6D k (Plain (Alone alone.CutLeavingThreePoints)) _ (refl, refl) (
-    pass Esc b k (Plain (Unused arguments.Three)) _ _ tt (
-    pass Esc b k (Plain (Unused arguments.One)) _ _ tt (
-    λ f. none f)))))))))))))))))))))))))) e
+esc_command_named b k e = grind (arith, common_steps)
 
 gs_command_named : (b : ℕ) (k : Command) → gs_command b ≡ Some k → IsNamed k Gs b
 gs_command_named b k e = grind (arith, nat_tests, pick, pass, none)
 
-fs_command_named : (b : ℕ) (k : Command) → fs_command b ≡ Some k → IsNamed k Fs b
-fs_command_named b k e = grind (arith, nat_tests, pass, none)
-
-dle_command_named : (b : ℕ) (k : Command) → dle_command b ≡ Some k → IsNamed k Dle b
-dle_command_named b k e = grind (arith, pass, none)
-
 -- each command is named so
 pub named_so : (lead : Lead) (name : ℕ) (k : Command) → command_of lead name ≡ Some k → IsNamed k lead name
 unfolding command_of
-named_so lead b k e = grind (arith, esc_command_named, gs_command_named, fs_command_named, dle_command_named)
+named_so lead b k e = grind (arith, esc_command_named, gs_command_named, none, nat_tests)

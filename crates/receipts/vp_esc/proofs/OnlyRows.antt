@@ -1,5 +1,6 @@
 -- A unit is a row of the table.
 use Rattle.std.proofs.Common.{◌≡◌, ℕ, ◌≤◌, ◌<◌, ◌+◌, Bool, true, false, ◌&&◌, ◌||◌, cond, not, ltb, eqb, Option, None, Some, List, [], ◌∷◌, ◌++◌, length, refl, sym, ap, ◌∙◌, arith, ⊎_elim, inl, inr}
+use Rattle.std.proofs.lemmas.Grind.{common_steps}
 use Rattle.std.specs.List.{list_any}
 use Rattle.std.proofs.lemmas.List.{length_push}
 use Rattle.std.proofs.lemmas.Bool.{cases_lt}
@@ -54,12 +55,8 @@ sized_of k (a ∷ args) c w =
 
 -- Each command's row.
 
-both_of : (a b : Bool) → (a || b) ≡ true → b ≡ false → a ≡ true
-both_of a b h e = grind arith
-
 nil_of : (xs : List ℕ) → length xs ≡ 0 → xs ≡ []
-nil_of [] h = refl
-nil_of (x ∷ xs) h = absurd (omega arith)
+nil_of xs h = grind (arith, common_steps)
 
 area_row : (args : List ℕ) → length args ≡ 8 → IsArea args
 area_row [] h = absurd (omega arith)
@@ -75,7 +72,7 @@ area_row (a ∷ b ∷ c ∷ d ∷ e ∷ f ∷ g ∷ i ∷ j ∷ args) h = absurd
 
 cut_row : (args : List ℕ) → IsSized (Plain Cut) args → IsPlain Cut args
 cut_row [] s = absurd (omega (arith, s.len))
-cut_row (m ∷ []) s = grind (arith, both_of)
+cut_row (m ∷ []) s = grind arith
 cut_row (m ∷ n ∷ []) s = grind arith
 cut_row (m ∷ n ∷ x ∷ args) s = grind arith
 
@@ -92,33 +89,16 @@ real_time_row (m ∷ n ∷ []) s = grind arith
 real_time_row (m ∷ n ∷ x ∷ args) s = grind arith
 
 columns_row : (args : List ℕ) → IsSized Columns args → IsColumns args
-columns_row [] s = absurd (omega (arith, s.len))
-columns_row (a ∷ []) s = absurd (omega (arith, s.len))
-columns_row (a ∷ b ∷ []) s = absurd (omega (arith, s.len))
-columns_row (a ∷ b ∷ c ∷ args) s = record { m = a; nl = b; nh = c; columns = args; bytes = refl; is_mode = s.listed; count = omega (arith, s.len) }
+columns_row args s = grind (arith, common_steps)
 
 raster_row : (args : List ℕ) → IsSized Raster args → IsRaster args
-raster_row [] s = absurd (omega (arith, s.len))
-raster_row (a ∷ []) s = absurd (omega (arith, s.len))
-raster_row (a ∷ b ∷ []) s = absurd (omega (arith, s.len))
-raster_row (a ∷ b ∷ c ∷ []) s = absurd (omega (arith, s.len))
-raster_row (a ∷ b ∷ c ∷ d ∷ []) s = absurd (omega (arith, s.len))
-raster_row (a ∷ b ∷ c ∷ d ∷ e ∷ []) s = absurd (omega (arith, s.len))
-raster_row (a ∷ b ∷ c ∷ d ∷ e ∷ f ∷ args) s = grind (arith, nat_tests)
+raster_row args s = grind (arith, common_steps)
 
 function_row : (args : List ℕ) → IsSized Function args → IsFunction args
-function_row [] s = absurd (omega (arith, s.len))
-function_row (a ∷ []) s = absurd (omega (arith, s.len))
-function_row (a ∷ b ∷ []) s = absurd (omega (arith, s.len))
-function_row (a ∷ b ∷ c ∷ args) s = record { x = a; pl = b; ph = c; parameters = args; bytes = refl; count = omega (arith, s.len) }
+function_row args s = grind (arith, common_steps)
 
 graphics_row : (args : List ℕ) → IsSized Graphics args → IsGraphics args
-graphics_row [] s = absurd (omega (arith, s.len))
-graphics_row (a ∷ []) s = absurd (omega (arith, s.len))
-graphics_row (a ∷ b ∷ []) s = absurd (omega (arith, s.len))
-graphics_row (a ∷ b ∷ c ∷ []) s = absurd (omega (arith, s.len))
-graphics_row (a ∷ b ∷ c ∷ d ∷ []) s = absurd (omega (arith, s.len))
-graphics_row (a ∷ b ∷ c ∷ d ∷ e ∷ args) s = grind (arith, nat_tests)
+graphics_row args s = grind (arith, common_steps)
 
 not_true : (b : Bool) → not b ≡ true → b ≡ false
 not_true b e = grind arith
@@ -130,9 +110,7 @@ other_of : (a b : Bool) → (a || b) ≡ true → a ≡ false → b ≡ true
 other_of a b h e = grind arith
 
 counted_row : (args : List ℕ) → IsSized Symbol args → IsCountedSymbol args
-counted_row [] s = let c : false ≡ true = s.counted in cc
-counted_row (m ∷ []) s = grind (arith, not_true)
-counted_row (m ∷ n ∷ args) s = grind (arith, not_true, other_of)
+counted_row args s = grind (arith, common_steps)
 
 -- Data whose end a byte tells.
 

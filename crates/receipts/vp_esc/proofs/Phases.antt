@@ -1,5 +1,6 @@
 -- The arguments before any data, one by one, and what comes behind them.
 use Rattle.std.proofs.Common.{◌≡◌, ◌≢◌, ℕ, ◌+◌, ◌<◌, ◌≤◌, true, false, ltb, Option, Some, None, Ok, Err, List, [], ◌∷◌, ◌++◌, length, take, refl, sym, ap, ◌∙◌, arith, lit<}
+use Rattle.std.proofs.lemmas.Grind.{common_steps}
 use Rattle.std.proofs.lemmas.Bool.Decides.{nat_tests}
 use Rattle.std.proofs.lemmas.List.{take_all, take_at, length_push}
 use Rattle.vp_esc.specs.declared.item.EscItem.{EscItem}
@@ -17,8 +18,7 @@ use Rattle.vp_esc.proofs.Fronts.{lands_open, lands_whole, refuses, advances_from
 use Rattle.vp_esc.proofs.Heads.{head_small, head_push, IsHead, heads, given_is}
 
 pub nil_of : (xs : List ℕ) → length xs ≤ 0 → xs ≡ []
-nil_of [] h = refl
-nil_of (x ∷ xs) h = absurd (omega arith)
+nil_of xs h = grind (arith, common_steps)
 
 -- what is kept of a byte more
 pub keep_full : (xs : List ℕ) (b : ℕ) → length xs ≡ 255 → xs ≡ take 255 (xs ++ b ∷ [])
@@ -62,8 +62,7 @@ listed_push command args c h l = grind arith
 
 unlisted_push : (command : Command) (args : List ℕ) (c : ℕ) → length args ≤ 0 → lists command c ≡ false
     → is_listed command (args ++ c ∷ []) ≡ false
-unlisted_push command [] c h l = l
-unlisted_push command (a ∷ args) c h l = absurd (omega arith)
+unlisted_push command args c h l = grind (arith, common_steps)
 
 pub argument_lands : (r : EscReader) (command : Command) (rest : List ℕ) (c : ℕ) (kept : List ℕ) (item : Option EscItem) (new : EscReader)
     → InArguments r command rest → is_listed command (r.kept.items ++ c ∷ []) ≡ true → kept ≡ take 255 (r.kept.items ++ c ∷ [])

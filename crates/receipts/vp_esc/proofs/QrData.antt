@@ -1,5 +1,6 @@
 -- The bytes of GS ( k.
 use Rattle.std.proofs.Common.{◌≡◌, ◌≢◌, ℕ, ◌+◌, ◌-◌, ◌*◌, ◌<◌, ◌≤◌, Bool, true, false, cond, ltb, leb, eqb, Option, Ok, List, [], ◌∷◌, ◌++◌, length, take, drop, map, get_or, refl, sym, ap, subst, ◌∙◌, arith, ⊎_elim}
+use Rattle.std.proofs.lemmas.Grind.{common_steps}
 use Rattle.std.specs.Prelude.{option_to_list}
 use Rattle.std.proofs.lemmas.Bool.Decides.{nat_tests}
 use Rattle.std.proofs.lemmas.Bool.{cases_lt}
@@ -116,10 +117,7 @@ drop_push args c h = grind arith
 
 front_push : (args : List ℕ) (c : ℕ) → 3 ≤ length args
     → (get_or (args ++ c ∷ []) 0 0 ≡ get_or args 0 0) × (get_or (args ++ c ∷ []) 1 0 + 256 * get_or (args ++ c ∷ []) 2 0 ≡ get_or args 1 0 + 256 * get_or args 2 0)
-front_push [] c h = absurd (omega arith)
-front_push (x ∷ []) c h = absurd (omega arith)
-front_push (x ∷ y ∷ []) c h = absurd (omega arith)
-front_push (x ∷ y ∷ z ∷ args) c h = (refl, refl)
+front_push args c h = grind (arith, common_steps)
 
 length_drop : (args : List ℕ) → 3 ≤ length args → length args ≡ 3 + length (drop 3 args)
 length_drop args h = grind arith

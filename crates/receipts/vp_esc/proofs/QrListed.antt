@@ -1,5 +1,6 @@
 -- The lines of GS ( list its bytes.
-use Rattle.std.proofs.Common.{◌≡◌, ℕ, ◌+◌, ◌-◌, ◌*◌, ◌/◌, ◌%◌, ◌<◌, ◌≤◌, Bool, true, false, ◌&&◌, eqb, leb, cond, Option, Some, None, List, [], ◌∷◌, ◌++◌, length, refl, sym, ap, ◌∙◌, subst, arith}
+use Rattle.std.proofs.Common.{◌≡◌, ℕ, ◌+◌, ◌-◌, ◌*◌, ◌/◌, ◌%◌, ◌<◌, ◌≤◌, Bool, true, false, eqb, cond, Option, Some, None, List, [], ◌∷◌, ◌++◌, length, refl, sym, ap, ◌∙◌, arith}
+use Rattle.std.proofs.lemmas.Grind.{common_steps}
 use Rattle.std.specs.Prelude.{map, codes}
 use Rattle.std.proofs.lemmas.Bool.{and_parts, eqb-true}
 use Rattle.std.proofs.lemmas.Bool.Decides.{nat_tests}
@@ -13,7 +14,7 @@ use Rattle.vp_esc.specs.declared.command.Command.TheVariants.{Function}
 use Rattle.vp_esc.specs.Values.{qr_model_of, qr_level_of}
 use Rattle.vp_esc.specs.Qr.{is_qr_function, ignored, model_items, module_item, level_item, store_items, print_item, value_items, qr_items}
 use Rattle.vp_esc.specs.Units.{given_behind}
-use Rattle.vp_esc.specs.Lines.{two_bytes, model_byte, level_byte, line_of}
+use Rattle.vp_esc.specs.Lines.{two_bytes, line_of}
 use Rattle.vp_esc.specs.Listings.{Lists}
 use Rattle.vp_esc.specs.Table.{IsFunction}
 use Rattle.vp_esc.proofs.Listed.{IsBytes, one_line, front_line, part_lines, two_is, singles, all_singles, stored_lines}
@@ -35,33 +36,17 @@ whole_list : (p pl ph : ℕ) (rest : List ℕ) (item : EscItem) → IsCount p pl
     → Lists Gs (0x28 ∷ 0x6B ∷ pl ∷ ph ∷ rest) (map line_of (item ∷ []))
 whole_list p pl ph rest item c e = grind (arith, one_line)
 
-model_is : (n : ℕ) (m : QrModel) → qr_model_of n ≡ Some m → model_byte m ≡ n
-model_is n m e = grind (arith, eqb-true)
-
-level_is : (n : ℕ) (l : QrLevel) → qr_level_of n ≡ Some l → level_byte l ≡ n
-level_is n l e = grind (arith, eqb-true)
-
 first_is : (cn function p : ℕ) → is_qr_function cn function p ≡ true → cn ≡ 49
 first_is cn function p e = eqb-true cn 49 (and_parts (eqb cn 49) _ e).0
 
 four : (cn p : ℕ) → is_qr_function cn 65 p ≡ true → p ≡ 4
 four cn p e = grind (arith, nat_tests)
 
-three_67 : (cn p : ℕ) → is_qr_function cn 67 p ≡ true → p ≡ 3
-three_67 cn p e = grind (arith, nat_tests)
-
-three_69 : (cn p : ℕ) → is_qr_function cn 69 p ≡ true → p ≡ 3
-three_69 cn p e = grind (arith, nat_tests)
-
-three_81 : (cn p : ℕ) → is_qr_function cn 81 p ≡ true → p ≡ 3
-three_81 cn p e = grind (arith, nat_tests)
-
 some_80 : (cn p : ℕ) → is_qr_function cn 80 p ≡ true → 4 ≤ p
 some_80 cn p e = grind (arith, nat_tests)
 
 no_more : (more : List ℕ) → length more ≡ 0 → more ≡ []
-no_more [] e = refl
-no_more (b ∷ more) e = absurd (omega arith)
+no_more more e = grind (arith, common_steps)
 
 module _ (p pl ph cn n : ℕ) (c : IsCount p pl ph) where
   model_list : (o : Option QrModel) (more : List ℕ) → qr_model_of n ≡ o → is_qr_function cn 65 p ≡ true → length more + 3 ≡ p
@@ -69,36 +54,15 @@ module _ (p pl ph cn n : ℕ) (c : IsCount p pl ph) where
   model_list None more e f l = ignored_list p pl ph (cn ∷ 65 ∷ n ∷ []) more c
   model_list (Some model) [] e f l = absurd (let k = four cn p f in omega arith)
   model_list (Some model) (z ∷ y ∷ more) e f l = absurd (let k = four cn p f in omega arith)
-  model_list (Some model) (z ∷ []) e f l = by_zero (eqb z 0) refl
-    where
-      by_zero : (b : Bool) → eqb z 0 ≡ b
-          → Lists Gs (0x28 ∷ 0x6B ∷ pl ∷ ph ∷ cn ∷ 65 ∷ n ∷ z ∷ []) (map line_of (model_items p cn n (Some model) (z ∷ [])))
-      by_zero true t =
-          rw t (whole_list p pl ph (cn ∷ 65 ∷ n ∷ z ∷ []) (items.QrModel model) c
-          (let k = four cn p f in let z0 = eqb-true z 0 t in let c0 = first_is cn 65 p f in let m0 = model_is n model e in rw (k, z0, c0, sym m0) refl))
-      by_zero false t = rw t (ignored_list p pl ph (cn ∷ 65 ∷ n ∷ z ∷ []) [] c)
+  model_list (Some model) (z ∷ []) e f l = grind (arith, whole_list, eqb-true, first_is, ignored_list)
 
   module_list : (more : List ℕ) → is_qr_function cn 67 p ≡ true → length more + 3 ≡ p
       → Lists Gs (0x28 ∷ 0x6B ∷ pl ∷ ph ∷ cn ∷ 67 ∷ n ∷ more) (map line_of (module_item p cn n ∷ []))
-  module_list more f l = by_range (leb 1 n && leb n 16) refl
-    where
-      by_range : (b : Bool) → (leb 1 n && leb n 16) ≡ b → Lists Gs (0x28 ∷ 0x6B ∷ pl ∷ ph ∷ cn ∷ 67 ∷ n ∷ more) (map line_of (module_item p cn n ∷ []))
-      by_range true t =
-          let k = three_67 cn p f in
-          let none = no_more more (omega arith) in
-          let c0 = first_is cn 67 p f in
-          rw t (rw none (whole_list p pl ph (cn ∷ 67 ∷ n ∷ []) (items.QrModule n) c (rw (k, c0) refl)))
-      by_range false t = rw t (ignored_list p pl ph (cn ∷ 67 ∷ n ∷ []) more c)
+  module_list more f l = grind (arith, no_more, whole_list, ignored_list, nat_tests)
 
   level_list : (o : Option QrLevel) (more : List ℕ) → qr_level_of n ≡ o → is_qr_function cn 69 p ≡ true → length more + 3 ≡ p
       → Lists Gs (0x28 ∷ 0x6B ∷ pl ∷ ph ∷ cn ∷ 69 ∷ n ∷ more) (map line_of (level_item p cn n o ∷ []))
-  level_list None more e f l = ignored_list p pl ph (cn ∷ 69 ∷ n ∷ []) more c
-  level_list (Some level) more e f l =
-      let k = three_69 cn p f in
-      let none = no_more more (omega arith) in
-      let c0 = first_is cn 69 p f in
-      let n0 = level_is n level e in
-      rw none (whole_list p pl ph (cn ∷ 69 ∷ n ∷ []) (items.QrLevel level) c (rw (k, c0, sym n0) refl))
+  level_list o more e f l = grind (arith, no_more, first_is, whole_list, nat_tests, eqb-true)
 
   store_list : (more : List ℕ) → is_qr_function cn 80 p ≡ true
       → Lists Gs (0x28 ∷ 0x6B ∷ pl ∷ ph ∷ cn ∷ 80 ∷ n ∷ more) (map line_of (store_items p cn n more))
@@ -120,39 +84,14 @@ module _ (p pl ph cn n : ℕ) (c : IsCount p pl ph) where
 
   print_list : (more : List ℕ) → is_qr_function cn 81 p ≡ true → length more + 3 ≡ p
       → Lists Gs (0x28 ∷ 0x6B ∷ pl ∷ ph ∷ cn ∷ 81 ∷ n ∷ more) (map line_of (print_item p cn n ∷ []))
-  print_list more f l = by_value (eqb n 48) refl
-    where
-      by_value : (b : Bool) → eqb n 48 ≡ b → Lists Gs (0x28 ∷ 0x6B ∷ pl ∷ ph ∷ cn ∷ 81 ∷ n ∷ more) (map line_of (print_item p cn n ∷ []))
-      by_value true t =
-          let k = three_81 cn p f in
-          let none = no_more more (omega arith) in
-          let n0 = eqb-true n 48 t in
-          let c0 = first_is cn 81 p f in
-          rw t (rw none (whole_list p pl ph (cn ∷ 81 ∷ n ∷ []) items.QrPrint c (rw (k, c0, n0) refl)))
-      by_value false t = rw t (ignored_list p pl ph (cn ∷ 81 ∷ n ∷ []) more c)
+  print_list more f l = grind (arith, no_more, eqb-true, whole_list, ignored_list, nat_tests)
 
   ValueListed : ℕ → List ℕ → Type 0
   ValueListed function more = Lists Gs (0x28 ∷ 0x6B ∷ pl ∷ ph ∷ cn ∷ function ∷ n ∷ more) (map line_of (value_items p cn function n more))
 
   value_list : (function : ℕ) (more : List ℕ) → is_qr_function cn function p ≡ true → length more + 3 ≡ p → ValueListed function more
   unfolding ValueListed value_items
-  value_list function more f l = by_tests (eqb function 65) (eqb function 67) (eqb function 69) (eqb function 80) (eqb function 81) refl refl refl refl refl
-    where
-      at : (k : ℕ) → function ≡ k → ValueListed k more → ValueListed function more
-      at k e h = subst (λ x. ValueListed x more) (sym e) h
-
-      is_at : (k : ℕ) → function ≡ k → is_qr_function cn k p ≡ true
-      is_at k e = ap (λ x. is_qr_function cn x p) (sym e) ∙ f
-
-      by_tests : (a b d e g : Bool) → eqb function 65 ≡ a → eqb function 67 ≡ b → eqb function 69 ≡ d → eqb function 80 ≡ e → eqb function 81 ≡ g → ValueListed function more
-      by_tests true b d e g p1 p2 p3 p4 p5 = let k = eqb-true function 65 p1 in at 65 k (model_list (qr_model_of n) more refl (is_at 65 k) l)
-      by_tests false true d e g p1 p2 p3 p4 p5 = let k = eqb-true function 67 p2 in at 67 k (module_list more (is_at 67 k) l)
-      by_tests false false true e g p1 p2 p3 p4 p5 = let k = eqb-true function 69 p3 in at 69 k (level_list (qr_level_of n) more refl (is_at 69 k) l)
-      by_tests false false false true g p1 p2 p3 p4 p5 = let k = eqb-true function 80 p4 in at 80 k (store_list more (is_at 80 k))
-      by_tests false false false false true p1 p2 p3 p4 p5 = let k = eqb-true function 81 p5 in at 81 k (print_list more (is_at 81 k) l)
-      by_tests false false false false false p1 p2 p3 p4 p5 =
-          let h = (and_parts (eqb cn 49) _ f).1 in
-          let no : false ≡ true = rw (p1, p2, p3, p4, p5) at h in cc
+  value_list function more f l = grind (arith, eqb-true, model_list, module_list, level_list, store_list, print_list, and_parts)
 
 no_function : (cn function : ℕ) → is_qr_function cn function 2 ≡ false
 no_function cn function = grind (arith, nat_tests)

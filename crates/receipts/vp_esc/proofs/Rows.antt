@@ -1,6 +1,6 @@
 -- Each row of the table is a unit.
-use Rattle.std.proofs.Common.{◌≡◌, ◌≢◌, ℕ, ◌≤◌, ◌<◌, ◌+◌, Bool, true, false, ◌&&◌, eqb, Some, List, [], ◌∷◌, ◌++◌, length, refl, sym, ap, ◌∙◌, arith, ⊎_elim}
-use Rattle.std.specs.List.{list_any}
+use Rattle.std.proofs.Common.{◌≡◌, ◌≢◌, ℕ, ◌≤◌, ◌<◌, ◌+◌, true, false, Some, List, [], ◌∷◌, ◌++◌, length, refl, sym, ap, ◌∙◌, arith, ⊎_elim}
+use Rattle.std.proofs.lemmas.Grind.{common_steps}
 use Rattle.std.proofs.lemmas.List.{length-append, length_push}
 use Rattle.std.proofs.lemmas.List.Folds.{list_any-append}
 use Rattle.std.proofs.lemmas.Bool.{cases_lt}
@@ -10,14 +10,12 @@ use Rattle.vp_esc.specs.declared.item.Lead.TheVariants.{Esc}
 use Rattle.vp_esc.specs.declared.command.Command.{Command}
 use Rattle.vp_esc.specs.declared.command.Command.TheVariants.{Plain, TabStops, Columns, Raster, Symbol, Function, Graphics}
 use Rattle.vp_esc.specs.declared.command.Plain.{Plain as PlainCommand}
-use Rattle.vp_esc.specs.Values.{is_kind_to_zero}
 use Rattle.vp_esc.specs.Command.{lead_byte, command_of, head_len, is_listed}
 use Rattle.vp_esc.specs.Units.{is_unfinished, needs_more, is_counted, data_len, rises_from}
 use Rattle.vp_esc.specs.Laws.{IsUnit}
 use Rattle.vp_esc.specs.Table.{IsPlain, IsColumns, IsRaster, IsFunction, IsGraphics, IsStops, IsToZero, IsCountedSymbol, IsArguments, IsCommand, IsAlone, IsRow}
 use Rattle.vp_esc.proofs.Fronts.{Front, front_is, lead_of-lead_byte}
 use Rattle.vp_esc.proofs.Stops.{rises_push}
-use Rattle.vp_esc.proofs.Symbols.{no_zero_push}
 use Rattle.vp_esc.proofs.Heads.{IsSame, same, needs_counted, heads, IsHead}
 use Rattle.vp_esc.proofs.Divisions.{front_of_push}
 
@@ -32,8 +30,7 @@ pub record IsDone (k : Command) (args : List ℕ) : Type 0 where
   pub needs : needs_more k args ≡ false
 
 shorter : (args front more : List ℕ) → args ≡ front ++ more → more ≢ [] → length front < length args
-shorter args front [] e n = absurd (n refl)
-shorter args front (m ∷ more) e n = rw e (omega (arith, length-append front (m ∷ more)))
+shorter args front more e n = grind (arith, common_steps)
 
 -- Commands whose data are counted.
 pub record IsSized (k : Command) (args : List ℕ) : Type 0 where
@@ -45,14 +42,7 @@ listed_front : (k : Command) (args front more : List ℕ) → args ≡ front ++ 
 listed_front k args front more e l = grind arith
 
 pub counted_front : (k : Command) (front more : List ℕ) → head_len k front ≤ length front → is_counted k (front ++ more) ≡ true → is_counted k front ≡ true
-counted_front (Plain p) front more h e = refl
-counted_front TabStops front more h e = e
-counted_front Columns front more h e = refl
-counted_front Raster front more h e = refl
-counted_front Symbol [] more h e = absurd (omega arith)
-counted_front Symbol (a ∷ front) more h e = e
-counted_front Function front more h e = refl
-counted_front Graphics front more h e = refl
+counted_front k front more h e = grind (arith, common_steps)
 
 sized_short : (k : Command) (args front more : List ℕ) → IsSized k args → args ≡ front ++ more → more ≢ [] → IsShort k front
 sized_short k args front more s e n =
@@ -95,11 +85,7 @@ sized_symbol args h = grind arith
 
 rises_front : (last : ℕ) (xs ys : List ℕ) → rises_from last (xs ++ ys) ≡ true → rises_from last xs ≡ true
 rises_front last [] ys h = refl
-rises_front last (x ∷ xs) ys h = both _ _ _ h (rises_front x xs ys)
-  where
-    both : (a b c : Bool) → (a && b) ≡ true → (b ≡ true → c ≡ true) → (a && c) ≡ true
-    both true b c h f = f h
-    both false b c h f = cc
+rises_front last (x ∷ xs) ys h = grind (arith, rises_front x xs ys)
 
 stops_short : (args front more : List ℕ) → IsStops args → args ≡ front ++ more → more ≢ [] → IsShort TabStops front
 unfolding needs_more
@@ -111,27 +97,14 @@ stops_done args a = grind (arith, rises_push, length_push, nat_tests)
 
 -- Symbols up to a 0.
 
-no_zero_front : (xs ys : List ℕ) → list_any (λ b. eqb b 0) (xs ++ ys) ≡ false → list_any (λ b. eqb b 0) xs ≡ false
-no_zero_front xs ys h = grind (arith, list_any-append)
-
 zero_short : (args front more : List ℕ) → IsToZero args → args ≡ front ++ more → more ≢ [] → IsShort Symbol front
 unfolding needs_more
 zero_short args [] more z e n = record { listed = refl; needs = refl }
-zero_short args (f ∷ front) more z e n =
-    let q : z.kind ∷ (z.codes ++ 0 ∷ []) ≡ f ∷ (front ++ more) = sym z.bytes ∙ e in
-    let h : f ≡ z.kind = cc in
-    let t : z.codes ++ 0 ∷ [] ≡ front ++ more = cc in
-    let w : (y : List ℕ) × (z.codes ≡ front ++ y) = front_of_push z.codes front more 0 t n in
-    let none : list_any (λ b. eqb b 0) front ≡ false =
-    no_zero_front front w.0 (let r : z.codes ≡ front ++ w.0 = w.1 in rw r at z.no_zero) in
-    let k : is_kind_to_zero f ≡ true = rw h z.is_kind in
-    record { listed = rw k refl; needs = rw k (rw none refl) }
+zero_short args (f ∷ front) more z e n = grind (arith, front_of_push, list_any-append)
 
 zero_done : (args : List ℕ) → IsToZero args → IsDone Symbol args
 unfolding needs_more
-zero_done args z =
-    let some : list_any (λ b. eqb b 0) (z.codes ++ 0 ∷ []) ≡ true = no_zero_push z.codes 0 z.no_zero in
-    record { listed = rw z.bytes (rw z.is_kind refl); needs = rw z.bytes (rw z.is_kind (rw some refl)) }
+zero_done args z = grind (arith, common_steps)
 
 -- All of them.
 

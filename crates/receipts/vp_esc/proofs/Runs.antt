@@ -1,5 +1,6 @@
 -- Bytes of data, one after another.
 use Rattle.std.proofs.Common.{◌≡◌, ℕ, ◌-◌, ◌<◌, ◌≤◌, eqb, false, List, [], ◌∷◌, ◌++◌, length, take, None, Ok, sym, ap, subst, ◌∙◌, append_assoc, arith}
+use Rattle.std.proofs.lemmas.Grind.{common_steps}
 use Rattle.std.proofs.lemmas.Bool.Decides.{nat_tests}
 use Rattle.std.proofs.lemmas.List.{append-nil, length-take-le}
 use Rattle.vp_esc.specs.declared.item.EscItem.{EscItem}
@@ -42,18 +43,11 @@ pub record Runs (r : EscReader) (kind : Data) (left : ℕ) (bytes xs : List ℕ)
   pub stands : Stands (before_bytes r kind (left - length xs)) (bytes ++ xs)
 
 known_on : (bytes xs : List ℕ) → fault_of bytes ≡ None → (0 < length xs → fault_of (bytes ++ xs) ≡ None) → fault_of (bytes ++ xs) ≡ None
-known_on bytes [] e h = ap fault_of (append-nil bytes) ∙ e
-known_on bytes (x ∷ xs) e h = h (omega arith)
-
-nothing_less : (n : ℕ) → n ≡ n - 0
-nothing_less n = omega arith
-
-no_items : (kind : Data) → data_items kind [] ≡ []
-no_items kind = grind arith
+known_on bytes xs e h = grind (arith, common_steps)
 
 pub runs : (r : EscReader) (kind : Data) (left : ℕ) (bytes xs : List ℕ) → Stands (before_bytes r kind left) bytes → length xs ≤ left - 1
     → Runs r kind left bytes xs
-runs r kind left bytes [] s h = grind (arith, nat_tests, append-nil, no_items, nothing_less)
+runs r kind left bytes [] s h = grind (arith, append-nil)
 runs r kind left bytes (b ∷ xs) s h =
     let one = next r kind left bytes b s (omega arith) in
     let more = runs r kind (left - 1) (bytes ++ b ∷ []) xs one.stands (omega arith) in

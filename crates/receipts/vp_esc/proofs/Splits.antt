@@ -20,11 +20,8 @@ pub split-push : (bytes : List ℕ) (c : ℕ) → split (bytes ++ c ∷ []) ≡ 
 unfolding split
 split-push bytes c = split_on-push _ bytes c
 
-rest_by : (units : List (List ℕ)) (front : List ℕ) (b : Bool) → (with_rest units front b).rest ≡ cond b front []
-rest_by units front b = grind arith
-
 pub rest-push : (bytes : List ℕ) (c : ℕ) → (split (bytes ++ c ∷ [])).rest ≡ rest_of ((split bytes).rest ++ c ∷ [])
-rest-push bytes c = ap (λ (s : Split). s.rest) (split-push bytes c) ∙ rest_by (split bytes).units ((split bytes).rest ++ c ∷ []) (is_unfinished ((split bytes).rest ++ c ∷ []))
+rest-push bytes c = grind (arith, split-push)
 
 given_by_units : (units : List (List ℕ)) (front : List ℕ) (b : Bool)
     → flat_map given (with_rest units front b).units ++ given (with_rest units front b).rest ≡ flat_map given units ++ given front

@@ -1,5 +1,6 @@
 -- The data of symbols.
 use Rattle.std.proofs.Common.{◌≡◌, ◌≢◌, ℕ, ◌+◌, ◌-◌, ◌<◌, ◌≤◌, Bool, true, false, cond, ◌||◌, eqb, ltb, Option, Some, None, Ok, List, [], ◌∷◌, ◌++◌, length, take, get_or, refl, sym, ap, ◌∙◌, arith, ⊎_elim}
+use Rattle.std.proofs.lemmas.Grind.{common_steps}
 use Rattle.std.proofs.lemmas.Bool.{cases_lt}
 use Rattle.std.specs.List.{list_any}
 use Rattle.std.specs.Prelude.{option_to_list}
@@ -127,15 +128,10 @@ symbol_last r kind left c rest kept final hand some k =
 -- The head of a symbol.
 
 one : (b : Bool) (xs : List ℕ) → b ≡ true → length xs ≡ cond b 1 2 → xs ≡ get_or xs 0 0 ∷ []
-one b [] e h = absurd (omega (arith, rw e at h))
-one b (x ∷ []) e h = refl
-one b (x ∷ y ∷ xs) e h = absurd (omega (arith, rw e at h))
+one b xs e h = grind (arith, common_steps)
 
 two : (b : Bool) (xs : List ℕ) → b ≡ false → length xs ≡ cond b 1 2 → xs ≡ get_or xs 0 0 ∷ get_or xs 1 0 ∷ []
-two b [] e h = absurd (omega (arith, rw e at h))
-two b (x ∷ []) e h = absurd (omega (arith, rw e at h))
-two b (x ∷ y ∷ []) e h = refl
-two b (x ∷ y ∷ z ∷ xs) e h = absurd (omega (arith, rw e at h))
+two b xs e h = grind (arith, common_steps)
 
 pub symbol_begins : (r : EscReader) (kind : ℕ) (rest : List ℕ) (kept : ArrayVec ℕ) → Begun r.lead r.name Symbol r.kept.items rest
     → length r.kept.items ≡ head_len Symbol r.kept.items → kind ≡ get_or r.kept.items 0 0 → kept.items ≡ []

@@ -1,5 +1,6 @@
 -- Text, one byte after another.
 use Rattle.std.proofs.Common.{◌≡◌, ℕ, ◌+◌, ◌<◌, ◌≤◌, Bool, true, cond, ◌&&◌, zero, suc, is_none, Option, Some, None, Ok, List, [], ◌∷◌, ◌++◌, length, take, refl, sym, ap, subst, ◌∙◌, append_assoc, arith}
+use Rattle.std.proofs.lemmas.Grind.{common_steps}
 use Rattle.std.proofs.lemmas.Bool.Decides.{nat_tests}
 use Rattle.std.specs.List.{prefix_len, AllByRecursion}
 use Rattle.std.proofs.lemmas.List.{append-nil}
@@ -20,9 +21,7 @@ first_passes z n m h = grind arith
 pub front_passes : (n : ℕ) (cs : List ℕ) → n ≤ prefix_len is_text cs → AllByRecursion (λ b. is_text b ≡ true) (take n cs)
 front_passes zero cs h = tt
 front_passes (suc n) [] h = tt
-front_passes (suc n) (c ∷ cs) h =
-    let f = first_passes (is_text c) n (prefix_len is_text cs) h in
-    (f.0, front_passes n cs f.1)
+front_passes (suc n) (c ∷ cs) h = grind (arith, front_passes n cs (first_passes (is_text c) n (prefix_len is_text cs) h).1)
 
 no_lead : (lead : Option Lead) (z : Bool) → is_none lead && z ≡ true → lead ≡ None
 no_lead lead z h = grind arith
@@ -41,8 +40,7 @@ one r bytes b phase stands text =
     record { gives = g.1; known = λ some. g.0; stands = stands-from_advances _ bytes b _ a }
 
 known_on : (bytes xs : List ℕ) → fault_of bytes ≡ None → (0 < length xs → fault_of (bytes ++ xs) ≡ None) → fault_of (bytes ++ xs) ≡ None
-known_on bytes [] e h = ap fault_of (append-nil bytes) ∙ e
-known_on bytes (x ∷ xs) e h = h (omega arith)
+known_on bytes xs e h = grind (arith, common_steps)
 
 pub ran : (r : EscReader) (bytes xs : List ℕ) → r.phase ≡ Ground → Stands r bytes → AllByRecursion (λ b. is_text b ≡ true) xs → Ran r bytes xs
 ran r bytes [] phase stands text = grind (arith, nat_tests, append-nil)

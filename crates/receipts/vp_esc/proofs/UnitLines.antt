@@ -1,14 +1,12 @@
 -- The lines of a unit: of a byte alone, and of a command.
-use Rattle.std.proofs.Common.{◌≡◌, ℕ, ◌<◌, ◌≤◌, Bool, true, false, cond, ltb, Option, Some, None, List, [], ◌∷◌, length, refl, sym, ap, ◌∙◌, arith, ⊎_elim}
+use Rattle.std.proofs.Common.{◌≡◌, ℕ, ◌<◌, ◌≤◌, Bool, true, false, cond, Option, Some, None, List, [], ◌∷◌, length, refl, sym, ap, ◌∙◌, arith, ⊎_elim}
 use Rattle.std.specs.Prelude.{map}
 use Rattle.std.proofs.lemmas.Bool.{cases_lt}
 use Rattle.std.proofs.lemmas.Bool.Decides.{nat_tests}
 use Rattle.vp_esc.specs.declared.item.Lead.{Lead}
-use Rattle.vp_esc.specs.declared.item.Lead.TheVariants.{Esc, Gs}
 use Rattle.vp_esc.specs.declared.command.Command.{Command}
-use Rattle.vp_esc.specs.declared.command.Command.TheVariants.{Plain, TabStops, Columns, Raster, Symbol, Function, Graphics}
 use Rattle.vp_esc.specs.Command.{lead_of, lead_byte, command_of, head_len, is_listed}
-use Rattle.vp_esc.specs.Units.{is_unfinished, needs_more, plain_item, stops_item, given_by, given_behind, single_item, given}
+use Rattle.vp_esc.specs.Units.{is_unfinished, needs_more, given_by, given_behind, given}
 use Rattle.vp_esc.specs.Laws.{IsUnit}
 use Rattle.vp_esc.specs.Lines.{line_of}
 use Rattle.vp_esc.specs.Listings.{line_of_byte, is_long_symbol, Lists}
@@ -20,26 +18,15 @@ use Rattle.vp_esc.proofs.Named.{IsNamed, named_so}
 use Rattle.vp_esc.proofs.Listed.{IsBytes, one_line, plain_listed, stops_listed, columns_list, raster_list, to_zero_list, counted_list, graphics_list}
 use Rattle.vp_esc.proofs.QrListed.{function_list}
 
-single_line : (b : ℕ) → line_of (single_item b) ≡ line_of_byte b
-single_line b = grind arith
-
 pub byte_line : (b : ℕ) → lead_of b ≡ None → map line_of (given (b ∷ [])) ≡ line_of_byte b ∷ []
 unfolding given
-byte_line b e = rw e (ap (λ l. l ∷ []) (single_line b))
-
-short_symbol : (args : List ℕ) → is_long_symbol Gs (0x6B ∷ args) ≡ false → length args ≤ 257
-short_symbol args e = let t : ltb 257 (length args) ≡ false = e in grind (arith, nat_tests)
+byte_line b e = grind arith
 
 by_command : (lead : Lead) (name : ℕ) (k : Command) (args : List ℕ) → IsNamed k lead name → IsArguments k args → IsBytes args
     → needs_more k args ≡ false → is_long_symbol lead (name ∷ args) ≡ false → Lists lead (name ∷ args) (map line_of (given_behind lead name k args))
 unfolding given_behind
-by_command lead name (Plain p) args i a b n s = one_line lead (name ∷ args) (plain_item lead name p args) (plain_listed lead name p args i a b)
-by_command lead name TabStops args i a b n s = rw n (rw (i.0, i.1) (one_line Esc (0x44 ∷ args) (stops_item args) (stops_listed args a)))
-by_command lead name Columns args i a b n s = rw (i.0, i.1) (columns_list args a b)
-by_command lead name Raster args i a b n s = rw (i.0, i.1) (raster_list args a b)
-by_command lead name Symbol args i a b n s = grind (arith, short_symbol, to_zero_list, counted_list)
-by_command lead name Function args i a b n s = rw (i.0, i.1) (function_list args a b)
-by_command lead name Graphics args i a b n s = rw (i.0, i.1) (graphics_list args a)
+by_command lead name k args i a b n s =
+    grind (arith, one_line, plain_listed, stops_listed, columns_list, raster_list, to_zero_list, counted_list, function_list, graphics_list, nat_tests)
 
 -- a whole command is of the table, and its head is there
 record IsWhole (lead : Lead) (name : ℕ) (k : Command) (args front : List ℕ) : Type 0 where
