@@ -1,5 +1,5 @@
 -- Words cut out of rows.
-use Rattle.std.proofs.Common.{inl, inr, zero, ◌≡◌, ℕ, ◌+◌, ◌-◌, ◌*◌, ◌/◌, ◌%◌, ◌^◌, ◌<◌, ◌≤◌, Bool, true, false, not, cond, eqb, ltb, leb, ◌&&◌, refl, sym, ap, ◌∙◌, arith, List, bit_and, bit_or, length, get_or, replicate, ℤ, pos, ◌+ℤ◌}
+use Rattle.std.proofs.Common.{inl, inr, ◌≡◌, ℕ, ◌+◌, ◌-◌, ◌*◌, ◌/◌, ◌%◌, ◌^◌, ◌<◌, ◌≤◌, Bool, true, false, not, cond, eqb, ltb, leb, ◌&&◌, sym, ap, ◌∙◌, arith, List, bit_and, bit_or, length, get_or, replicate, ℤ, pos, ◌+ℤ◌}
 use Rattle.std.specs.Int.{bit_at, from_be_bytes, w64}
 use lib.Lanes.{chunk}
 use Rattle.std.proofs.Math.Nat.{div-le_self}
@@ -31,16 +31,12 @@ dot_chunk i x row h =
     rw (q, r) (ap (λ b. bit b (7 - x % 8)) (get_or-chunk i 8 row (x / 8) 0 (omega arith)))
 
 black_alone : (b : Bool) → cond b true false ≡ b
-black_alone true = refl
-black_alone false = refl
+black_alone b = grind arith
 
 -- white bytes
 white : (n x : ℕ) → dot (replicate {A = ℕ} n 0) x ≡ false
 unfolding dot bit
-white n x = ap (λ b. eqb (bit_at b (7 - x % 8)) 1) (elim (cases_lt (x / 8) n) as (λ _. get_or (replicate {A = ℕ} n 0) (x / 8) 0 ≡ zero) [
-  | inl l ↦ get_or-replicate n (x / 8) 0 0 l
-  | inr g ↦ get_or_past {X = ℕ} (replicate n 0) (x / 8) 0 (omega (arith, length-replicate {A = ℕ} n 0))
-]) ∙ ap (λ b. eqb b 1) (bit_at-zero (7 - x % 8))
+white n x = grind (arith, get_or-replicate, get_or_past, length-replicate, bit_at-zero)
 
 -- what a painter left of the row in white bytes
 pub cut_end : (row bytes : List ℕ) (n from x : ℕ) (at : ℤ) → at +ℤ pos (from + x) ≡ pos x → Painted Black (shifted at (dot row)) (replicate 8 0) bytes
@@ -82,29 +78,14 @@ unfolding bit
 bit_not64 n k p q = rw (bit_at_not w64 n k p q) (of_not _ (bit_at-lt n k))
 
 pub bit_of_and_not64 : (a b k : ℕ) → b < 2 ^ 64 → k < 64 → bit (bit_and a (2 ^ 64 - 1 - b)) k ≡ cond (bit b k) false (bit a k)
-bit_of_and_not64 a b k p q = bit_of_and a (2 ^ 64 - 1 - b) k ∙ ap (λ x. bit a k && x) (bit_not64 b k p q) ∙ less (bit a k) (bit b k)
-  where
-    less : (x y : Bool) → (x && not y) ≡ cond y false x
-    less true true = refl
-    less true false = refl
-    less false true = refl
-    less false false = refl
+bit_of_and_not64 a b k p q = grind (arith, bit_of_and, bit_not64)
 
 ones : (k : ℕ) → k < 64 → bit (2 ^ 64 - 1) k ≡ true
 unfolding bit
 ones k h = ap (λ x. eqb x 1) (bit_at_ones 64 k h)
 
 pub first_bits : (n x : ℕ) → n < 64 → word_dot (2 ^ 64 - 1 - (2 ^ 64 - 1) / 2 ^ n) x ≡ ltb x n
-first_bits n x h = elim (cases_lt x 64) [
-  | inl l ↦ rw (lt-ltb x 64 l) (bit_not64 ((2 ^ 64 - 1) / 2 ^ n) (63 - x) (let d = div-le_self (2 ^ 64 - 1) (2 ^ n) in omega arith) (omega arith) ∙ ap not (bit_shr (2 ^ 64 - 1) n (63 - x)) ∙ elim (cases_lt x n) [
-    | inl m ↦ rw (lt-ltb x n m, bit_above (2 ^ 64 - 1) (n + (63 - x)) (omega arith) (omega arith)) refl
-    | inr g ↦ rw (le-ltb x n g, ones (n + (63 - x)) (omega arith)) refl
-  ])
-  | inr g ↦ rw (le-ltb x 64 g, le-ltb x n (omega arith)) refl
-]
+first_bits n x h = grind (arith, cases_lt, lt-ltb, bit_not64, div-le_self, bit_shr, bit_above, le-ltb, ones)
 
 pub all_bits : (x : ℕ) → word_dot (2 ^ 64 - 1) x ≡ ltb x 64
-all_bits x = elim (cases_lt x 64) [
-  | inl l ↦ rw (lt-ltb x 64 l) (ones (63 - x) (omega arith))
-  | inr g ↦ rw (le-ltb x 64 g) refl
-]
+all_bits x = grind (arith, lt-ltb, ones, le-ltb)

@@ -15,9 +15,7 @@ above a b i h = bit_at-suc (a * 2 + b) i ∙ ap (λ n. bit_at n i) (let e : (a *
 onto_above : (k n a i : ℕ) → bit_at (reverse_bits_onto k n a) (i + k) ≡ bit_at a i
 unfolding reverse_bits_onto
 onto_above zero n a i = ap (bit_at a) (let e : i + 0 ≡ i = omega arith in e)
-onto_above (suc k) n a i =
-    ap (bit_at (reverse_bits_onto k (n / 2) (a * 2 + n % 2))) (let e : i + suc k ≡ suc i + k = omega arith in e)
-    ∙ onto_above k (n / 2) (a * 2 + n % 2) (suc i) ∙ above a (n % 2) i (omega arith)
+onto_above (suc k) n a i = grind (arith, above, onto_above k (n / 2) (a * 2 + n % 2) (suc i))
 
 onto : (k n a i : ℕ) → i < k → bit_at (reverse_bits_onto k n a) i ≡ bit_at n (k - 1 - i)
 unfolding reverse_bits_onto

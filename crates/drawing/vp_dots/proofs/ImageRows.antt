@@ -1,30 +1,25 @@
 -- A row of bytes is determined by its dots.
-use Rattle.std.proofs.Common.{inl, inr, ◌≡◌, ℕ, zero, suc, ◌+◌, ◌-◌, ◌*◌, ◌/◌, ◌%◌, ◌^◌, ◌<◌, Bool, true, false, cond, eqb, refl, sym, ap, ◌∙◌, arith, List, length, get_or}
+use Rattle.std.proofs.Common.{inl, inr, ◌≡◌, ℕ, zero, suc, ◌+◌, ◌-◌, ◌*◌, ◌/◌, ◌%◌, ◌^◌, ◌<◌, Bool, cond, eqb, refl, sym, ap, ◌∙◌, arith, List, length, get_or}
 use Rattle.std.specs.Int.{bit_at}
 use Rattle.std.proofs.Math.Nat.{pow-suc}
 use Rattle.std.proofs.lemmas.Nat.Bits.{bit_at_cat_low, bit_at_cat_high}
 use Rattle.std.proofs.lemmas.List.{get_or_past}
-use Rattle.std.proofs.lemmas.Bool.{cases_lt, cases_Bool}
+use Rattle.std.proofs.lemmas.Bool.{cases_lt}
 use Rattle.vp_dots.specs.Dots.{bit, dot}
 use Rattle.vp_dots.specs.Images.{packed, row_from, row_of}
 use Rattle.vp_dots.proofs.Rows.{same_row}
 
 -- a bit above n others
 one_more : (b : Bool) (n m : ℕ) → cond b (2 ^ n) 0 + m ≡ cond b 1 0 * 2 ^ n + m
-one_more true n m = omega arith
-one_more false n m = omega arith
+one_more b n m = grind arith
 
 pub packed-lt : (n : ℕ) (f : ℕ → Bool) (at : ℕ) → packed n f at < 2 ^ n
 packed-lt zero f at = omega arith
-packed-lt (suc n) f at = elim (cases_Bool (f at)) [
-  | inl t ↦ rw t (omega (arith, packed-lt n f (at + 1), pow-suc 2 n))
-  | inr e ↦ rw e (omega (arith, packed-lt n f (at + 1), pow-suc 2 n))
-]
+packed-lt (suc n) f at = grind (arith, pow-suc, packed-lt n f (at + 1))
 
 bit_of_flag : (b : Bool) → bit (cond b 1 0) 0 ≡ b
 unfolding bit
-bit_of_flag true = refl
-bit_of_flag false = refl
+bit_of_flag b = grind arith
 
 -- bit k of a packed number
 pub bit-packed : (n : ℕ) (f : ℕ → Bool) (at k : ℕ) → k < n → bit (packed n f at) k ≡ f (at + (n - 1 - k))
@@ -51,10 +46,7 @@ unfolding dot
 dot-row_of n f d h = ap (λ x. bit x (7 - d % 8)) (get_or-row_from n f 0 (d / 8) (omega arith)) ∙ bit-packed 8 f (0 + 8 * (d / 8)) (7 - d % 8) (omega arith) ∙ ap f (omega arith)
 
 pub fits-row_of : (n : ℕ) (f : ℕ → Bool) (i : ℕ) → get_or (row_of n f) i 0 < 2 ^ 8
-fits-row_of n f i = elim (cases_lt i n) [
-  | inl l ↦ rw (get_or-row_from n f 0 i l) (packed-lt 8 f (0 + 8 * i))
-  | inr g ↦ rw (get_or_past (row_of n f) i 0 (omega (arith, length-row_from n f 0))) (omega arith)
-]
+fits-row_of n f i = grind (arith, cases_lt, get_or-row_from, get_or_past, length-row_from)
 
 -- a row with these dots is these bytes
 pub row_is : (row : List ℕ) (n : ℕ) (f : ℕ → Bool) → length row ≡ n → ((i : ℕ) → get_or row i 0 < 2 ^ 8) → ((d : ℕ) → d < 8 * n → dot row d ≡ f d) → row ≡ row_of n f

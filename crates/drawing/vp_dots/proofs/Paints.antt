@@ -1,5 +1,5 @@
 -- Paintings one after the other.
-use Rattle.std.proofs.Common.{inl, inr, ◌≡◌, ℕ, ◌+◌, ◌-◌, ◌*◌, ◌/◌, ◌%◌, ◌^◌, ◌<◌, ◌≤◌, Bool, true, false, cond, eqb, ltb, ◌&&◌, ◌||◌, refl, sym, ap, ◌∙◌, arith, List, min, length, get_or, set, eq-eqb}
+use Rattle.std.proofs.Common.{◌≡◌, ℕ, ◌+◌, ◌-◌, ◌*◌, ◌/◌, ◌%◌, ◌^◌, ◌<◌, ◌≤◌, Bool, false, eqb, ltb, ◌&&◌, ◌||◌, refl, ap, ◌∙◌, arith, List, min, length, get_or, set, eq-eqb}
 use Rattle.std.proofs.lemmas.List.{length-set}
 use Rattle.std.proofs.lemmas.Bool.{cases_eq, cases_lt, ne_eqb, le-ltb, lt-ltb}
 use Rattle.std.proofs.lemmas.Bool.Decides.{nat_tests}
@@ -19,52 +19,24 @@ module _ (op : Op) where
   painted_same f g a b h p = record { length_is = p.length_is; dots_are = λ d l. p.dots_are d l ∙ ap (λ i. paint op i (dot a d)) (h d l) }
 
   twice : (i j k old : Bool) → k ≡ (i || j) → (i && j) ≡ false → paint op j (paint op i old) ≡ paint op k old
-  twice true true k old e n = cc
-  twice true false k old e n = rw e refl
-  twice false true k old e n = rw e refl
-  twice false false k old e n = rw e refl
+  twice i j k old e n = grind arith
 
   -- one painting after another that it does not meet
   pub painted_then : (f g h : ℕ → Bool) (a b c : List ℕ) → Painted op f a b → Painted op g b c
       → ((d : ℕ) → d < dots a → h d ≡ (f d || g d)) → ((d : ℕ) → d < dots a → (f d && g d) ≡ false) → Painted op h a c
-  painted_then f g h a b c p q u n = record {
-    length_is = q.length_is ∙ p.length_is;
-    dots_are = λ d l.
-        q.dots_are d (let m : d < dots b = rw p.length_is l in m) ∙ ap (λ o. paint op (g d) o) (p.dots_are d l) ∙ twice (f d) (g d) (h d) (dot a d) (u d l) (n d l);
-  }
-
-  top_at : (at k d : ℕ) → k ≡ 7 - d % 8 → d / 8 ≡ at / 8 → eqb k (7 - at % 8) ≡ eqb d at
-  top_at at k d e f = grind (arith, nat_tests)
+  painted_then f g h a b c p q u n = grind arith
 
   -- one byte painted by the mask of one dot
   pub painted_dot : (at v : ℕ) (row : List ℕ) → at / 8 < length row
       → ((k : ℕ) → k < 8 → bit v k ≡ paint op (bit (128 / 2 ^ (at % 8)) k) (bit (get_or row (at / 8) 0) k)) → Painted op (λ d. eqb d at) row (set row (at / 8) v)
   unfolding dot
-  painted_dot at v row h w = record {
-    length_is = length-set row (at / 8) v;
-    dots_are = λ d l. dot-set row (at / 8) v d h ∙
-        elim (cases_eq (d / 8) (at / 8)) as (λ _. cond (eqb (d / 8) (at / 8)) (bit v (7 - d % 8)) (dot row d) ≡ paint op (eqb d at) (dot row d)) [
-          | inl y ↦ rw (eq-eqb (d / 8) (at / 8) y) (w (7 - d % 8) (omega arith)
-              ∙ ap (λ b. paint op b (bit (get_or row (at / 8) 0) (7 - d % 8))) (bit_of_top (at % 8) (7 - d % 8) (omega arith) ∙ top_at at (7 - d % 8) d refl y)
-              ∙ ap (λ i. paint op (eqb d at) (bit (get_or row i 0) (7 - d % 8))) (sym y))
-          | inr n ↦ rw (ne_eqb (d / 8) (at / 8) n) (rw (ne_eqb d at (λ e. n (ap (λ x. x / 8) e))) refl)
-        ];
-  }
+  painted_dot h v row k w = grind (arith, length-set, dot-set, cases_eq, eq-eqb, bit_of_top, ne_eqb, nat_tests)
 
   -- one byte painted, with the ink of its eight dots
   pub painted_byte_at : (f : ℕ → Bool) (i v : ℕ) (row : List ℕ) → i < length row
       → ((k : ℕ) → k < 8 → bit v k ≡ paint op (f (8 * i + (7 - k))) (bit (get_or row i 0) k)) → Painted op (λ d. eqb (d / 8) i && f d) row (set row i v)
   unfolding dot
-  painted_byte_at f i v row h w = record {
-    length_is = length-set row i v;
-    dots_are = λ d l. dot-set row i v d h ∙
-        elim (cases_eq (d / 8) i) as (λ _. cond (eqb (d / 8) i) (bit v (7 - d % 8)) (dot row d) ≡ paint op (eqb (d / 8) i && f d) (dot row d)) [
-          | inl y ↦ rw (eq-eqb (d / 8) i y) (w (7 - d % 8) (omega arith)
-              ∙ ap (λ x. paint op (f x) (bit (get_or row i 0) (7 - d % 8))) (let e : 8 * i + (7 - (7 - d % 8)) ≡ d = omega arith in e)
-              ∙ ap (λ j. paint op (f d) (bit (get_or row j 0) (7 - d % 8))) (sym y))
-          | inr n ↦ rw (ne_eqb (d / 8) i n) refl
-        ];
-  }
+  painted_byte_at f i v row h w = grind (arith, length-set, dot-set, cases_eq, eq-eqb, ne_eqb)
 
   -- a loop over the bytes
   module _ (f : ℕ → Bool) where
@@ -82,13 +54,8 @@ module _ (op : Op) where
     -- the last byte with ink, after a loop over those left of it
     pub bytes_last : (i n : ℕ) (a b c : List ℕ) → i ≡ n → Painted op (λ d. ltb (d / 8) i && f d) a b → Painted op (λ d. eqb (d / 8) n && f d) b c
         → ((d : ℕ) → d < dots a → n < d / 8 → f d ≡ false) → Painted op f a c
-    bytes_last i n a b c e p q h = painted_then (λ d. ltb (d / 8) i && f d) (λ d. eqb (d / 8) n && f d) f a b c p q
-        (λ d l. elim (cases_lt n (d / 8)) [ inl m ↦ (let z : f d ≡ false = h d l m in grind (arith, nat_tests)) | inr g ↦ grind (arith, nat_tests) ])
-        (λ d l. grind (arith, nat_tests))
+    bytes_last i n a b c e p q h = grind arith
 
   -- a loop that ends where the shorter of two rows does
   pub bytes_short : (source : List ℕ) (n : ℕ) (a b : List ℕ) → min (length source) (length a) ≤ n → Painted op (λ d. ltb (d / 8) n && dot source d) a b → Painted op (dot source) a b
-  bytes_short source n a b h p = painted_same (λ d. ltb (d / 8) n && dot source d) (dot source) a b (λ d l. elim (cases_lt (d / 8) n) [
-    | inl m ↦ rw (lt-ltb (d / 8) n m) refl
-    | inr g ↦ sym (dot_past source d (let e : d / 8 < length a = omega arith in omega arith) ∙ sym (rw (le-ltb (d / 8) n g) refl))
-  ]) p
+  bytes_short source n a b h p = grind (arith, painted_same, cases_lt, lt-ltb, dot_past, le-ltb)

@@ -1,7 +1,7 @@
 -- A row of dots moved by a signed offset.
 use Rattle.std.proofs.Common.{inl, inr, ◌⊎◌, ◌≡◌, ℕ, ◌+◌, ◌-◌, ◌*◌, ◌/◌, ◌%◌, ◌<◌, ◌≤◌, Bool, true, false, eqb, ltb, leb, ◌&&◌, ◌||◌, refl, sym, ap, ◌∙◌, arith, ℤ, pos, negsuc, ◌+ℤ◌}
 use Rattle.std.proofs.lemmas.Int.{ints}
-use Rattle.std.proofs.lemmas.Bool.{cases_Bool, cases_eq, cases_lt, le-leb, lt-leb}
+use Rattle.std.proofs.lemmas.Bool.{cases_eq, cases_lt, le-leb, lt-leb}
 use Rattle.std.proofs.lemmas.Bool.Decides.{nat_tests}
 use Rattle.vp_dots.specs.Dots.{shifted}
 
@@ -46,16 +46,10 @@ pub below_apart : (f : ℕ → Bool) (x i : ℕ) → (ltb i x && f i && eqb i x)
 below_apart f x i = grind (arith, nat_tests)
 
 pub below_skip : (f : ℕ → Bool) (x i : ℕ) → f x ≡ false → (ltb i x && f i) ≡ (ltb i (x + 1) && f i)
-below_skip f x i h = elim (cases_eq i x) [
-  | inl y ↦ (let w : f i ≡ false = ap f y ∙ h in grind (arith, nat_tests))
-  | inr q ↦ grind (arith, nat_tests)
-]
+below_skip f x i h = grind arith
 
 pub below_all : (f : ℕ → Bool) (w n i : ℕ) → (f i ≡ true → i < w) → w ≤ n → (ltb i n && f i) ≡ f i
-below_all f w n i h l = elim (cases_Bool (f i)) [
-  | inl t ↦ (let below : i < w = h t in grind (arith, nat_tests))
-  | inr e ↦ grind (arith, nat_tests)
-]
+below_all f w n i h l = grind arith
 
 pub none_below : (f : ℕ → Bool) (x : ℕ) → (ltb x 0 && f x) ≡ false
 none_below f x = grind (arith, nat_tests)

@@ -8,12 +8,9 @@ use Rattle.std.proofs.lemmas.Bool.{cases_lt, lt-leb, le-leb}
 use Rattle.std.proofs.lemmas.Bool.Decides.{nat_tests}
 use Rattle.vp_dots.specs.Dots.{bit, span}
 
-of_and : (x y : ℕ) → x < 2 → y < 2 → eqb (min x y) 1 ≡ (eqb x 1 && eqb y 1)
-of_and x y p q = grind (arith, nat_tests)
-
 pub bit_of_and : (a b k : ℕ) → bit (bit_and a b) k ≡ (bit a k && bit b k)
 unfolding bit
-bit_of_and a b k = rw (bit_at_and a b k) (of_and _ _ (bit_at-lt a k) (bit_at-lt b k))
+bit_of_and a b k = grind (arith, bit_at_and)
 
 of_not : (x : ℕ) → x < 2 → eqb (1 - x) 1 ≡ not (eqb x 1)
 of_not x p = grind (arith, nat_tests)

@@ -1,6 +1,6 @@
 -- Squares that are turned.
 use Rattle.std.proofs.Common.{inl, inr, ◌≡◌, ℕ, ◌+◌, ◌-◌, ◌*◌, ◌/◌, ◌%◌, ◌^◌, ◌<◌, Bool, true, false, not, cond, eqb, ltb, leb, ◌&&◌, refl, ap, ◌∙◌, arith, List, length, get_or, set, get_or-set_same, get_or-set_other, length-set, bit_and, bit_or}
-use Rattle.std.proofs.lemmas.Bool.{eqb-true, and_parts, cases_eq, cases_lt, ltb-true, lt-ltb, le-ltb, lt-leb, le-leb}
+use Rattle.std.proofs.lemmas.Bool.{eqb-true, and_parts, cases_eq, cases_lt, lt-ltb, le-ltb, lt-leb, le-leb}
 use Rattle.vp_dots.specs.Dots.{bit}
 use Rattle.vp_dots.specs.Words.{word_dot}
 use Rattle.vp_dots.specs.Squares.{row_from, column_from}
@@ -10,52 +10,21 @@ use Rattle.vp_dots.proofs.Cuts.{bit_low64, bit_of_and_not64}
 use Rattle.vp_dots.proofs.Words.{bit_shr, bit_shl, bit_above, and_false}
 use Rattle.vp_dots.proofs.Swaps.{every, every_at}
 
-left_cases : (a b c l u : Bool) → (a && c) ≡ not l → cond (a && (b && c)) true (u && l) ≡ cond l u b
-left_cases true true true true u h = cc
-left_cases true true true false true h = refl
-left_cases true true true false false h = refl
-left_cases true true false true true h = refl
-left_cases true true false true false h = refl
-left_cases true true false false u h = cc
-left_cases true false true true u h = cc
-left_cases true false true false true h = refl
-left_cases true false true false false h = refl
-left_cases true false false true true h = refl
-left_cases true false false true false h = refl
-left_cases true false false false u h = cc
-left_cases false b c true true h = refl
-left_cases false b c true false h = refl
-left_cases false b c false u h = cc
-
 right_cases : (l m u v : Bool) → l ≡ not m → cond (cond l false v) true (cond m false u) ≡ cond l u v
-right_cases true true u v h = cc
-right_cases true false u v h = refl
-right_cases false true u true h = refl
-right_cases false true u false h = refl
-right_cases false false u v h = cc
+right_cases l m u v h = grind arith
 
 last_cases : (l v : Bool) → cond (cond l false v) true false ≡ cond l false v
-last_cases true v = refl
-last_cases false true = refl
-last_cases false false = refl
+last_cases l v = grind arith
 
 module _ (s left upper lower : ℕ) (fits : left < 2 ^ 64) (parts : (x : ℕ) → x < 64 → (leb s x && word_dot left (x - s)) ≡ not (word_dot left x)) where
   moved_right : (x : ℕ) → x < 64 → bit (bit_and lower left / 2 ^ s) (63 - x) ≡ (leb s x && (word_dot lower (x - s) && word_dot left (x - s)))
-  moved_right x h = bit_shr (bit_and lower left) s (63 - x) ∙ bit_of_and lower left (s + (63 - x)) ∙ elim (cases_lt x s) [
-    | inl l ↦ rw (lt-leb s x l, bit_above left (s + (63 - x)) fits (omega arith)) (and_false _)
-    | inr g ↦ (let e : s + (63 - x) ≡ 63 - (x - s) = omega arith in rw (le-leb s x g, lt-ltb (x - s) 64 (omega arith), e) refl)
-  ]
+  moved_right x h = grind (arith, bit_shr, bit_of_and, cases_lt, lt-leb, bit_above, and_false, le-leb, lt-ltb)
 
   pub left_dot : (x : ℕ) → x < 64 → word_dot (bit_or (bit_and upper left) (bit_and lower left / 2 ^ s)) x ≡ cond (word_dot left x) (word_dot upper x) (word_dot lower (x - s))
-  left_dot x h =
-      rw (lt-ltb x 64 h) (bit_of_or (bit_and upper left) (bit_and lower left / 2 ^ s) (63 - x)
-      ∙ ap (λ b. cond b true (bit (bit_and upper left) (63 - x))) (moved_right x h)
-      ∙ ap (λ b. cond (leb s x && (word_dot lower (x - s) && word_dot left (x - s))) true b) (bit_of_and upper left (63 - x))
-      ∙ left_cases (leb s x) (word_dot lower (x - s)) (word_dot left (x - s)) (bit left (63 - x)) (bit upper (63 - x)) (parts x h ∙ ap not (ap (λ b. b && bit left (63 - x)) (lt-ltb x 64 h))))
+  left_dot x h = grind (arith, lt-ltb, bit_of_or, moved_right, bit_of_and)
 
   moved_left : (x : ℕ) → x < 64 → bit (bit_and upper (2 ^ 64 - 1 - left) * 2 ^ s % 2 ^ 64) (63 - x) ≡ (leb s (63 - x) && cond (bit left (63 - x - s)) false (bit upper (63 - x - s)))
-  moved_left x h = bit_low64 (bit_and upper (2 ^ 64 - 1 - left) * 2 ^ s) (63 - x) (omega arith) ∙ bit_shl (bit_and upper (2 ^ 64 - 1 - left)) s (63 - x)
-      ∙ ap (λ b. leb s (63 - x) && b) (bit_of_and_not64 upper left (63 - x - s) fits (omega arith))
+  moved_left x h = grind (arith, bit_low64, bit_shl, bit_of_and_not64)
 
   pub right_dot : (x : ℕ) → x < 64 → word_dot (bit_or (bit_and upper (2 ^ 64 - 1 - left) * 2 ^ s % 2 ^ 64) (bit_and lower (2 ^ 64 - 1 - left))) x ≡ cond (word_dot left x) (word_dot upper (x + s)) (word_dot lower x)
   right_dot x h =
@@ -77,28 +46,10 @@ pub record Stepped (wide left n : ℕ) (rows new : List ℕ) : Type 0 where
 
 module _ (wide i x y : ℕ) (rows : List ℕ) where
   from_even : (l : Bool) → y ≡ 2 * i → cond l (word_dot (get_or rows i 0) x) (word_dot (get_or rows (i + 32) 0) (x - wide)) ≡ word_dot (get_or rows (row_from l y) 0) (column_from l wide x y)
-  from_even true e =
-      let p : y / 2 ≡ i = omega arith in
-      let m : y % 2 ≡ 0 = omega arith in
-      let q : x + wide * (y % 2) ≡ x = ap (λ n. x + wide * n) m ∙ omega arith in
-      rw (p, q) refl
-  from_even false e =
-      let p : 32 + y / 2 ≡ i + 32 = omega arith in
-      let m : y % 2 ≡ 0 = omega arith in
-      let q : x + wide * (y % 2) - wide ≡ x - wide = ap (λ n. x + wide * n - wide) m ∙ omega arith in
-      rw (p, q) refl
+  from_even l e = grind arith
 
   from_odd : (l : Bool) → y ≡ 2 * i + 1 → cond l (word_dot (get_or rows i 0) (x + wide)) (word_dot (get_or rows (i + 32) 0) x) ≡ word_dot (get_or rows (row_from l y) 0) (column_from l wide x y)
-  from_odd true e =
-      let p : y / 2 ≡ i = omega arith in
-      let m : y % 2 ≡ 1 = omega arith in
-      let q : x + wide * (y % 2) ≡ x + wide = ap (λ n. x + wide * n) m ∙ omega arith in
-      rw (p, q) refl
-  from_odd false e =
-      let p : 32 + y / 2 ≡ i + 32 = omega arith in
-      let m : y % 2 ≡ 1 = omega arith in
-      let q : x + wide * (y % 2) - wide ≡ x = ap (λ n. x + wide * n - wide) m ∙ omega arith in
-      rw (p, q) refl
+  from_odd l e = grind arith
 
 -- two more rows
 pub step_more : (wide left i a b : ℕ) (rows new : List ℕ) → i < 32 → length new ≡ 64
@@ -132,10 +83,7 @@ record Came (k : ℕ → ℕ → Bool) (x y : ℕ) (rows new : List ℕ) : Type 
 
 came : (wide left : ℕ) (k : ℕ → ℕ → Bool) (x y : ℕ) (rows new : List ℕ) → Stepped wide left 64 rows new → x < 64 → y < 64 → at_source wide left k x y ≡ true → Came k x y rows new
 unfolding at_source
-came wide left k x y rows new p h l e =
-    let a = and_parts _ _ e in
-    let b = and_parts _ _ a.1 in
-    record { u = column_from (word_dot left x) wide x y; v = row_from (word_dot left x) y; column = ltb-true _ 64 a.0; row = ltb-true _ 64 b.0; passes = b.1; same = p.dots_are x y h l }
+came wide left k x y rows new p h l e = grind arith
 
 -- six steps turn a square
 turn_test : (x y : ℕ) → x < 64 → y < 64

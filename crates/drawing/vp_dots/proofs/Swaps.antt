@@ -9,34 +9,6 @@ use Rattle.vp_dots.specs.Swaps.{swap_place}
 use Rattle.vp_dots.proofs.Words.{bit_shr, bit_shl, and_false}
 use Rattle.vp_dots.proofs.Cuts.{bit_low64}
 
--- x, y and z: a bit, the one s above it and the one s below it; m and l: whether the mask has it and the one below it
-swap_cases : (x y z m l : Bool) → (m && l) ≡ false → cond (cond x (not z) z && l) (not (cond (cond y (not x) x && m) (not x) x)) (cond (cond y (not x) x && m) (not x) x) ≡ cond m y (cond l z x)
-swap_cases x y z true true h = cc
-swap_cases true true true true false h = refl
-swap_cases true true true false true h = refl
-swap_cases true true true false false h = refl
-swap_cases true true false true false h = refl
-swap_cases true true false false true h = refl
-swap_cases true true false false false h = refl
-swap_cases true false true true false h = refl
-swap_cases true false true false true h = refl
-swap_cases true false true false false h = refl
-swap_cases true false false true false h = refl
-swap_cases true false false false true h = refl
-swap_cases true false false false false h = refl
-swap_cases false true true true false h = refl
-swap_cases false true true false true h = refl
-swap_cases false true true false false h = refl
-swap_cases false true false true false h = refl
-swap_cases false true false false true h = refl
-swap_cases false true false false false h = refl
-swap_cases false false true true false h = refl
-swap_cases false false true false true h = refl
-swap_cases false false true false false h = refl
-swap_cases false false false true false h = refl
-swap_cases false false false false true h = refl
-swap_cases false false false false false h = refl
-
 module _ (n s mask : ℕ) where
   differ_bit : (i : ℕ) → bit (bit_and (bit_xor n (n / 2 ^ s)) mask) i ≡ (cond (bit n (s + i)) (not (bit n i)) (bit n i) && bit mask i)
   differ_bit i = bit_of_and (bit_xor n (n / 2 ^ s)) mask i ∙ ap (λ b. b && bit mask i) (bit_of_xor n (n / 2 ^ s) i ∙ ap (λ b. cond b (not (bit n i)) (bit n i)) (bit_shr n s i))
@@ -49,20 +21,11 @@ module _ (n s mask : ℕ) where
   ]
 
   place : (i : ℕ) (m l : Bool) → cond m (bit n (s + i)) (cond l (bit n (i - s)) (bit n i)) ≡ bit n (cond m (s + i) (cond l (i - s) i))
-  place i true l = refl
-  place i false true = refl
-  place i false false = refl
+  place i m l = grind arith
 
   pub swap_bits : (i : ℕ) → i < 64 → (bit mask i && (leb s i && bit mask (i - s))) ≡ false
       → bit (bit_xor (bit_xor n (bit_and (bit_xor n (n / 2 ^ s)) mask)) (bit_and (bit_xor n (n / 2 ^ s)) mask * 2 ^ s % 2 ^ 64)) i ≡ bit n (swap_place mask s i)
-  swap_bits i h e =
-      let d = bit_and (bit_xor n (n / 2 ^ s)) mask in
-      let x = bit n i in
-      bit_of_xor (bit_xor n d) (d * 2 ^ s % 2 ^ 64) i
-      ∙ ap (λ b. cond b (not (bit (bit_xor n d) i)) (bit (bit_xor n d) i)) (moved_bit i h)
-      ∙ ap (λ b. cond (cond x (not (bit n (i - s))) (bit n (i - s)) && (leb s i && bit mask (i - s))) (not b) b) (bit_of_xor n d i ∙ ap (λ b. cond b (not x) x) (differ_bit i))
-      ∙ swap_cases x (bit n (s + i)) (bit n (i - s)) (bit mask i) (leb s i && bit mask (i - s)) e
-      ∙ place i (bit mask i) (leb s i && bit mask (i - s))
+  swap_bits i h e = grind (arith, bit_of_xor, moved_bit, differ_bit, place)
 
 -- a test that each number below n passes
 abbrev pub every : ℕ → (ℕ → Bool) → Bool

@@ -1,5 +1,5 @@
 -- The bits of words, and of their bytes.
-use Rattle.std.proofs.Common.{inl, inr, ◌≡◌, ℕ, zero, suc, ◌+◌, ◌-◌, ◌*◌, ◌/◌, ◌%◌, ◌^◌, ◌<◌, ltb, ◌≤◌, Bool, true, false, eqb, leb, ◌&&◌, ◌||◌, eq-eqb, refl, sym, ap, ◌∙◌, arith, bit_and, [], ◌∷◌, get_or}
+use Rattle.std.proofs.Common.{inl, inr, ◌≡◌, ℕ, zero, suc, ◌+◌, ◌-◌, ◌*◌, ◌/◌, ◌%◌, ◌^◌, ◌<◌, ◌≤◌, Bool, true, false, eqb, leb, ◌&&◌, ◌||◌, eq-eqb, refl, sym, ap, ◌∙◌, arith, bit_and, [], ◌∷◌, get_or}
 use Rattle.std.specs.Int.{bit_at, byte_at, bytes_high_first, to_be_bytes, w64}
 use Rattle.std.proofs.lemmas.Nat.{shr-shr, pow-add, pow_pos}
 use Rattle.std.proofs.lemmas.Nat.Bits.{bit_at-zero, bit_at_cat_low, bit_at_cat_high, bit_at_above}
@@ -10,16 +10,13 @@ use Rattle.vp_dots.proofs.Rows.{dot_past}
 use Rattle.vp_dots.specs.Words.{word_dot}
 
 pub and_true : (b : Bool) → (b && true) ≡ b
-and_true true = refl
-and_true false = refl
+and_true b = grind arith
 
 pub and_false : (b : Bool) → (b && false) ≡ false
-and_false true = refl
-and_false false = refl
+and_false b = grind arith
 
 pub or_false : (b : Bool) → b ≡ (b || false)
-or_false true = refl
-or_false false = refl
+or_false b = grind arith
 
 -- a bit of a number moved to the right
 pub bit_shr : (n s k : ℕ) → bit (n / 2 ^ s) k ≡ bit n (s + k)
@@ -41,8 +38,7 @@ bytes_pow zero = refl
 bytes_pow (suc i) = ap (λ x. 256 ^ x) (let e : suc i ≡ i + 1 = omega arith in e) ∙ pow-add 256 i 1 ∙ ap (λ x. x * 256) (bytes_pow i) ∙ sym (ap (λ x. 2 ^ x) (let e : 8 * suc i ≡ 8 * i + 8 = omega arith in e) ∙ pow-add 2 (8 * i) 8)
 
 byte_is : (i n : ℕ) → byte_at i n ≡ n / 2 ^ (8 * i) % 256
-byte_is zero n = omega arith
-byte_is (suc i) n = ap (λ x. n / x % 256) (bytes_pow (suc i))
+byte_is i n = grind (arith, bytes_pow)
 
 high_first : (m n j : ℕ) → j < m → get_or (bytes_high_first m n) j 0 ≡ byte_at (m - 1 - j) n
 high_first zero n j h = absurd (omega arith)
@@ -68,10 +64,7 @@ word_row n x = elim (cases_lt x 64) [
 
 -- a word moved to the right
 pub word_shr : (n s x : ℕ) → n < 2 ^ 64 → x < 64 → bit (n / 2 ^ s) (63 - x) ≡ (leb s x && bit n (63 - (x - s)))
-word_shr n s x p h = bit_shr n s (63 - x) ∙ elim (cases_lt x s) [
-  | inl l ↦ rw (lt-leb s x l) (bit_above n (s + (63 - x)) p (omega arith))
-  | inr g ↦ rw (le-leb s x g) (ap (bit n) (omega arith))
-]
+word_shr n s x p h = grind (arith, bit_shr, lt-leb, bit_above, le-leb)
 
 -- a bit of a number moved to the left
 pub bit_shl : (a n k : ℕ) → bit (a * 2 ^ n) k ≡ (leb n k && bit a (k - n))
@@ -95,56 +88,21 @@ lost_bit word s k p h =
 module _ (word far d : ℕ) (fits : word < 2 ^ 64) where
   -- the dots that stay in eight bytes
   pub front : d / 8 < far / 8 + 8 → (leb (8 * (far / 8)) d && word_dot (word / 2 ^ (far % 8)) (d - 8 * (far / 8))) ≡ (leb far d && word_dot word (d - far))
-  front l = elim (cases_lt d (8 * (far / 8))) [
-    | inl b ↦ rw (lt-leb (8 * (far / 8)) d b, lt-leb far d (omega arith)) refl
-    | inr g ↦ rw (le-leb (8 * (far / 8)) d g, lt-ltb (d - 8 * (far / 8)) 64 (omega arith)) (word_shr word (far % 8) (d - 8 * (far / 8)) fits (omega arith) ∙ elim (cases_lt (d - 8 * (far / 8)) (far % 8)) [
-      | inl b ↦ rw (lt-leb (far % 8) (d - 8 * (far / 8)) b, lt-leb far d (omega arith)) refl
-      | inr h ↦ rw (le-leb (far % 8) (d - 8 * (far / 8)) h, le-leb far d (omega arith), lt-ltb (d - far) 64 (omega arith)) (ap (bit word) (omega arith))
-    ])
-  ]
+  front l = grind (arith, lt-leb, le-leb, lt-ltb, word_shr)
 
   module _ (rest : ℕ) (is : (k : ℕ) → k < 8 → bit rest k ≡ (leb (8 - far % 8) k && bit word (k - (8 - far % 8)))) where
     -- and the others
     pub whole : (leb far d && word_dot word (d - far)) ≡ (leb (8 * (far / 8)) d && word_dot (word / 2 ^ (far % 8)) (d - 8 * (far / 8)) || eqb (d / 8) (far / 8 + 8) && bit rest (7 - d % 8))
-    whole = elim (cases_lt (d / 8) (far / 8 + 8)) [
-      | inl l ↦ rw (ne_eqb (d / 8) (far / 8 + 8) (λ e. absurd (omega arith))) (sym (front l) ∙ or_false _)
-      | inr g ↦ rw (le-leb far d (omega arith), le-leb (8 * (far / 8)) d (omega arith), le-ltb (d - 8 * (far / 8)) 64 (omega arith)) (elim (cases_eq (d / 8) (far / 8 + 8)) [
-        | inl y ↦ rw (eq-eqb (d / 8) (far / 8 + 8) y) (last y ∙ sym (is (7 - d % 8) (omega arith)))
-        | inr n ↦ rw (ne_eqb (d / 8) (far / 8 + 8) n, le-ltb (d - far) 64 (omega arith)) refl
-      ])
-    ]
-      where
-        last : d / 8 ≡ far / 8 + 8 → word_dot word (d - far) ≡ (leb (8 - far % 8) (7 - d % 8) && bit word (7 - d % 8 - (8 - far % 8)))
-        last y = elim (cases_lt (d - far) 64) [
-          | inl l ↦ rw (lt-ltb (d - far) 64 l, le-leb (8 - far % 8) (7 - d % 8) (omega arith)) (ap (bit word) (omega arith))
-          | inr g ↦ rw (le-ltb (d - far) 64 g, lt-leb (8 - far % 8) (7 - d % 8) (omega arith)) refl
-        ]
+    whole = grind (arith, cases_lt, ne_eqb, front, le-leb, le-ltb, cases_eq, eq-eqb, lt-ltb, lt-leb)
 
   pub apart : (rest : ℕ) → (leb (8 * (far / 8)) d && word_dot (word / 2 ^ (far % 8)) (d - 8 * (far / 8)) && (eqb (d / 8) (far / 8 + 8) && bit rest (7 - d % 8))) ≡ false
-  apart rest = elim (cases_lt (d / 8) (far / 8 + 8)) [
-    | inl l ↦ rw (ne_eqb (d / 8) (far / 8 + 8) (λ e. absurd (omega arith))) (and_false _)
-    | inr g ↦ rw (le-leb (8 * (far / 8)) d (omega arith), le-ltb (d - 8 * (far / 8)) 64 (omega arith)) refl
-  ]
+  apart rest = grind arith
 
 -- one of the bytes of a word
 pub byte_bit : (word i j k : ℕ) → j < 8 → k < 8 → bit (bit_and (word / 2 ^ (56 - 8 * j)) 255) k ≡ (leb (8 * i) (8 * (i + j) + (7 - k)) && word_dot word (8 * (i + j) + (7 - k) - 8 * i))
-byte_bit word i j k p h =
-    let e : 8 * (i + j) + (7 - k) - 8 * i ≡ 8 * j + (7 - k) = omega arith in
-    rw (le-leb (8 * i) (8 * (i + j) + (7 - k)) (omega arith), e, lt-ltb (8 * j + (7 - k)) 64 (omega arith))
-    (bit_of_and (word / 2 ^ (56 - 8 * j)) 255 k ∙ ap (λ b. bit (word / 2 ^ (56 - 8 * j)) k && b) (bit_of_all k h) ∙ and_true _ ∙ bit_shr word (56 - 8 * j) k ∙ ap (bit word) (omega arith))
-
--- a word of few dots, in n bytes
-pub few_bytes : (word n at d : ℕ) → word < 2 ^ 64 → n ≤ 8 → ((x : ℕ) → 8 * n < x + 8 → word_dot word x ≡ false)
-    → (ltb (d / 8) (at / 8 + n) && (leb (8 * (at / 8)) d && word_dot (word / 2 ^ (at % 8)) (d - 8 * (at / 8)))) ≡ (leb at d && word_dot word (d - at))
-few_bytes word n at d fits small few = elim (cases_lt (d / 8) (at / 8 + n)) [
-  | inl l ↦ rw (lt-ltb (d / 8) (at / 8 + n) l) (front word at d fits (omega arith))
-  | inr g ↦ rw (le-ltb (d / 8) (at / 8 + n) g, few (d - at) (omega arith)) (sym (and_false (leb at d)))
-]
+byte_bit word i j k p h = grind (arith, le-leb, lt-ltb, bit_of_and, bit_of_all, bit_shr)
 
 -- a word of few dots, in eight bytes
 pub narrow_bytes : (word at d : ℕ) → word < 2 ^ 64 → ((x : ℕ) → 56 < x → word_dot word x ≡ false)
     → (leb (8 * (at / 8)) d && word_dot (word / 2 ^ (at % 8)) (d - 8 * (at / 8))) ≡ (leb at d && word_dot word (d - at))
-narrow_bytes word at d fits few = elim (cases_lt (d / 8) (at / 8 + 8)) [
-  | inl l ↦ front word at d fits l
-  | inr g ↦ rw (le-ltb (d - 8 * (at / 8)) 64 (omega arith), few (d - at) (omega arith)) (and_false (leb (8 * (at / 8)) d) ∙ sym (and_false (leb at d)))
-]
+narrow_bytes word h d fits few = grind (arith, cases_lt, front, le-ltb)
