@@ -7,7 +7,7 @@ ghost use Rattle.vp_dots.specs.declared.Op.TheVariants.{Black, White, Flip};
 
 use crate::Op;
 use crate::single::painted_byte;
-use std::simd::Simd;
+use std::simd::u8x32;
 
 /// Eight bits out of two bytes, s from the right.
 #[tactic(auto, using(crate::proofs::Windows::window_bit))]
@@ -60,15 +60,15 @@ fn paint_byte_left(op: Op, source: &[u8], s: u32, i: usize, row: &mut [u8])
     }
 }
 
-/// Applies the operation to N bytes of the row, where the same bytes of the source are set.
+/// Applies the operation to 32 bytes of the row, where the same bytes of the source are set.
 #[inline(always)]
-fn paint_block<const N: usize>(op: Op, source: &[u8], i: usize, row: &mut [u8])
-    requires source { i + N ≤ length source.now }
-    requires row { i + N ≤ length row.old }
-    ensures { Painted op (λ d. span i (i + N) (d / 8) && dot source.now d) row.old row.new }
+fn paint_block(op: Op, source: &[u8], i: usize, row: &mut [u8])
+    requires source { i + 32 ≤ length source.now }
+    requires row { i + 32 ≤ length row.old }
+    ensures { Painted op (λ d. span i (i + 32) (d / 8) && dot source.now d) row.old row.new }
 {
-    let ink = Simd::<u8, N>::from_slice(&source[i..]);
-    let old = Simd::<u8, N>::from_slice(&row[i..]);
+    let ink = u8x32::from_slice(&source[i..]);
+    let old = u8x32::from_slice(&row[i..]);
     let new = match op {
         Op::Black => old | ink,
         Op::White => old & !ink,
@@ -85,12 +85,8 @@ fn paint_straight(op: Op, source: &[u8], row: &mut [u8])
     let n = source.len().min(row.len());
     let mut i = 0;
     while n - i >= 32 {
-        paint_block::<32>(op, source, i, row);
+        paint_block(op, source, i, row);
         i += 32;
-    }
-    while n - i >= 8 {
-        paint_block::<8>(op, source, i, row);
-        i += 8;
     }
     while i < n {
         row[i] = painted_byte(op, row[i], source[i]);

@@ -1,5 +1,5 @@
 //! Characters of sheet A at any size.
-ghost use Rattle.std.specs.Prelude.{◌≡◌, ℕ, ◌+◌, ◌-◌, ◌*◌, ◌/◌, ◌<◌, ◌≤◌, ◌^◌, nat_le, min, ◌&&◌, pos, ◌+ℤ◌};
+ghost use Rattle.std.specs.Prelude.{◌≡◌, ℕ, ◌+◌, ◌-◌, ◌*◌, ◌/◌, ◌<◌, ◌≤◌, ◌^◌, nat_le, min, ◌&&◌, true, pos, ◌+ℤ◌, ◌<ℤ◌};
 ghost use Rattle.std.specs.Int.{div_ceil};
 ghost use Rattle.vp_dots.specs.Dots.{shifted};
 ghost use Rattle.vp_dots.specs.Painting.{Painted};
@@ -60,16 +60,18 @@ pub fn cell_front<A: Small>(
     character: u8,
     source: usize,
     stretch: &Stretch,
+    doubled: bool,
     at: i64,
     left: u32,
 ) -> u64
-    requires { left + stretch.now.width < 2 ^ 32 }
+    requires doubled { doubled ≡ true → (stretch.now.width ≡ 24) × (at <ℤ pos (2 ^ 40)) }
+    requires fits { left + stretch.now.width < 2 ^ 32 }
     ensures { (h y : ℕ) → y < h → source ≡ y * 24 / h → (d : ℕ) → d < 64 → word_dot result d
         ≡ shifted at (λ x. nat_le left x
         && sampled_dot sheet.now character stretch.now.width h (x - left) y) d }
 {
     let word = row_at(rows_in(sheet, character), source);
-    stretch.front(word, at, left)
+    stretch.front(doubled, word, at, left)
 }
 
 /// Which row of a cell is shown in row y of a character that is drawn `high` rows high.

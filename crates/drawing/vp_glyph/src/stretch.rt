@@ -1,5 +1,5 @@
 //! The dots of a row of a character, each drawn at another width.
-ghost use Rattle.std.specs.Prelude.{◌≡◌, ℕ, ◌+◌, ◌-◌, ◌*◌, ◌/◌, ◌<◌, ◌≤◌, ◌^◌, nat_lt, nat_le, ◌&&◌, ◌||◌, pos, ◌+ℤ◌, ◌<ℤ◌, ◌≤ℤ◌, ◌⊎◌, length, slice_index};
+ghost use Rattle.std.specs.Prelude.{◌≡◌, ℕ, ◌+◌, ◌-◌, ◌*◌, ◌/◌, ◌<◌, ◌≤◌, ◌^◌, nat_lt, nat_le, ◌&&◌, ◌||◌, true, pos, ◌+ℤ◌, ◌<ℤ◌, ◌≤ℤ◌, ◌⊎◌, length, slice_index};
 ghost use Rattle.vp_dots.specs.Dots.{shifted, span};
 ghost use Rattle.vp_dots.specs.Painting.{Painted};
 ghost use Rattle.vp_dots.specs.Words.{word_dot};
@@ -222,14 +222,24 @@ impl Stretch {
         moved_word(self.of(word), moved(at, left))
     }
 
-    /// The first 64 dots of a row on which the first twelve dots of a word stand, from a place on.
+    /// Whether at an offset each of the twelve dots is known to fall on two.
     #[inline(always)]
-    pub fn front(&self, word: u64, at: i64, left: u32) -> u64
+    pub fn doubles(&self, at: i64) -> bool
+        ensures { result ≡ true → (self.now.width ≡ 24) × (at <ℤ pos (2 ^ 40)) }
+    {
+        self.width == 2 * CELL && at < FAR
+    }
+
+    /// The first 64 dots of a row on which the first twelve dots of a word stand, from a place on.
+    // Whether they are doubled comes from the caller, which asks it once for many words.
+    #[inline(always)]
+    pub fn front(&self, doubled: bool, word: u64, at: i64, left: u32) -> u64
+        requires doubled { doubled ≡ true → (self.now.width ≡ 24) × (at <ℤ pos (2 ^ 40)) }
         requires fits { left + self.now.width < 2 ^ 32 }
         ensures { (d : ℕ) → d < 64 → word_dot result d ≡ shifted at (λ x. nat_le left x
             && nat_lt (x - left) self.now.width && word_dot word ((x - left) * 12 / self.now.width)) d }
     {
-        if self.width == 2 * CELL && at < FAR {
+        if doubled {
             return moved_word(self.twice(word), moved(at, left));
         }
         self.front_by_masks(word, at, left)
@@ -309,8 +319,9 @@ impl Stretch {
             self.add_wide(cell, at, left, rows);
             return;
         }
+        let doubled = self.doubles(at);
         for s in 0..24usize {
-            rows[s] |= left_half(self.front(row_at(cell, s), at, left));
+            rows[s] |= left_half(self.front(doubled, row_at(cell, s), at, left));
         }
     }
 

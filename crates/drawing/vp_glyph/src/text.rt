@@ -1,5 +1,5 @@
 //! The cells of a text side by side.
-ghost use Rattle.std.specs.Prelude.{◌≡◌, ℕ, ◌*◌, ◌<◌, ◌≤◌, ◌^◌, true, length};
+ghost use Rattle.std.specs.Prelude.{◌≡◌, ℕ, ◌*◌, ◌<◌, ◌≤◌, ◌^◌, ◌<ℤ◌, true, pos, length};
 ghost use Rattle.vp_dots.specs.Dots.{dots, shifted};
 ghost use Rattle.vp_dots.specs.Painting.{Painted};
 ghost use Rattle.vp_glyph.specs.Texts.{text_dot, seen_cells};
@@ -45,10 +45,13 @@ fn paint_cells<A: Small>(
 }
 
 /// Paints line y of the cells of a text on a row that is no longer than a word: how many cells are painted.
+// Inlined, so that each caller's loop knows whether dots are doubled.
+#[inline(always)]
 fn paint_short<A: Small>(
     sheet: &Option<Sheet<A>>,
     text: &[u8],
     stretch: &Stretch,
+    doubled: bool,
     h: u32,
     y: u32,
     op: Op,
@@ -58,6 +61,7 @@ fn paint_short<A: Small>(
     requires some { 0 < stretch.now.width }
     requires fits { stretch.now.width * length text.now < 2 ^ 32 }
     requires short { length row.old ≤ 8 }
+    requires doubled { doubled ≡ true → (stretch.now.width ≡ 24) × (at <ℤ pos (2 ^ 40)) }
     ensures painted { Painted op (shifted at (λ x. text_dot sheet.now text.now stretch.now.width h x y))
         row.old row.new }
     ensures most { result ≤ seen_cells (length text.now) stretch.now.width (dots row.old) }
@@ -74,7 +78,7 @@ fn paint_short<A: Small>(
     let mut k = first as usize;
     let mut front = 0u64;
     while k < text.len() && w * (k as u32) < to {
-        front |= cell_front(sheet, text[k], source, stretch, at, w * k as u32);
+        front |= cell_front(sheet, text[k], source, stretch, doubled, at, w * k as u32);
         k += 1;
     }
     paint_word(op, front, 0, row);
@@ -102,7 +106,10 @@ pub fn paint_text<A: Small>(
         → shifted at (λ x. text_dot sheet.now text.now stretch.now.width h x y) d ≡ true → 0 < result }
 {
     if row.len() <= 8 {
-        return paint_short(sheet, text, stretch, h, y, op, at, row);
+        if stretch.doubles(at) {
+            return paint_short(sheet, text, stretch, true, h, y, op, at, row);
+        }
+        return paint_short(sheet, text, stretch, false, h, y, op, at, row);
     }
     match op {
         Op::Black => paint_cells(sheet, text, stretch, h, y, Op::Black, at, row),
