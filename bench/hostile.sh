@@ -146,6 +146,10 @@ laid 'three of the widest lines and a wipe' widest-right
 laid 'the same, upward' widest-up
 laid 'the same, from the right' widest-left
 laid 'the same, downward' widest-down
+laid 'three lines that leave some dots white, and a wipe' nearly-widest-right
+laid 'the same, upward' nearly-widest-up
+laid 'the same, from the right' nearly-widest-left
+laid 'the same, downward' nearly-widest-down
 laid 'the widest lines alone, upward' widest-alone
 laid 'four of font B and a wipe, upward' widest-of-font-b
 laid 'a QR symbol of 912 dots and a wipe, upward' large-codes-up
