@@ -98,6 +98,8 @@ measure 'the same, three lines in turn' '^PW1248' 1024 \
 # each line of another character, from ! on without those that mean something to the reader
 lines=$(awk 'BEGIN { for (i = 33; i < 85; i++) { c = sprintf("%c", i); printf "%s%s%s%s%s", c, c, c, c, c } }')
 measure 'the same, each line another' '^PW1248' 1024 "^A0B,1500,1500^FB8000,9999,-1495,L^FD$lines^FS"
+# as much paper as the boxes print
+measure 'the same in 39 copies of 32 dots' '^PW32^PQ39' 1024 "^A0B,1500,1500^FB8000,9999,-1495,L^FD$lines^FS"
 words=$(repeated 200 A)
 measure 'a turned block of lines of three cells over each other' '^PW1248' 1 \
     "^A0R,1500,1500^FB5000,10,0,R^FD$(repeated 1300 "$words ")^FS"

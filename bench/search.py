@@ -194,6 +194,7 @@ LABELS = {
     "near-in-turn": ("", "^A0B,1500,1500^FB8000,9999,-1495,L^FD" + 25 * "AAAAA@@@@@" + 5 * "A"),
     "near-in-threes": ("", "^A0B,1500,1500^FB8000,9999,-1495,L^FD" + 17 * "AAAAA@@@@@MMMMM"),
     "near-unlike": ("", "^A0B,1500,1500^FB8000,9999,-1495,L^FD" + "".join(5 * chr(it) for it in range(33, 85))),
+    "narrow-copies": ("^PW32^PQ39", "^A0B,1500,1500^FB8000,9999,-1495,L^FD" + "".join(5 * chr(it) for it in range(33, 85))),
     "wide": ("", "^A0N,1500,1248^FB1248,9999,-1499^FD" + 250 * "A"),
     "turned-bars": ("", "^BY1^BCR,1248,N^FD>:" + 238 * "7"),
     "high-bars": ("", "^BCN,8000,N^FD>:" + 234 * "A"),
