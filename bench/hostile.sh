@@ -98,8 +98,7 @@ measure 'the same, three lines in turn' '^PW1248' 1024 \
 # each line of another character, from ! on without those that mean something to the reader
 lines=$(awk 'BEGIN { for (i = 33; i < 85; i++) { c = sprintf("%c", i); printf "%s%s%s%s%s", c, c, c, c, c } }')
 measure 'the same, each line another' '^PW1248' 1024 "^A0B,1500,1500^FB8000,9999,-1495,L^FD$lines^FS"
-# as much paper as the boxes print
-measure 'the same in 39 copies of 32 dots' '^PW32^PQ39' 1024 "^A0B,1500,1500^FB8000,9999,-1495,L^FD$lines^FS"
+measure 'the same on a label of 32 dots' '^PW32' 1024 "^A0B,1500,1500^FB8000,9999,-1495,L^FD$lines^FS"
 words=$(repeated 200 A)
 measure 'a turned block of lines of three cells over each other' '^PW1248' 1 \
     "^A0R,1500,1500^FB5000,10,0,R^FD$(repeated 1300 "$words ")^FS"
@@ -152,6 +151,8 @@ laid 'three lines that leave some dots white, and a wipe' nearly-widest-right
 laid 'the same, upward' nearly-widest-up
 laid 'the same, from the right' nearly-widest-left
 laid 'the same, downward' nearly-widest-down
+laid 'three lines that are underlined up to there, upward' underlined-up
+laid 'the same, downward' underlined-down
 laid 'the widest lines alone, upward' widest-alone
 laid 'four of font B and a wipe, upward' widest-of-font-b
 laid 'a QR symbol of 912 dots and a wipe, upward' large-codes-up

@@ -84,14 +84,14 @@ def pages(direction):
     return paged(direction, b"\x1b3\x18" + b"".join(line(columns) for _ in range(lines)))
 
 
-LARGEST, TO_TOP, CANCEL = b"\x1d!\x77", b"\x1d$\0\0", b"\x18"
+LARGEST, TO_TOP, CANCEL, UNDERLINED = b"\x1d!\x77", b"\x1d$\0\0", b"\x18", b"\x1b-\2"
 
 
-def widest(direction, spacing=255):
+def widest(direction, spacing=255, style=b"\x1dB\1"):
     """An area as large as a page that stands on no whole byte, and characters of which one makes a whole line of it black:
-    eight by eight times as large, spaced by so many times eight dots, and white on black."""
+    eight by eight times as large, spaced by so many times eight dots, and in a style: white on black."""
     area = b"\x1bW\1\0\1\0\x3f\x02\x7f\x06"
-    return area + b"\x1bT" + bytes([direction]) + LARGEST + b"\x1b " + bytes([spacing]) + b"\x1dB\1"
+    return area + b"\x1bT" + bytes([direction]) + LARGEST + b"\x1b " + bytes([spacing]) + style
 
 
 LARGE_CODE = b"\x1d(k\3\x001C\x10" + stored(271 * b"a")
@@ -114,6 +114,9 @@ AGAIN = {
     "nearly-widest-up": (widest(1, 162), 3 * b"A" + CANCEL),
     "nearly-widest-left": (widest(2, 50), 3 * b"A" + CANCEL),
     "nearly-widest-down": (widest(3, 162), 3 * b"A" + CANCEL),
+    # an underline ends before the line does
+    "underlined-up": (widest(1, 162, UNDERLINED), 3 * b"A" + CANCEL),
+    "underlined-down": (widest(3, 162, UNDERLINED), 3 * b"A" + CANCEL),
     "widest-alone": (widest(1), b"A"),
     "widest-of-font-b": (widest(1) + b"\x1bM\1", 4 * b"A" + CANCEL),
     "large-codes-up": (widest(1) + LARGE_CODE, DRAWN + CANCEL),

@@ -1,7 +1,8 @@
 #!/usr/bin/env python3
 """Looks for streams that hold the program up: search.py [--minutes M] [--bytes N] [--lanes L] [--seed S] [--vp VP]
 [receipt|label]. It makes streams of all commands of both languages, changes those that took longest for a byte, and says
-the ten worst of each language, each beside 1,024 boxes over a whole label, in as many copies as have its bytes of paper.
+the ten worst of each language, each beside 1,024 boxes over a whole label, in as many copies as have its rows of paper: a
+printer feeds a narrow row no faster than a wide one.
 Where one takes longer than it may (LIMITS), that is said, and the status is 1.
 
 A stream has a name, as label:7.1.52 or receipt:widest-up.3: the number, or the kind of streams of bench/hostile.sh, that it
@@ -23,9 +24,9 @@ from receipts import AGAIN
 
 ROOT = os.path.dirname(os.path.dirname(os.path.realpath(__file__)))
 FOUND = f"{ROOT}/bench/found.txt"
-# How many streams are kept to be changed, how many of them may have grown from one number, how many bytes of paper weigh
-# as much as a byte of the stream, and how many seconds a stream is given, and the program takes to start.
-KEPT, ALIKE, PAPER, LONGEST, START = 10, 2, 100, 60, 0.002
+# How many streams are kept to be changed, how many of them may have grown from one number, how many bytes of the stream a
+# row of paper weighs, and how many seconds a stream is given, and the program takes to start.
+KEPT, ALIKE, ROW, LONGEST, START = 10, 2, 1.5, 60, 0.002
 # How many times the boxes' time a stream of 300,000 bytes may take.
 LIMITS = {"label": 10, "receipt": 15}
 BOXES = b"^XA^PW1248^LL8000" + b"^FR^GB1248,8000,8000^FS" * 1024 + b"^XZ"
@@ -298,15 +299,26 @@ def made(name):
 
 def measured(vp, name, most):
     """Returns the microseconds of a processor that a stream takes for a byte, its seconds, and how many bytes it has and
-    prints."""
+    rows it prints."""
     stream = made(name)
     data = stream.bytes(most)
-    took, printed = ran(vp, stream.language, data)
-    return took * 1e6 / (max(1000, len(data)) + printed / PAPER), took, len(data), printed
+    took, rows = ran(vp, stream.language, data)
+    return took * 1e6 / (max(1000, len(data)) + rows * ROW), took, len(data), rows
+
+
+def rows_of(paper):
+    """Returns how many rows of dots stand in a file of PBM images."""
+    rows = 0
+    paper.seek(0)
+    while paper.readline() == b"P4\n":
+        wide, high = map(int, paper.readline().split())
+        rows += high
+        paper.seek((wide + 7) // 8 * high, os.SEEK_CUR)
+    return rows
 
 
 def ran(vp, language, data):
-    """Returns the seconds of a processor that a stream takes, and how many bytes it prints."""
+    """Returns the seconds of a processor that a stream takes, and how many rows it prints."""
     with tempfile.TemporaryFile(dir="/dev/shm") as given, tempfile.TemporaryFile(dir="/dev/shm") as paper:
         given.write(data)
         given.seek(0)
@@ -315,8 +327,8 @@ def ran(vp, language, data):
         resource.prlimit(run.pid, resource.RLIMIT_CPU, (LONGEST, LONGEST))
         resource.prlimit(run.pid, resource.RLIMIT_FSIZE, (1 << 28, 1 << 28))
         _, run.returncode, used = os.wait4(run.pid, 0)
-        printed = os.fstat(paper.fileno()).st_size
-    return max(0.0, used.ru_utime - START), printed
+        rows = rows_of(paper)
+    return max(0.0, used.ru_utime - START), rows
 
 
 def known():
@@ -379,10 +391,10 @@ def main():
     told = [f"{ROOT}/tools/dist/program"]
     given.vp = given.vp or subprocess.run(told, stdout=subprocess.PIPE, check=True).stdout.decode().strip()
     worst = [it for language in ("receipt", "label") if given.language in (None, language) for it in searched(given, language)]
-    (boxes, paper), status = min(ran(given.vp, "label", BOXES) for _ in range(3)), 0
-    for cost, seconds, size, printed, name in worst:
-        times = seconds / boxes / max(1, printed / paper)
-        print(f"{cost:8.2f} us a byte, {times:5.1f} times the boxes, {size:7} bytes, {printed:9} of paper: {name}")
+    (boxes, high), status = min(ran(given.vp, "label", BOXES) for _ in range(3)), 0
+    for cost, seconds, size, rows, name in worst:
+        times = seconds / boxes / max(1, rows / high)
+        print(f"{cost:8.2f} us a byte, {times:5.1f} times the boxes, {size:7} bytes, {rows:9} rows of paper: {name}")
         if times > LIMITS[name.partition(":")[0]]:
             print("    above the limit")
             status = 1

@@ -1,6 +1,5 @@
 -- Lines that are alike along some dots, and the rows of the page that are.
-use Rattle.std.proofs.Common.{bit_or, ◌≡◌, ℕ, ◌+◌, ◌-◌, ◌*◌, ◌/◌, ◌%◌, ◌<◌, ◌≤◌, Bool, true, false, not, cond, eqb, ltb, ◌&&◌, ◌||◌, refl, sym, ap, ◌∙◌, arith, List, [], length, get_or, replicate, bit_and}
-use Rattle.std.specs.Int.RustNames.{bit_xor}
+use Rattle.std.proofs.Common.{◌≡◌, ℕ, ◌+◌, ◌-◌, ◌*◌, ◌/◌, ◌%◌, ◌<◌, ◌≤◌, Bool, true, false, not, cond, eqb, ltb, ◌&&◌, ◌||◌, refl, sym, ap, ◌∙◌, arith, List, length, get_or, replicate, bit_and}
 use Rattle.std.specs.Int.{bit_at}
 use lib.Lanes.{zip2, chunk, put_chunk}
 use Rattle.std.proofs.lemmas.Simd.{get_or-zip2, get_or-chunk, length-zip2, length-chunk}
@@ -11,8 +10,7 @@ use Rattle.std.proofs.lemmas.Bool.{lt-ltb, le-leb, true≢false}
 use Rattle.vp_dots.specs.Dots.{bit, dot, span}
 use Rattle.vp_dots.specs.Words.{word_dot}
 use Rattle.vp_dots.specs.Painting.{Painted}
-use Rattle.vp_dots.specs.declared.Op.TheVariants.{Black, White}
-use Rattle.vp_dots.proofs.Bits.{bit_of_or, bit_of_xor}
+use Rattle.vp_dots.specs.declared.Op.TheVariants.{White}
 use Rattle.vp_dots.proofs.Blocks.{painted_block}
 use Rattle.vp_dots.proofs.Columns.{white_dot}
 use Rattle.vp_dots.proofs.Paints.{painted_same}
@@ -21,49 +19,14 @@ use Rattle.vp_dots.proofs.Spans.{bit_of_and}
 use Rattle.vp_dots.proofs.Swaps.{every_at}
 use Rattle.vp_dots.proofs.Words.{and_true}
 use Rattle.vp_page.specs.Areas.{holds}
-use Rattle.vp_page.specs.Lines.{line_dot}
 use Rattle.vp_page.specs.declared.area.Area.{Area}
-
--- sixteen bytes with the dots of a line on them that aren't of a colour
-module _ (line row : List ℕ) (colour i : ℕ) (black : Bool) (there : i + 16 ≤ length line) (room : i + 16 ≤ length row) (is : (k : ℕ) → k < 8 → bit colour k ≡ black) where
-  abbrev differ : List ℕ
-  differ = zip2 bit_xor (chunk i 16 line) (replicate 16 colour)
-
-  long_differ : length differ ≡ 16
-  long_differ = length-zip2 bit_xor (chunk i 16 line) (replicate 16 colour) (length-chunk i 16 line there ∙ sym (length-replicate {A = ℕ} 16 colour)) ∙ length-chunk i 16 line there
-
-  differs : (n : ℕ) → n < 16 → get_or differ n 0 ≡ bit_xor (get_or line (i + n) 0) colour
-  differs n p = get_or-zip2 bit_xor (chunk i 16 line) (replicate 16 colour) n 0 0 0 (omega (arith, length-chunk i 16 line there)) (omega (arith, length-replicate {A = ℕ} 16 colour))
-      ∙ ap (λ x. bit_xor x (get_or (replicate 16 colour) n 0)) (get_or-chunk i 16 line n 0 p) ∙ ap (bit_xor (get_or line (i + n) 0)) (get_or-replicate {A = ℕ} 16 n colour 0 p)
-
-  unlike_lane : (n k : ℕ) → n < 16 → k < 8 → bit (get_or (zip2 bit_or (chunk i 16 row) differ) n 0) k
-      ≡ cond (cond black (not (dot line (8 * (i + n) + (7 - k)))) (dot line (8 * (i + n) + (7 - k)))) true (bit (get_or row (i + n) 0) k)
-  unlike_lane n k p h =
-      ap (λ x. bit x k) (get_or-zip2 bit_or (chunk i 16 row) differ n 0 0 0 (omega (arith, length-chunk i 16 row room)) (omega (arith, long_differ))
-      ∙ ap (λ x. bit_or x (get_or differ n 0)) (get_or-chunk i 16 row n 0 p) ∙ ap (bit_or (get_or row (i + n) 0)) (differs n p))
-      ∙ bit_of_or (get_or row (i + n) 0) (bit_xor (get_or line (i + n) 0) colour) k
-      ∙ ap (λ b. cond b true (bit (get_or row (i + n) 0) k)) (bit_of_xor (get_or line (i + n) 0) colour k
-      ∙ ap (λ b. cond b (not (bit (get_or line (i + n) 0) k)) (bit (get_or line (i + n) 0) k)) (is k h)
-      ∙ ap (λ b. cond black (not b) b) (sym (dot_at line (i + n) k h)))
-
-  pub unlike_painted : Painted Black (λ u. span i (i + 16) (u / 8) && cond black (not (dot line u)) (dot line u)) row (put_chunk i row (zip2 bit_or (chunk i 16 row) differ))
-  unlike_painted = painted_block Black (λ u. cond black (not (dot line u)) (dot line u)) i 16 row _
-      (length-zip2 bit_or (chunk i 16 row) differ (length-chunk i 16 row room ∙ sym long_differ) ∙ length-chunk i 16 row room) room (λ n l k m. unlike_lane n k l m)
 
 -- what was painted black nowhere
 pub black_none : (a b : Bool) → cond a true b ≡ false → (a ≡ false) × (b ≡ false)
 black_none a b e = grind (arith, true≢false)
 
-of_colour : (black d : Bool) → cond black (not d) d ≡ false → d ≡ black
-of_colour black d e = grind arith
-
--- a line that isn't unlike
-pub alike_dot : (lines : List (List ℕ)) (i u at : ℕ) (black : Bool) → u < 1664 → at < 1664 → black ≡ dot (get_or lines i []) at
-    → cond black (not (dot (get_or lines i []) u)) (dot (get_or lines i []) u) ≡ false → line_dot lines i u ≡ line_dot lines i at
-alike_dot lines i u at black h k is e = rw (lt-ltb u 1664 h, lt-ltb at 1664 k) (of_colour black (dot (get_or lines i []) u) e ∙ is)
-
 -- dots that a word and its mask have in common
-both_dot : (w m k : ℕ) → k < 64 → word_dot (bit_and w m) k ≡ (word_dot w k && word_dot m k)
+pub both_dot : (w m k : ℕ) → k < 64 → word_dot (bit_and w m) k ≡ (word_dot w k && word_dot m k)
 both_dot w m k h = rw (lt-ltb k 64 h) (bit_of_and w m (63 - k))
 
 pub none_black : (line : List ℕ) (w m dots from k : ℕ) → bit_and w m ≡ 0 → ((x : ℕ) → word_dot m x ≡ ltb x dots)
@@ -137,13 +100,6 @@ first_kept d k e h = grind (arith, nat_tests, true≢false)
 
 pub first_apart : (d : ℕ) (b : Bool) → ((span 0 (0 + 8) (d / 8) && b) && span 8 (8 + 64) (d / 8)) ≡ false
 first_apart d b = grind (arith, nat_tests)
-
--- what is kept of a dot, and what is not unlike a black one
-pub kept_both : (a b : Bool) → cond (not a) false b ≡ true → (a ≡ true) × (b ≡ true)
-kept_both a b e = grind arith
-
-pub not_white : (b : Bool) → not b ≡ false → b ≡ true
-not_white b e = grind arith
 
 -- a dot of the longest line stands on one of its bytes
 pub within_all : (u : ℕ) (b : Bool) → u < 1664 → (span 0 (0 + 16 * 13) (u / 8) && b) ≡ b

@@ -14,6 +14,7 @@ pub mod Stretches
 pub mod RowMarks
 pub mod RunRows
 pub mod Rows
+pub mod Unlike
 pub mod Whites
 pub mod Whole
 pub mod Wipes

@@ -6,9 +6,10 @@ use Rattle.vp_page.specs.declared.area.Direction.{Direction}
 use Rattle.vp_page.specs.declared.area.Direction.TheVariants.{BottomToTop, TopToBottom}
 use Rattle.vp_page.specs.declared.area.Way.{Way}
 use Rattle.vp_page.specs.declared.area.Way.TheVariants.{Up, Down}
-use Rattle.vp_page.specs.declared.across.Shade.{Shade}
-use Rattle.vp_page.specs.declared.across.Shade.TheVariants.{White, Black, Mixed}
+use Rattle.vp_page.specs.declared.still.Shade.{Shade}
+use Rattle.vp_page.specs.declared.still.Shade.TheVariants.{White, Black, Mixed}
 use Rattle.vp_page.specs.Areas.{holds}
+use Rattle.vp_page.specs.declared.line.TheConstants.{LINE_DOTS}
 use Rattle.vp_page.specs.Lines.{line_dot}
 use Rattle.vp_page.specs.Layers.{Mark}
 
@@ -57,6 +58,13 @@ abbrev pub IsShade : List (List ℕ) → ℕ → Shade → Type 0
 IsShade lines at White = (i : ℕ) → i < length lines → line_dot lines i at ≡ false
 IsShade lines at Black = (i : ℕ) → i < length lines → line_dot lines i at ≡ true
 IsShade lines at Mixed = Unit {0}
+
+-- along n dots from one on, lines stay as they are at that one
+pub record AreStill (lines : List (List ℕ)) (at n : ℕ) (shade : Shade) : Type 0 where
+  pub shade_is : IsShade lines at shade
+  pub alike : (i u : ℕ) → at ≤ u → u < at + n → line_dot lines i u ≡ line_dot lines i at
+  pub some : 0 < n
+  pub inside : at + n ≤ LINE_DOTS
 
 -- n lines begin at rising depths, none of which is past the end
 pub record AreRuns (begins : List ℕ) (n end : ℕ) : Type 0 where

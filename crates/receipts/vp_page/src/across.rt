@@ -1,6 +1,6 @@
-//! Lines laid across the rows of a page, all of them on a stretch of its rows before the next one. Where each
-//! line is along a stretch what it is at its last dot, the rows there are one row, which is made once; else
-//! squares of as many lines as a word has dots are turned.
+//! Lines laid across the rows of a page, all of them on a stretch of its rows before the next one. Along dots
+//! where each line stays as it is, the rows are one row, which is made once; else squares of as many lines as
+//! a word has dots are turned.
 ghost use Rattle.std.specs.Prelude.{◌≡◌, ℕ, ◌+◌, ◌-◌, ◌*◌, ◌/◌, ◌%◌, ◌<◌, ◌≤◌, ◌^◌, ◌&&◌, false, true, not, if◌then◌else◌, nat_lt, nat_le, length, List, slice_index, slice_index_or, []};
 ghost use Rattle.vp_dots.specs.Dots.{bit, dot, span};
 ghost use Rattle.vp_dots.specs.Painting.{Painted};
@@ -9,45 +9,27 @@ ghost use Rattle.vp_dots.specs.Places.{RowsPainted};
 ghost use Rattle.vp_dots.specs.declared.Op.TheVariants.{Black, White};
 ghost use Rattle.vp_dots.specs.declared.square.TheConstants.{SIDE};
 ghost use Rattle.vp_page.specs.Lines.{line_dot};
-ghost use Rattle.vp_page.specs.Runs.{IsLeft, IsShade, along_of, depth_of, lines_across, placed, stretch_dot, topmost};
-ghost use Rattle.vp_page.specs.declared.across.TheConstants.{AT_ONCE, FEW, STRETCH};
+ghost use Rattle.vp_page.specs.Runs.{AreStill, IsLeft, IsShade, along_of, depth_of, lines_across, placed, stretch_dot, topmost};
+ghost use Rattle.vp_page.specs.declared.across.TheConstants.{AT_ONCE, FEW};
+ghost use Rattle.vp_page.specs.declared.still.TheConstants.{STRETCH};
 ghost use Rattle.vp_page.specs.declared.line.TheConstants.{LINE_BYTES, LINE_DOTS};
 ghost use Rattle.vp_page.specs.declared.page.TheConstants.{PAGE_ROWS, PAPER_DOTS};
 
 use crate::area::{Area, Way};
-use crate::line::{LINE_BYTES, LINE_DOTS, keep_sixteen, start_of};
+use crate::changes::changes_of;
+use crate::line::{LINE_BYTES, LINE_DOTS, dots_from, start_of};
 use crate::page::{PAGE_ROWS, PAPER_BYTES, PageBand};
 use crate::runs::{blacken, columns, top_of};
-use crate::words::{lay_halves, lay_same, lay_words, or_sixteens};
-use std::simd::u8x16;
-use vp_dots::{Op, SIDE, Small, dot_of, eight_at, fill_dots, first_dots, turned_square, word_at};
+use crate::still::{Shade, still_from, turned_from};
+use crate::words::{lay_halves, lay_same, lay_words};
+use vp_dots::{Op, SIDE, Small, dot_of, fill_dots, turned_square};
 
 /// How many lines are laid at once.
 pub const AT_ONCE: usize = 3 * SIDE;
 
-/// The dots of a stretch of the lines.
-const STRETCH: usize = 2 * SIDE;
-
 /// How many lines are few: of so many, two squares are turned as one, the dots of the second below those of
 /// the first.
 const FEW: usize = SIDE / 2;
-
-/// The dots of a part of a stretch.
-const PART: usize = SIDE / 2;
-
-/// The 64 dots of a line from one on, which mostly are whole bytes of it.
-#[inline(always)]
-fn dots_from(line: &[u8; LINE_BYTES], from: usize) -> u64
-    requires { from < 2 ^ 63 }
-    ensures { (x : ℕ) → x < 64 →
-        word_dot result x ≡ (nat_lt (from + x) LINE_DOTS && dot line.now (from + x)) }
-{
-    if from % 8 == 0 && from / 8 + 8 <= LINE_BYTES {
-        eight_at(line, from / 8)
-    } else {
-        word_at(line, from)
-    }
-}
 
 /// Which of the columns of n lines, from the left on, is that of line i.
 #[inline(always)]
@@ -93,49 +75,6 @@ fn two_of(lines: &[[u8; LINE_BYTES]], from: usize, way: Way) -> [u64; SIDE]
     squares
 }
 
-/// Eight dots of a colour.
-#[inline(always)]
-fn eight_of(black: bool) -> u8
-    ensures { (k : ℕ) → k < 8 → bit result k ≡ black }
-{
-    if black { 255 } else { 0 }
-}
-
-/// Blackens the dots of sixteen bytes, from byte i on, at which a line isn't of a colour.
-#[inline(always)]
-fn or_sixteen_unlike(line: &[u8], colour: u8, black: bool, i: usize, unlike: &mut [u8])
-    requires inside { i + 16 ≤ length line.now }
-    requires room { i + 16 ≤ length unlike.old }
-    requires colour { (k : ℕ) → k < 8 → bit colour k ≡ black }
-    ensures { Painted Black (λ u. span i (i + 16) (u / 8)
-        && (if black then not (dot line.now u) else dot line.now u)) unlike.old unlike.new }
-{
-    let differ = u8x16::from_slice(&line[i..]) ^ u8x16::splat(colour);
-    let new = u8x16::from_slice(&unlike[i..]) | differ;
-    new.copy_to_slice(&mut unlike[i..]);
-}
-
-/// Blackens the dots at which a line isn't of a colour.
-#[inline(always)]
-fn or_unlike(line: &[u8; LINE_BYTES], black: bool, unlike: &mut [u8])
-    requires { length unlike.old ≡ LINE_BYTES }
-    ensures { Painted Black (λ u. if black then not (dot line.now u) else dot line.now u)
-        unlike.old unlike.new }
-{
-    let colour = eight_of(black);
-    for k in 0..LINE_BYTES / 16 {
-        or_sixteen_unlike(line, colour, black, 16 * k, unlike);
-    }
-}
-
-/// What lines show at one place: all the same, or not.
-#[derive(Clone, Copy)]
-enum Shade {
-    White,
-    Black,
-    Mixed,
-}
-
 /// Whether that shade is white.
 fn is_white(shade: Shade) -> bool
     ensures { result ≡ true → (lines : List (List ℕ)) (at i : ℕ) → IsShade lines at shade →
@@ -145,119 +84,6 @@ fn is_white(shade: Shade) -> bool
         Shade::White => true,
         Shade::Black | Shade::Mixed => false,
     }
-}
-
-/// Whether all lines are of a colour at one place.
-fn are_of(lines: &[[u8; LINE_BYTES]], at: usize, black: bool) -> bool
-    requires { at < LINE_DOTS }
-    ensures { result ≡ true → (i : ℕ) → i < length lines.now → line_dot lines.now i at ≡ black }
-{
-    for i in 0..lines.len() {
-        if dot_of(&lines[i], at as u128) != black {
-            return false;
-        }
-    }
-    true
-}
-
-/// Makes the dots at which a line is white white.
-#[inline(always)]
-fn keep_line(line: &[u8; LINE_BYTES], all: &mut [u8])
-    requires { length all.old ≡ LINE_BYTES }
-    ensures { Painted White (λ u. not (dot line.now u)) all.old all.new }
-{
-    for k in 0..LINE_BYTES / 16 {
-        keep_sixteen(line, 16 * k, all);
-    }
-}
-
-/// A row that is black where some line is white. The last line comes first: mostly it was written last.
-fn some_white(lines: &[[u8; LINE_BYTES]]) -> [u8; LINE_BYTES]
-    ensures { (i u : ℕ) → i < length lines.now → u < LINE_DOTS → dot result u ≡ false →
-        line_dot lines.now i u ≡ true }
-{
-    let mut all = [255; LINE_BYTES];
-    let mut n = lines.len();
-    while n > 0 {
-        n -= 1;
-        keep_line(&lines[n], &mut all);
-    }
-    let mut some = [0; LINE_BYTES];
-    or_unlike(&all, true, &mut some);
-    some
-}
-
-/// A row that is black where some line is, looked at as `some_white` does.
-fn some_black(lines: &[[u8; LINE_BYTES]]) -> [u8; LINE_BYTES]
-    ensures { (i u : ℕ) → i < length lines.now → u < LINE_DOTS → dot result u ≡ false →
-        line_dot lines.now i u ≡ false }
-{
-    let mut some = [0; LINE_BYTES];
-    let mut n = lines.len();
-    while n > 0 {
-        n -= 1;
-        or_sixteens(&lines[n], 0, LINE_BYTES / 16, &mut some);
-    }
-    some
-}
-
-/// What lines show at one place, and a row that is black where some line isn't as it is there: mostly
-/// all are white there, or all black.
-fn unlike_at(lines: &[[u8; LINE_BYTES]], at: usize) -> (Shade, [u8; LINE_BYTES])
-    requires { at < LINE_DOTS }
-    ensures shade { IsShade lines.now at result.0 }
-    ensures alike { (i u : ℕ) → i < length lines.now → u < LINE_DOTS → dot result.1 u ≡ false →
-        line_dot lines.now i u ≡ line_dot lines.now i at }
-{
-    let few = &lines[..lines.len().min(FEW)];
-    if are_of(few, at, false) {
-        let some = some_black(lines);
-        if !dot_of(&some, at as u128) {
-            return (Shade::White, some);
-        }
-    } else if are_of(few, at, true) {
-        let some = some_white(lines);
-        if !dot_of(&some, at as u128) {
-            return (Shade::Black, some);
-        }
-    }
-    let mut unlike = [0; LINE_BYTES];
-    for i in 0..lines.len() {
-        let black = dot_of(&lines[i], at as u128);
-        or_unlike(&lines[i], black, &mut unlike);
-    }
-    (Shade::Mixed, unlike)
-}
-
-/// Whether some dots from one on are white, and lie before the end of the longest line.
-#[inline(always)]
-fn are_white(line: &[u8; LINE_BYTES], from: usize, dots: usize) -> bool
-    requires few { dots ≤ 64 }
-    requires near { from < 2 ^ 62 }
-    ensures { result ≡ true → (k : ℕ) → k < dots →
-        (from + k < LINE_DOTS) × (dot line.now (from + k) ≡ false) }
-{
-    from + dots <= LINE_DOTS && dots_from(line, from) & first_dots(dots as u32) == 0
-}
-
-/// How many dots of a stretch, from one on, there are up to the last one that may be black: those behind it
-/// are white, and lie before the end of the longest line.
-#[inline(always)]
-fn up_to_black(line: &[u8; LINE_BYTES], from: usize, dots: usize) -> usize
-    requires near { from + dots < 2 ^ 62 }
-    ensures few { result ≤ dots }
-    ensures white { (k : ℕ) → result ≤ k → k < dots →
-        (from + k < LINE_DOTS) × (dot line.now (from + k) ≡ false) }
-{
-    let mut n = dots;
-    while n > 0 {
-        let before = (n - 1) / PART * PART;
-        if !are_white(line, from + before, n - before) {
-            break;
-        }
-        n = before;
-    }
-    n
 }
 
 /// A row of the page with the dots of the lines at one place, the first line at a depth of an area.
@@ -460,6 +286,34 @@ fn on_page(area: Area, way: Way) -> (usize, usize)
     }
 }
 
+/// Lays dots of lines along which they stay as they are at the first of these: the rows there are one row.
+fn lay_still<A: Small>(
+    lines: &[[u8; LINE_BYTES]],
+    from: usize,
+    rows: usize,
+    shade: Shade,
+    area: Area,
+    way: Way,
+    v: u32,
+    band: &mut PageBand<A>,
+)
+    requires lines { length lines.now ≤ AT_ONCE }
+    requires still { AreStill lines.now from rows shade }
+    requires wide { v + length lines.now ≤ area.dx }
+    requires long { from + rows ≤ area.dy }
+    requires page { topmost area way from rows + rows ≤ PAGE_ROWS }
+    ensures { RowsPainted PAGE_ROWS Black (stretch_dot area way v lines.now from rows) band.old band.new }
+{
+    if is_white(shade) {
+        return;
+    }
+    let row = row_at(lines, from, shade, area, way, v);
+    let (left, _) = columns(area, way, v, v + lines.len() as u32);
+    let (first, bytes) = (left as usize / 8, lines.len() / 8 + 2);
+    let top = top_of(area, way, from, rows);
+    lay_same(&row, first, bytes, rows, top, band);
+}
+
 /// Lays lines upward or downward, the first at a depth of an area and each one deeper than the one before it.
 /// They are white from dot `long` on.
 #[inline(always)]
@@ -477,23 +331,17 @@ pub(crate) fn lay_lines<A: Small>(
     ensures { RowsPainted PAGE_ROWS Black (lines_across area way v lines.now) band.old band.new }
 {
     let (from, end) = on_page(area, way);
-    let end = end.min(long);
-    let last = end.saturating_sub(1).min(LINE_DOTS - 1);
-    let (shade, unlike) = unlike_at(lines, last);
-    let row = row_at(lines, last, shade, area, way, v);
-    let (left, _) = columns(area, way, v, v + lines.len() as u32);
-    let (first, bytes) = (left as usize / 8, lines.len() / 8 + 2);
-    let white = is_white(shade);
-    for k in 0..end.saturating_sub(from).div_ceil(STRETCH) {
-        let at = from + STRETCH * k;
-        let rows = (end - at).min(STRETCH);
-        let n = up_to_black(&unlike, at, rows);
-        if n > 0 {
-            lay_squares(lines, at, n, area, way, v, band);
-        }
-        if !white {
-            let top = top_of(area, way, at + n, rows - n);
-            lay_same(&row, first, bytes, rows - n, top, band);
+    let end = end.min(long).min(LINE_DOTS);
+    let changes = changes_of(lines);
+    let mut at = from;
+    while at < end {
+        if let Some((shade, rows)) = still_from(lines, &changes, at, end) {
+            lay_still(lines, at, rows, shade, area, way, v, band);
+            at += rows;
+        } else {
+            let rows = turned_from(&changes, at, end);
+            lay_squares(lines, at, rows, area, way, v, band);
+            at += rows;
         }
     }
 }

@@ -4,10 +4,12 @@
 mod across;
 mod along;
 mod area;
+mod changes;
 mod laws;
 mod line;
 mod page;
 mod runs;
+mod still;
 mod white;
 mod words;
 

@@ -17,13 +17,27 @@ use crate::area::{Area, Way};
 use crate::page::{PAGE_ROWS, PAPER_BYTES, PageBand};
 use crate::white::Rows;
 use std::simd::{u8x8, u8x16, u8x64};
-use vp_dots::{Ink, Op, Small, fill_dots, word_at};
+use vp_dots::{Ink, Op, Small, eight_at, fill_dots, word_at};
 
 /// The bytes of the longest line of a page: one across its rows.
 pub const LINE_BYTES: usize = 208;
 
 /// Its dots.
 pub const LINE_DOTS: usize = 8 * LINE_BYTES;
+
+/// The 64 dots of a line from one on, which mostly are whole bytes of it.
+#[inline(always)]
+pub(crate) fn dots_from(line: &[u8; LINE_BYTES], from: usize) -> u64
+    requires { from < 2 ^ 63 }
+    ensures { (x : ℕ) → x < 64 →
+        word_dot result x ≡ (nat_lt (from + x) LINE_DOTS && dot line.now (from + x)) }
+{
+    if from % 8 == 0 && from / 8 + 8 <= LINE_BYTES {
+        eight_at(line, from / 8)
+    } else {
+        word_at(line, from)
+    }
+}
 
 /// A line of an image, as long as the longest one.
 pub(crate) fn drawn<I: Ink>(ink: &I, y: u32) -> [u8; LINE_BYTES]

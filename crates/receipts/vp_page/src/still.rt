@@ -1,0 +1,153 @@
+//! Along which of their dots lines stay as they are, and what they show there.
+ghost use Rattle.std.specs.Prelude.{◌≡◌, ℕ, ◌+◌, ◌-◌, ◌<◌, ◌≤◌, ◌^◌, false, true, min, length, List, IfSome};
+ghost use Rattle.vp_dots.specs.Dots.{dot};
+ghost use Rattle.vp_dots.specs.declared.square.TheConstants.{SIDE};
+ghost use Rattle.vp_page.specs.Lines.{line_dot};
+ghost use Rattle.vp_page.specs.Runs.{AreStill, IsShade};
+ghost use Rattle.vp_page.specs.declared.line.TheConstants.{LINE_DOTS};
+ghost use Rattle.vp_page.specs.declared.still.TheConstants.{STRETCH};
+
+use crate::line::{LINE_BYTES, LINE_DOTS, dots_from};
+use vp_dots::{SIDE, first_dots};
+
+/// The dots of a stretch of lines that is turned at once.
+pub(crate) const STRETCH: usize = 2 * SIDE;
+
+/// The dots of a part of lines, along which they are asked to stay as they are.
+const PART: usize = SIDE / 2;
+
+/// How far apart the dots are that are known to be alike.
+const APART: usize = 8;
+
+/// What lines show at one place: all the same, or not.
+#[derive(Clone, Copy)]
+pub(crate) enum Shade {
+    White,
+    Black,
+    Mixed,
+}
+
+/// The colour of some dots of a line from one on, black or not, if it is one.
+#[inline(always)]
+fn colour_of(line: &[u8; LINE_BYTES], at: usize, dots: usize) -> Option<bool>
+    requires few { dots ≤ 64 }
+    requires inside { at + dots ≤ LINE_DOTS }
+    ensures { IfSome result (λ black. (k : ℕ) → k < dots → dot line.now (at + k) ≡ black) }
+{
+    let all = first_dots(dots as u32);
+    let these = dots_from(line, at) & all;
+    if these == 0 {
+        Some(false)
+    } else if these == all {
+        Some(true)
+    } else {
+        None
+    }
+}
+
+/// What lines show along some dots, if each of them is of one colour there.
+fn shade_along(lines: &[[u8; LINE_BYTES]], at: usize, dots: usize) -> Option<Shade>
+    requires some { 0 < dots }
+    requires few { dots ≤ 64 }
+    requires inside { at + dots ≤ LINE_DOTS }
+    ensures { IfSome result (AreStill lines.now at dots) }
+{
+    let (mut some_white, mut some_black) = (false, false);
+    for i in 0..lines.len() {
+        if colour_of(&lines[i], at, dots)? {
+            some_black = true;
+        } else {
+            some_white = true;
+        }
+    }
+    Some(if !some_black {
+        Shade::White
+    } else if !some_white {
+        Shade::Black
+    } else {
+        Shade::Mixed
+    })
+}
+
+/// Whether some dots from one on are white, and lie before the end of the longest line.
+#[inline(always)]
+fn are_white(line: &[u8; LINE_BYTES], from: usize, dots: usize) -> bool
+    requires few { dots ≤ 64 }
+    requires near { from < 2 ^ 62 }
+    ensures { result ≡ true → (k : ℕ) → k < dots →
+        (from + k < LINE_DOTS) × (dot line.now (from + k) ≡ false) }
+{
+    from + dots <= LINE_DOTS && dots_from(line, from) & first_dots(dots as u32) == 0
+}
+
+/// How many dots from one on are white, of so many: whole parts, and the rest.
+fn white_from(line: &[u8; LINE_BYTES], from: usize, dots: usize) -> usize
+    requires near { from + dots < 2 ^ 62 }
+    ensures few { result ≤ dots }
+    ensures white { (k : ℕ) → k < result → (from + k < LINE_DOTS) × (dot line.now (from + k) ≡ false) }
+{
+    let mut n = 0;
+    while n < dots {
+        let part = (dots - n).min(PART);
+        if !are_white(line, from + n, part) {
+            break;
+        }
+        n += part;
+    }
+    n
+}
+
+/// How many dots of a stretch, from one on, there are up to the last one that may be black: those behind it
+/// are white, and lie before the end of the longest line.
+fn up_to_black(line: &[u8; LINE_BYTES], from: usize, dots: usize) -> usize
+    requires near { from + dots < 2 ^ 62 }
+    ensures few { result ≤ dots }
+    ensures white { (k : ℕ) → result ≤ k → k < dots →
+        (from + k < LINE_DOTS) × (dot line.now (from + k) ≡ false) }
+{
+    let mut n = dots;
+    while n > 0 {
+        let before = (n - 1) / PART * PART;
+        if !are_white(line, from + before, n - before) {
+            break;
+        }
+        n = before;
+    }
+    n
+}
+
+/// What lines show from dot `at` on, and along how many dots before `end` they stay so, by where they change:
+/// if these are many, or all.
+pub(crate) fn still_from(
+    lines: &[[u8; LINE_BYTES]],
+    changes: &[u8; LINE_BYTES],
+    at: usize,
+    end: usize,
+) -> Option<(Shade, usize)>
+    requires some { at < end }
+    requires inside { end ≤ LINE_DOTS }
+    requires changes { (i u : ℕ) → i < length lines.now → 8 ≤ u → u < LINE_DOTS →
+        dot changes.now u ≡ false → line_dot lines.now i u ≡ line_dot lines.now i (u - 8) }
+    ensures { IfSome result (λ found. (found.1 ≤ end - at) × AreStill lines.now at found.1 found.0) }
+{
+    let first = (end - at).min(APART);
+    let behind = end - at - first;
+    let more = white_from(changes, at + first, behind);
+    if more < behind.min(SIDE) {
+        return None;
+    }
+    let shade = shade_along(lines, at, first)?;
+    Some((shade, first + more))
+}
+
+/// How many dots from `at` on are turned at once, up to the last one of a stretch where lines may change.
+pub(crate) fn turned_from(changes: &[u8; LINE_BYTES], at: usize, end: usize) -> usize
+    requires some { at < end }
+    requires inside { end ≤ LINE_DOTS }
+    ensures some { 0 < result }
+    ensures few { result ≤ min STRETCH (end - at) }
+{
+    let most = (end - at).min(STRETCH);
+    let behind = up_to_black(changes, at + APART, most.saturating_sub(APART));
+    if behind == 0 { most } else { APART + behind }
+}
