@@ -5,6 +5,7 @@ pub mod WordsOnRows
 pub mod Columns
 pub mod Falling
 pub mod Lanes
+pub mod LineRuns
 pub mod Lines
 pub mod Marks
 pub mod PageRows

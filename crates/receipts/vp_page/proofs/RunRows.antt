@@ -4,6 +4,7 @@ use Rattle.std.proofs.lemmas.Bool.{cases_lt, lt-ltb, le-ltb, lt-leb, le-leb, and
 use Rattle.std.proofs.lemmas.Bool.Decides.{nat_tests}
 use Rattle.std.proofs.lemmas.List.{length-replicate}
 use Rattle.vp_dots.specs.Dots.{dot, span}
+use Rattle.vp_dots.specs.Words.{word_dot}
 use Rattle.vp_dots.specs.Painting.{Painted}
 use Rattle.vp_dots.specs.declared.Op.TheVariants.{Black}
 use Rattle.vp_page.specs.Areas.{depth, holds}
@@ -51,6 +52,23 @@ line_at begins (suc n) w p q = elim (cases_lt w (get_or begins n 0)) [
   | inl l ↦ (let r = line_at begins n w p l in (r.0, (omega arith), r.2, r.3))
   | inr g ↦ (n, (omega arith), g, (rw add-one q))
 ]
+
+-- the line of a depth, among m lines from one on
+line_from : (begins : List ℕ) (f m w : ℕ) → get_or begins f 0 ≤ w → w < get_or begins (f + m) 0 → (i : ℕ) × (f ≤ i) × (i < f + m) × (get_or begins i 0 ≤ w) × (w < get_or begins (i + 1) 0)
+line_from begins f zero w p q = let e : f + 0 ≡ f = omega arith in absurd (omega (arith, p, (rw e at q)))
+line_from begins f (suc m) w p q = elim (cases_lt w (get_or begins (f + m) 0)) [
+  | inl l ↦ (let r = line_from begins f m w p l in (r.0, r.1, omega (arith, r.2), r.3, r.4))
+  | inr g ↦ (let e : f + suc m ≡ f + m + 1 = omega arith in (f + m, omega arith, omega arith, g, (rw e at q)))
+]
+
+-- ink along lines that are black
+pub black_between : (begins : List ℕ) (word f i n w : ℕ) (ink : ℕ → Bool) → f ≤ i → i ≤ n → ((k : ℕ) → f ≤ k → k < i → word_dot word k ≡ true)
+    → ((k w : ℕ) → k < n → get_or begins k 0 ≤ w → w < get_or begins (k + 1) 0 → word_dot word k ≡ ink w) → get_or begins f 0 ≤ w → w < get_or begins i 0 → ink w ≡ true
+black_between begins word f i n w ink h few black same p q =
+    let e : f + (i - f) ≡ i = omega (arith, h) in
+    let r = line_from begins f (i - f) w p (rw (sym e) at q) in
+    let within : r.0 < i = omega (arith, r.2, e) in
+    sym (same r.0 w (omega (arith, within, few)) r.3 r.4) ∙ black r.0 r.1 within
 
 -- the rows of a run
 module _ (ay dy at t y : ℕ) (within : at + t ≤ dy) where
@@ -100,7 +118,7 @@ pub run_of : List ℕ → ℕ → ℕ → ℕ
 run_of begins zero w = 0
 run_of begins (suc n) w = cond (leb (get_or begins n 0) w) n (run_of begins n w)
 
-risen : (begins : List ℕ) (i k : ℕ) → ((j : ℕ) → j < i + k → get_or begins j 0 ≤ get_or begins (j + 1) 0) → get_or begins i 0 ≤ get_or begins (i + k) 0
+pub risen : (begins : List ℕ) (i k : ℕ) → ((j : ℕ) → j < i + k → get_or begins j 0 ≤ get_or begins (j + 1) 0) → get_or begins i 0 ≤ get_or begins (i + k) 0
 risen begins i zero r = let e : i + 0 ≡ i = omega arith in rw e (omega arith)
 risen begins i (suc k) r = grind (arith, risen begins i k (λ j h. r j (omega (arith, h))))
 

@@ -17,6 +17,7 @@ ghost use Rattle.vp_page.specs.declared.page.TheConstants.{PAGE_ROWS, PAPER_DOTS
 
 use crate::area::{Area, Way};
 use crate::changes::changes_of;
+use crate::different::{different, lay_different};
 use crate::line::{LINE_BYTES, LINE_DOTS, dots_from, start_of};
 use crate::page::{PAGE_ROWS, PAPER_BYTES, PageBand};
 use crate::runs::{blacken, columns, top_of};
@@ -30,6 +31,9 @@ pub const AT_ONCE: usize = 3 * SIDE;
 /// How many lines are few: of so many, two squares are turned as one, the dots of the second below those of
 /// the first.
 const FEW: usize = SIDE / 2;
+
+/// Of more lines than so many, those are looked for that are as the one before.
+const MANY: usize = 2 * SIDE;
 
 /// Which of the columns of n lines, from the left on, is that of line i.
 #[inline(always)]
@@ -242,7 +246,60 @@ fn lay_group<A: Small>(
     }
 }
 
-/// Lays a stretch of lines, group by group. Few of them are laid at once.
+/// Lays a stretch of lines if many of them are as the one before.
+fn lay_alike<A: Small>(
+    lines: &[[u8; LINE_BYTES]],
+    from: usize,
+    rows: usize,
+    area: Area,
+    way: Way,
+    v: u32,
+    band: &mut PageBand<A>,
+) -> bool
+    requires few { rows ≤ STRETCH }
+    requires wide { v + length lines.now ≤ area.dx }
+    requires long { from + rows ≤ area.dy }
+    ensures laid { result ≡ true →
+        RowsPainted PAGE_ROWS Black (stretch_dot area way v lines.now from rows) band.old band.new }
+    ensures not { result ≡ false → band.new ≡ band.old }
+{
+    let (mut left, mut right) = ([0; SIDE], [0; SIDE]);
+    let mut begins = [0; SIDE + 1];
+    match different(lines, from, v, &mut left, &mut right, &mut begins) {
+        Some(n) => {
+            lay_different(&left, &right, &begins, n, from, rows, area, way, band);
+            true
+        }
+        None => false,
+    }
+}
+
+/// Lays a stretch of lines, group by group.
+#[inline(always)]
+fn lay_groups<A: Small>(
+    lines: &[[u8; LINE_BYTES]],
+    from: usize,
+    rows: usize,
+    area: Area,
+    way: Way,
+    v: u32,
+    band: &mut PageBand<A>,
+)
+    requires lines { length lines.now ≤ AT_ONCE }
+    requires few { rows ≤ STRETCH }
+    requires wide { v + length lines.now ≤ area.dx }
+    requires long { from + rows ≤ area.dy }
+    requires page { topmost area way from rows + rows ≤ PAGE_ROWS }
+    ensures { RowsPainted PAGE_ROWS Black (stretch_dot area way v lines.now from rows) band.old band.new }
+{
+    for k in 0..lines.len().div_ceil(SIDE) {
+        let at = SIDE * k;
+        let these = &lines[at..lines.len().min(at + SIDE)];
+        lay_group(these, from, rows, area, way, v + at as u32, band);
+    }
+}
+
+/// Lays a stretch of lines: along two squares few of them at once, and of many that are alike each different one.
 #[inline(always)]
 fn lay_squares<A: Small>(
     lines: &[[u8; LINE_BYTES]],
@@ -260,14 +317,12 @@ fn lay_squares<A: Small>(
     requires page { topmost area way from rows + rows ≤ PAGE_ROWS }
     ensures { RowsPainted PAGE_ROWS Black (stretch_dot area way v lines.now from rows) band.old band.new }
 {
-    if lines.len() <= FEW {
+    if rows <= SIDE {
+        lay_groups(lines, from, rows, area, way, v, band);
+    } else if lines.len() <= FEW {
         lay_two(lines, from, rows, area, way, v, band);
-        return;
-    }
-    for k in 0..lines.len().div_ceil(SIDE) {
-        let at = SIDE * k;
-        let these = &lines[at..lines.len().min(at + SIDE)];
-        lay_group(these, from, rows, area, way, v + at as u32, band);
+    } else if lines.len() <= MANY || !lay_alike(lines, from, rows, area, way, v, band) {
+        lay_groups(lines, from, rows, area, way, v, band);
     }
 }
 

@@ -5,6 +5,7 @@ mod across;
 mod along;
 mod area;
 mod changes;
+mod different;
 mod laws;
 mod line;
 mod page;

@@ -120,12 +120,16 @@ fn spread(word: u64, begins: &Begins, n: usize, area: Area, way: Way) -> [u8; PA
         && ink (depth_of area way x))) }
 {
     let mut row = [0; PAPER_BYTES];
+    let mut first = 0;
     for i in 0..n {
-        if is_black(word, i as u32) {
-            let (from, to) = columns(area, way, begins[i], begins[i + 1]);
+        if !is_black(word, i as u32) {
+            let (from, to) = columns(area, way, begins[first], begins[i]);
             blacken(from, to, &mut row);
+            first = i + 1;
         }
     }
+    let (from, to) = columns(area, way, begins[first], begins[n]);
+    blacken(from, to, &mut row);
     row
 }
 
@@ -160,7 +164,7 @@ pub(crate) fn top_of(area: Area, way: Way, first: usize, dots: usize) -> usize
 
 /// Lays the first words of a square, each along the rows of the page at one place of the lines: the first at
 /// place `at`.
-fn lay_words<A: Small>(
+pub(crate) fn lay_words<A: Small>(
     words: &[u64; SIDE],
     at: u32,
     rows: u32,

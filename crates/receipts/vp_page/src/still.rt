@@ -5,16 +5,13 @@ ghost use Rattle.vp_dots.specs.declared.square.TheConstants.{SIDE};
 ghost use Rattle.vp_page.specs.Lines.{line_dot};
 ghost use Rattle.vp_page.specs.Runs.{AreStill, IsShade};
 ghost use Rattle.vp_page.specs.declared.line.TheConstants.{LINE_DOTS};
-ghost use Rattle.vp_page.specs.declared.still.TheConstants.{STRETCH};
+ghost use Rattle.vp_page.specs.declared.still.TheConstants.{APART, STRETCH};
 
 use crate::line::{LINE_BYTES, LINE_DOTS, dots_from};
 use vp_dots::{SIDE, first_dots};
 
 /// The dots of a stretch of lines that is turned at once.
 pub(crate) const STRETCH: usize = 2 * SIDE;
-
-/// The dots of a part of lines, along which they are asked to stay as they are.
-const PART: usize = SIDE / 2;
 
 /// How far apart the dots are that are known to be alike.
 const APART: usize = 8;
@@ -27,14 +24,13 @@ pub(crate) enum Shade {
     Mixed,
 }
 
-/// The colour of some dots of a line from one on, black or not, if it is one.
+/// The colour of eight dots of a line from one on, black or not, if it is one.
 #[inline(always)]
-fn colour_of(line: &[u8; LINE_BYTES], at: usize, dots: usize) -> Option<bool>
-    requires few { dots ≤ 64 }
-    requires inside { at + dots ≤ LINE_DOTS }
-    ensures { IfSome result (λ black. (k : ℕ) → k < dots → dot line.now (at + k) ≡ black) }
+fn colour_of(line: &[u8; LINE_BYTES], at: usize) -> Option<bool>
+    requires inside { at + APART ≤ LINE_DOTS }
+    ensures { IfSome result (λ black. (k : ℕ) → k < APART → dot line.now (at + k) ≡ black) }
 {
-    let all = first_dots(dots as u32);
+    let all = first_dots(APART as u32);
     let these = dots_from(line, at) & all;
     if these == 0 {
         Some(false)
@@ -45,16 +41,14 @@ fn colour_of(line: &[u8; LINE_BYTES], at: usize, dots: usize) -> Option<bool>
     }
 }
 
-/// What lines show along some dots, if each of them is of one colour there.
-fn shade_along(lines: &[[u8; LINE_BYTES]], at: usize, dots: usize) -> Option<Shade>
-    requires some { 0 < dots }
-    requires few { dots ≤ 64 }
-    requires inside { at + dots ≤ LINE_DOTS }
-    ensures { IfSome result (AreStill lines.now at dots) }
+/// What lines show along eight dots from one on, if each of them is of one colour there.
+fn shade_along(lines: &[[u8; LINE_BYTES]], at: usize) -> Option<Shade>
+    requires inside { at + APART ≤ LINE_DOTS }
+    ensures { IfSome result (AreStill lines.now at APART) }
 {
     let (mut some_white, mut some_black) = (false, false);
     for i in 0..lines.len() {
-        if colour_of(&lines[i], at, dots)? {
+        if colour_of(&lines[i], at)? {
             some_black = true;
         } else {
             some_white = true;
@@ -80,7 +74,7 @@ fn are_white(line: &[u8; LINE_BYTES], from: usize, dots: usize) -> bool
     from + dots <= LINE_DOTS && dots_from(line, from) & first_dots(dots as u32) == 0
 }
 
-/// How many dots from one on are white, of so many: whole parts, and the rest.
+/// How many dots from one on are white, of so many: up to one where a square begins, or all.
 fn white_from(line: &[u8; LINE_BYTES], from: usize, dots: usize) -> usize
     requires near { from + dots < 2 ^ 62 }
     ensures few { result ≤ dots }
@@ -88,7 +82,7 @@ fn white_from(line: &[u8; LINE_BYTES], from: usize, dots: usize) -> usize
 {
     let mut n = 0;
     while n < dots {
-        let part = (dots - n).min(PART);
+        let part = (SIDE - (from + n) % SIDE).min(dots - n);
         if !are_white(line, from + n, part) {
             break;
         }
@@ -107,7 +101,7 @@ fn up_to_black(line: &[u8; LINE_BYTES], from: usize, dots: usize) -> usize
 {
     let mut n = dots;
     while n > 0 {
-        let before = (n - 1) / PART * PART;
+        let before = (n - 1) / SIDE * SIDE;
         if !are_white(line, from + before, n - before) {
             break;
         }
@@ -130,17 +124,17 @@ pub(crate) fn still_from(
         dot changes.now u ≡ false → line_dot lines.now i u ≡ line_dot lines.now i (u - 8) }
     ensures { IfSome result (λ found. (found.1 ≤ end - at) × AreStill lines.now at found.1 found.0) }
 {
-    let first = (end - at).min(APART);
-    let behind = end - at - first;
-    let more = white_from(changes, at + first, behind);
-    if more < behind.min(SIDE) {
+    let behind = (end - at).checked_sub(APART)?;
+    let more = white_from(changes, at + APART, behind);
+    if more < behind.min(SIDE - APART) {
         return None;
     }
-    let shade = shade_along(lines, at, first)?;
-    Some((shade, first + more))
+    let shade = shade_along(lines, at)?;
+    Some((shade, APART + more))
 }
 
-/// How many dots from `at` on are turned at once, up to the last one of a stretch where lines may change.
+/// How many dots from `at` on are turned at once: whole squares, up to the last one of a stretch in which lines
+/// may change.
 pub(crate) fn turned_from(changes: &[u8; LINE_BYTES], at: usize, end: usize) -> usize
     requires some { at < end }
     requires inside { end ≤ LINE_DOTS }
@@ -148,6 +142,6 @@ pub(crate) fn turned_from(changes: &[u8; LINE_BYTES], at: usize, end: usize) -> 
     ensures few { result ≤ min STRETCH (end - at) }
 {
     let most = (end - at).min(STRETCH);
-    let behind = up_to_black(changes, at + APART, most.saturating_sub(APART));
-    if behind == 0 { most } else { APART + behind }
+    let n = up_to_black(changes, at, most);
+    if n == 0 { most } else { n }
 }

@@ -8,22 +8,21 @@ pub returns : goal.returns
 returns c =
     let lines = c.args.lines.now in
     let at = c.args.at in
-    let first = c.min-first.result in
     let more = c.white_from-more.result in
-    let here = rw c.in_ok-shade.was at c.shade_along.ensures in
-    let few : first + more ≤ c.args.end - at = omega (arith, c.min-first.ensures, c.white_from-more.ensures.few, c.requires.some) in (
+    let room = c.in_ok-behind.ensures in
+    let here = c.in_ok-shade.ensures in
+    let few : 8 + more ≤ c.args.end - at = omega (arith, c.white_from-more.ensures.few, room) in (
       few,
       record {
         shade_is = here.shade_is;
         some = omega (arith, here.some);
         inside = omega (arith, few, c.requires.inside, c.requires.some);
-        alike = λ i u g l. elim (cases_lt u (at + first)) [
+        alike = λ i u g l. elim (cases_lt u (at + 8)) [
           | inl h ↦ here.alike i u g h
           | inr h ↦
-              let eight : first ≡ 8 = omega (arith, c.min-first.ensures, h, l, few) in
-              still_along (u + 1) lines i at (first + more) u (λ k p. here.alike i (at + k) (omega arith) (omega (arith, p, eight)))
-              (λ v p q. let place : at + first + (v - (at + first)) ≡ v = omega (arith, p, eight) in
-              let white = rw place at (c.white_from-more.ensures.white (v - (at + first)) (omega (arith, p, q, eight))) in
+              still_along (u + 1) lines i at (8 + more) u (λ k p. here.alike i (at + k) (omega arith) (omega (arith, p)))
+              (λ v p q. let place : at + 8 + (v - (at + 8)) ≡ v = omega (arith, p) in
+              let white = rw place at (c.white_from-more.ensures.white (v - (at + 8)) (omega (arith, p, q))) in
               elim (cases_lt i (length lines)) [
                 | inl m ↦ c.requires.changes i v m (omega (arith, p)) white.0 white.1
                 | inr m ↦ no_line lines i v m ∙ sym (no_line lines i (v - 8) m)

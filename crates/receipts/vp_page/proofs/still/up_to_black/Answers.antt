@@ -5,7 +5,7 @@ use Rattle.vp_page.proofs.still.up_to_black.Goals as goal
 pub loop-n-preserved : goal.loop-n-preserved
 loop-n-preserved c =
     let n = c.loop-n.n in
-    let before = (n - 1) / 32 * 32 in
+    let before = (n - 1) / 64 * 64 in
     record {
       few = omega (arith, c.loop-n.invariant.few);
       white = λ k h l. elim (cases_lt k n) [

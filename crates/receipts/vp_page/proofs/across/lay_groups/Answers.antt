@@ -8,7 +8,7 @@ use Rattle.vp_page.specs.Runs.{along_of, depth_of}
 use Rattle.vp_page.proofs.Rows.{rows_same, rows_then}
 use Rattle.vp_page.proofs.Squares.{nothing_painted}
 use Rattle.vp_page.proofs.Stretches.{group_right, more_in, groups_right, no_group}
-use Rattle.vp_page.proofs.across.lay_squares.Goals as goal
+use Rattle.vp_page.proofs.across.lay_groups.Goals as goal
 
 pub loop-k-init : goal.loop-k-init
 loop-k-init g c =

@@ -5,7 +5,7 @@ use Rattle.vp_dots.specs.declared.Op.TheVariants.{Black}
 use Rattle.vp_page.specs.Areas.{holds}
 use Rattle.vp_page.specs.Lines.{line_dot}
 use Rattle.vp_page.specs.Runs.{along_of, depth_of}
-use Rattle.vp_page.proofs.across.lay_squares.Given as goal
+use Rattle.vp_page.proofs.across.lay_groups.Given as goal
 
 -- the groups of lines before this one are done
 abbrev pub invariant-loop-k : goal.invariant-loop-k
