@@ -128,11 +128,7 @@ fn measure(text: &[u8], most: usize) -> Measured<'_>
         };
     };
     if b == b' ' {
-        return Measured {
-            cells: most + 1,
-            blank: most,
-            behind: at,
-        };
+        blank = most;
     }
     Measured {
         cells: most + 1,

@@ -1,5 +1,5 @@
 //! Characters of sheet A at any size.
-ghost use Rattle.std.specs.Prelude.{◌≡◌, ℕ, ◌+◌, ◌-◌, ◌*◌, ◌/◌, ◌<◌, ◌≤◌, ◌^◌, nat_le, min, ◌&&◌, true, pos, ◌+ℤ◌, ◌<ℤ◌};
+ghost use Rattle.std.specs.Prelude.{◌≡◌, ℕ, ◌+◌, ◌-◌, ◌*◌, ◌/◌, ◌<◌, ◌≤◌, ◌^◌, nat_le, min, ◌&&◌, pos, ◌+ℤ◌, ◌<ℤ◌};
 ghost use Rattle.std.specs.Int.{div_ceil};
 ghost use Rattle.vp_dots.specs.Dots.{shifted};
 ghost use Rattle.vp_dots.specs.Painting.{Painted};
@@ -9,7 +9,7 @@ ghost use Rattle.vp_glyph.specs.Texts.{sampled_dot, sampled_inside};
 
 use crate::look::paint_scaled;
 use crate::sheet::{Sheet, dot_in, row_at, rows_in};
-use crate::stretch::Stretch;
+use crate::stretch::{Stretch, Widened};
 use std::alloc::Global;
 use vp_dots::{Ink, Op, Small};
 
@@ -60,18 +60,18 @@ pub fn cell_front<A: Small>(
     character: u8,
     source: usize,
     stretch: &Stretch,
-    doubled: bool,
+    widened: Widened,
     at: i64,
     left: u32,
 ) -> u64
-    requires doubled { doubled ≡ true → (stretch.now.width ≡ 24) × (at <ℤ pos (2 ^ 40)) }
+    requires twice { widened ≡ Widened.Twice → (stretch.now.width ≡ 24) × (at <ℤ pos (2 ^ 40)) }
     requires fits { left + stretch.now.width < 2 ^ 32 }
     ensures { (h y : ℕ) → y < h → source ≡ y * 24 / h → (d : ℕ) → d < 64 → word_dot result d
         ≡ shifted at (λ x. nat_le left x
         && sampled_dot sheet.now character stretch.now.width h (x - left) y) d }
 {
     let word = row_at(rows_in(sheet, character), source);
-    stretch.front(doubled, word, at, left)
+    stretch.front(widened, word, at, left)
 }
 
 /// Which row of a cell is shown in row y of a character that is drawn `high` rows high.

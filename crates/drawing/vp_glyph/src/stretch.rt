@@ -1,5 +1,5 @@
 //! The dots of a row of a character, each drawn at another width.
-ghost use Rattle.std.specs.Prelude.{◌≡◌, ℕ, ◌+◌, ◌-◌, ◌*◌, ◌/◌, ◌<◌, ◌≤◌, ◌^◌, nat_lt, nat_le, ◌&&◌, ◌||◌, true, pos, ◌+ℤ◌, ◌<ℤ◌, ◌≤ℤ◌, ◌⊎◌, length, slice_index};
+ghost use Rattle.std.specs.Prelude.{◌≡◌, ℕ, ◌+◌, ◌-◌, ◌*◌, ◌/◌, ◌<◌, ◌≤◌, ◌^◌, nat_lt, nat_le, ◌&&◌, ◌||◌, pos, ◌+ℤ◌, ◌<ℤ◌, ◌≤ℤ◌, ◌⊎◌, length, slice_index};
 ghost use Rattle.vp_dots.specs.Dots.{shifted, span};
 ghost use Rattle.vp_dots.specs.Painting.{Painted};
 ghost use Rattle.vp_dots.specs.Words.{word_dot};
@@ -21,6 +21,15 @@ const WORD: u32 = 64;
 
 /// The dots of half a word.
 const HALF: u32 = 32;
+
+/// How the dots of a cell's row are widened.
+#[derive(Clone, Copy)]
+pub enum Widened {
+    /// Each to two dots.
+    Twice,
+    /// By the dots that each falls on.
+    ByMasks,
+}
 
 /// Twelve dots drawn `width` dots wide in all.
 #[derive(Clone, Copy)]
@@ -222,27 +231,31 @@ impl Stretch {
         moved_word(self.of(word), moved(at, left))
     }
 
-    /// Whether at an offset each of the twelve dots is known to fall on two.
+    /// How dots are widened at an offset.
     #[inline(always)]
-    pub fn doubles(&self, at: i64) -> bool
-        ensures { result ≡ true → (self.now.width ≡ 24) × (at <ℤ pos (2 ^ 40)) }
+    pub fn widened(&self, at: i64) -> Widened
+        ensures { result ≡ Widened.Twice → (self.now.width ≡ 24) × (at <ℤ pos (2 ^ 40)) }
     {
-        self.width == 2 * CELL && at < FAR
+        if self.width == 2 * CELL && at < FAR {
+            Widened::Twice
+        } else {
+            Widened::ByMasks
+        }
     }
 
     /// The first 64 dots of a row on which the first twelve dots of a word stand, from a place on.
-    // Whether they are doubled comes from the caller, which asks it once for many words.
+    // How they are widened comes from the caller, which asks it once for many words.
     #[inline(always)]
-    pub fn front(&self, doubled: bool, word: u64, at: i64, left: u32) -> u64
-        requires doubled { doubled ≡ true → (self.now.width ≡ 24) × (at <ℤ pos (2 ^ 40)) }
+    pub fn front(&self, widened: Widened, word: u64, at: i64, left: u32) -> u64
+        requires twice { widened ≡ Widened.Twice → (self.now.width ≡ 24) × (at <ℤ pos (2 ^ 40)) }
         requires fits { left + self.now.width < 2 ^ 32 }
         ensures { (d : ℕ) → d < 64 → word_dot result d ≡ shifted at (λ x. nat_le left x
             && nat_lt (x - left) self.now.width && word_dot word ((x - left) * 12 / self.now.width)) d }
     {
-        if doubled {
-            return moved_word(self.twice(word), moved(at, left));
+        match widened {
+            Widened::Twice => moved_word(self.twice(word), moved(at, left)),
+            Widened::ByMasks => self.front_by_masks(word, at, left),
         }
-        self.front_by_masks(word, at, left)
     }
 
     /// About how many of the dots of the sheet end within `dots` dots of cells side by side.
@@ -319,9 +332,9 @@ impl Stretch {
             self.add_wide(cell, at, left, rows);
             return;
         }
-        let doubled = self.doubles(at);
+        let widened = self.widened(at);
         for s in 0..24usize {
-            rows[s] |= left_half(self.front(doubled, row_at(cell, s), at, left));
+            rows[s] |= left_half(self.front(widened, row_at(cell, s), at, left));
         }
     }
 
@@ -349,10 +362,9 @@ impl Stretch {
         if word == 0 {
             return;
         }
-        if self.width == 2 * CELL && at < FAR {
-            paint_moved(op, self.twice(word), moved(at, left), row);
-            return;
+        match self.widened(at) {
+            Widened::Twice => paint_moved(op, self.twice(word), moved(at, left), row),
+            Widened::ByMasks => self.paint_by_masks(word, op, at, left, row),
         }
-        self.paint_by_masks(word, op, at, left, row);
     }
 }

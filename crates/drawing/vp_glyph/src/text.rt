@@ -6,7 +6,7 @@ ghost use Rattle.vp_glyph.specs.Texts.{text_dot, seen_cells};
 
 use crate::sampled::{cell_front, paint_cell, seen, seen_dots, source_row, whole_cells};
 use crate::sheet::Sheet;
-use crate::stretch::Stretch;
+use crate::stretch::{Stretch, Widened};
 use vp_dots::{Op, Small, paint_word};
 
 /// Paints line y of the cells of a text: those that can be seen on the row, and how many these are.
@@ -45,13 +45,13 @@ fn paint_cells<A: Small>(
 }
 
 /// Paints line y of the cells of a text on a row that is no longer than a word: how many cells are painted.
-// Inlined, so that each caller's loop knows whether dots are doubled.
+// Inlined, so that each caller's loop knows how dots are widened.
 #[inline(always)]
 fn paint_short<A: Small>(
     sheet: &Option<Sheet<A>>,
     text: &[u8],
     stretch: &Stretch,
-    doubled: bool,
+    widened: Widened,
     h: u32,
     y: u32,
     op: Op,
@@ -61,7 +61,7 @@ fn paint_short<A: Small>(
     requires some { 0 < stretch.now.width }
     requires fits { stretch.now.width * length text.now < 2 ^ 32 }
     requires short { length row.old ≤ 8 }
-    requires doubled { doubled ≡ true → (stretch.now.width ≡ 24) × (at <ℤ pos (2 ^ 40)) }
+    requires twice { widened ≡ Widened.Twice → (stretch.now.width ≡ 24) × (at <ℤ pos (2 ^ 40)) }
     ensures painted { Painted op (shifted at (λ x. text_dot sheet.now text.now stretch.now.width h x y))
         row.old row.new }
     ensures most { result ≤ seen_cells (length text.now) stretch.now.width (dots row.old) }
@@ -78,7 +78,7 @@ fn paint_short<A: Small>(
     let mut k = first as usize;
     let mut front = 0u64;
     while k < text.len() && w * (k as u32) < to {
-        front |= cell_front(sheet, text[k], source, stretch, doubled, at, w * k as u32);
+        front |= cell_front(sheet, text[k], source, stretch, widened, at, w * k as u32);
         k += 1;
     }
     paint_word(op, front, 0, row);
@@ -106,10 +106,12 @@ pub fn paint_text<A: Small>(
         → shifted at (λ x. text_dot sheet.now text.now stretch.now.width h x y) d ≡ true → 0 < result }
 {
     if row.len() <= 8 {
-        if stretch.doubles(at) {
-            return paint_short(sheet, text, stretch, true, h, y, op, at, row);
-        }
-        return paint_short(sheet, text, stretch, false, h, y, op, at, row);
+        return match stretch.widened(at) {
+            Widened::Twice => paint_short(sheet, text, stretch, Widened::Twice, h, y, op, at, row),
+            Widened::ByMasks => {
+                paint_short(sheet, text, stretch, Widened::ByMasks, h, y, op, at, row)
+            }
+        };
     }
     match op {
         Op::Black => paint_cells(sheet, text, stretch, h, y, Op::Black, at, row),

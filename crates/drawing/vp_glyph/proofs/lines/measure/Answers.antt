@@ -5,7 +5,7 @@ use Rattle.vp_glyph.specs.Blocks.{pieces, first, others, last_blank}
 use Rattle.vp_glyph.proofs.Plain.{AreCells, cells_enough, no_blank, first_behind, others_behind}
 use Rattle.vp_glyph.proofs.Pieces.{scan_more, behind_all, blank_more, cell_is}
 use Rattle.vp_glyph.proofs.lines.measure.Goals as goal
-use Rattle.vp_glyph.proofs.lines.measure.Goals.{then-b-eq32, else-b-eq32}
+use Rattle.vp_glyph.proofs.lines.measure.Goals.{then-b-eq32, else-b-eq32, then-b-eq32-2, else-b-eq32-2}
 
 pub loop-i-preserved : goal.loop-i-preserved
 loop-i-preserved c =
@@ -22,20 +22,16 @@ returns-in_default-next_cell-clause-cells c =
     let all : length (first (pieces c.args.text.now)) ≡ c.loop-i.i = behind_all c.loop-i.i _ _ c.loop-i.invariant.behind c.in_default-next_cell.ensures in
     omega arith
 
-pub returns-then-b-eq32-2-clause-blank : goal.returns-then-b-eq32-2-clause-blank
-returns-then-b-eq32-2-clause-blank c =
-    let last : c.args.most ≡ c.loop-i.i = omega arith in
-    let same : c.loop-i.i ≡ c.args.most + 1 - 1 = omega arith in
-    last
-    ∙ blank_more c.loop-i.i c.in-Some-next_cell.b c.loop-i.blank c.loop-i.i (first (pieces c.args.text.now)) (cell_is c.loop-i.i _ _ _ _ c.loop-i.invariant.behind c.in-Some-next_cell.ensures)
-    c.loop-i.invariant.blank_is (rw (eq-eqb c.in-Some-next_cell.b 32 c.if-b-eq32-2.true) refl)
-    ∙ ap (λ n. last_blank n (first (pieces c.args.text.now))) same
-
 pub returns-clause-blank : goal.returns-clause-blank
 returns-clause-blank c =
+    let last : c.args.most ≡ c.loop-i.i = omega arith in
     let same : c.loop-i.i ≡ c.args.most + 1 - 1 = omega arith in
-    blank_more c.loop-i.i c.in-Some-next_cell.b c.loop-i.blank c.loop-i.blank (first (pieces c.args.text.now)) (cell_is c.loop-i.i _ _ _ _ c.loop-i.invariant.behind c.in-Some-next_cell.ensures)
-    c.loop-i.invariant.blank_is (rw (ne_eqb c.in-Some-next_cell.b 32 c.if-b-eq32-2.false) refl)
+    blank_more c.loop-i.i c.in-Some-next_cell.b c.loop-i.blank c.if-b-eq32-2.blank (first (pieces c.args.text.now)) (cell_is c.loop-i.i _ _ _ _ c.loop-i.invariant.behind c.in-Some-next_cell.ensures)
+    c.loop-i.invariant.blank_is
+    (elim c.if-b-eq32-2.branch [
+      | then-b-eq32-2 w ↦ rw (eq-eqb c.in-Some-next_cell.b 32 w.if-b-eq32-2.true) (w.blank-is ∙ last)
+      | else-b-eq32-2 w ↦ rw (ne_eqb c.in-Some-next_cell.b 32 w.if-b-eq32-2.false) w.blank-is
+    ])
     ∙ ap (λ n. last_blank n (first (pieces c.args.text.now))) same
 
 pub returns-then-is_plain : goal.returns-then-is_plain

@@ -2,11 +2,11 @@ use Rattle.std.proofs.Common.{sym, w64}
 use Rattle.std.proofs.lemmas.Int.{to_z-of_z}
 use Rattle.vp_glyph.proofs.text.paint_text.Goals as goal
 
-pub returns-then-doubles-clause-some : goal.returns-then-doubles-clause-some
-returns-then-doubles-clause-some g c = rw (sym (to_z-of_z w64 c.args.at c.ranges.at)) c.paint_short.ensures.some
+pub returns-in-Twice-clause-some : goal.returns-in-Twice-clause-some
+returns-in-Twice-clause-some g c = rw (sym (to_z-of_z w64 c.args.at c.ranges.at)) c.paint_short.ensures.some
 
-pub returns-then-row-le8-clause-some : goal.returns-then-row-le8-clause-some
-returns-then-row-le8-clause-some g c = rw (sym (to_z-of_z w64 c.args.at c.ranges.at)) c.paint_short-then-row-le8.ensures.some
+pub returns-in-ByMasks-clause-some : goal.returns-in-ByMasks-clause-some
+returns-in-ByMasks-clause-some g c = rw (sym (to_z-of_z w64 c.args.at c.ranges.at)) c.paint_short-in-ByMasks.ensures.some
 
 pub returns-in-Black-clause-some : goal.returns-in-Black-clause-some
 returns-in-Black-clause-some g c = rw (sym (to_z-of_z w64 c.args.at c.ranges.at)) c.paint_cells.ensures.some
