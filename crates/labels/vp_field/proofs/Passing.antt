@@ -1,7 +1,9 @@
 -- Where ink that lies on a band is seen.
-use Rattle.std.proofs.Common.{inl, inr, ◌≡◌, ℕ, ◌<◌, ◌≤◌, Bool, true, false, ltb, leb, ◌&&◌, sym, ap, ◌∙◌, ℤ, pos, List}
+use Rattle.std.proofs.Common.{inl, inr, ◌≡◌, ℕ, ◌+◌, ◌-◌, ◌^◌, ◌<◌, ◌≤◌, Bool, true, false, ltb, leb, ◌&&◌, sym, ap, ◌∙◌, ℤ, pos, List, min, arith}
 use Rattle.std.proofs.lemmas.Bool.{cases_lt, true≢false, and_parts, ltb-true, leb-true}
+use Rattle.vp_glyph.specs.Above.{pieces_above}
 use Rattle.vp_glyph.specs.Blocks.{BlockLayout, block_dot}
+use Rattle.vp_glyph.proofs.Ended.{pieces_above_less}
 use Rattle.vp_glyph.proofs.Stacks.{block_narrow}
 use Rattle.vp_field.specs.Drawn.{part}
 use Rattle.vp_field.specs.Places.{at_place}
@@ -46,3 +48,16 @@ block_wide b text u v e = elim (cases_lt b.wide b.w) [
   | inl l ↦ absurd (true≢false (sym e ∙ sym (block_narrow b.sheet text b.w b.h b.wide b.rows b.pitch b.alignment u v l)))
   | inr n ↦ n
 ]
+
+-- where a block shows a dot of a line so far below row y, and passed and counted the lines that end above row `row`, those above row y
+-- are counted beside what is painted
+pub passed_beside : (b : BlockLayout) (text : List ℕ) (y row most high least walked painted : ℕ) (i j : ℤ)
+    → at_place (λ v. at_place (λ u. part (y + most) high (block_dot b text) u v) i) j ≡ true
+    → ((v : ℕ) → v < high → j ≡ pos v → v < row + most)
+    → (b.w ≤ b.wide → walked ≡ min (0 + pieces_above b text row) (2 ^ 64 - 1)) → walked < 2 ^ 64 - 1
+    → (at_place (λ v. at_place (λ u. block_dot b text u v) i) j ≡ true → least ≤ painted)
+    → pieces_above b text y + least ≤ walked + painted
+passed_beside b text y row most high least walked painted i j e near counted few some =
+    let seen = seen_part (y + most) high (block_dot b text) i j e in
+    let above = pieces_above_less b text y row (omega (arith, near seen.v seen.high seen.place, seen.low)) in
+    omega (arith, above, counted (block_wide b text seen.u seen.v seen.dot), few, some seen.whole)

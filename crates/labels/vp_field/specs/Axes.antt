@@ -1,10 +1,12 @@
 -- Lines of dots on lines of places.
-use Rattle.std.specs.Prelude.{ℕ, ◌-◌, ℤ, pos, neg_ℤ, ◌-ℤ◌, ◌≤ℤ◌, Bool}
+use Rattle.std.specs.Prelude.{◌≡◌, ℕ, ◌-◌, ◌*◌, ◌<◌, ℤ, pos, neg_ℤ, ◌-ℤ◌, ◌≤ℤ◌, Bool, false, Option, option_map, unwrap_or}
+use Rattle.vp_dots.specs.Dots.{span}
 use Rattle.vp_field.specs.declared.axis.Axis.{Axis}
 use Rattle.vp_field.specs.declared.axis.Axis.TheVariants.{Forward, Back}
 use Rattle.vp_field.specs.declared.axis.Lines.{Lines}
 use Rattle.vp_field.specs.declared.axis.Lines.TheVariants.{Along, Across}
 use Rattle.vp_field.specs.Places.{at_place}
+use Rattle.vp_label_size.specs.declared.TheConstants.{BAND_BYTES}
 use Rattle.vp_zpl.specs.declared.item.Orientation.{Orientation}
 use Rattle.vp_zpl.specs.declared.item.Orientation.TheVariants.{Normal, Rotated, Inverted, BottomUp}
 
@@ -34,3 +36,14 @@ lines_of BottomUp = Across
 abbrev pub laid : Lines → Axis → Axis → (ℕ → ℕ → Bool) → ℤ → ℤ → Bool
 laid Along columns rows ink x y = at_place (λ v. at_place (λ u. ink u v) (dot_on columns x)) (dot_on rows y)
 laid Across columns rows ink x y = at_place (λ v. at_place (λ u. ink u v) (dot_on rows y)) (dot_on columns x)
+
+-- dot x of a row that shows a line of the ink, if it shows one
+abbrev pub shown_dot : (ℕ → ℕ → Bool) → Axis → Option ℕ → ℕ → Bool
+shown_dot ink columns line x =
+    unwrap_or (option_map (λ v. at_place (λ u. ink u v) (dot_on columns (pos x))) line) false
+
+-- no line of the ink has a dot on a band's row but on the bytes from one to another
+abbrev pub AreWhiteBeside : (ℕ → ℕ → Bool) → Axis → ℕ → ℕ → Type 0
+AreWhiteBeside ink columns from to =
+    (v p : ℕ) → p < 8 * BAND_BYTES → span (8 * from) (8 * to) p ≡ false
+    → at_place (λ u. ink u v) (dot_on columns (pos p)) ≡ false

@@ -1,9 +1,9 @@
 //! Ink painted on a band of a label: along its rows here.
-ghost use Rattle.std.specs.Prelude.{◌≡◌, ℕ, ◌+◌, ◌*◌, ◌^◌, ◌<◌, ◌≤◌, ◌&&◌, [], Bool, true, false, pos, length, slice_index_or, option_map, unwrap_or};
+ghost use Rattle.std.specs.Prelude.{◌≡◌, ℕ, ◌+◌, ◌*◌, ◌^◌, ◌<◌, ◌≤◌, ◌&&◌, [], Bool, true, false, pos, length, slice_index_or};
 ghost use Rattle.vp_dots.specs.Dots.{span};
 ghost use Rattle.vp_dots.specs.Places.{RowsPainted};
 ghost use Rattle.vp_field.specs.Places.{at_place};
-ghost use Rattle.vp_field.specs.Axes.{IsWithin, dot_on, laid};
+ghost use Rattle.vp_field.specs.Axes.{dot_on, laid, shown_dot, AreWhiteBeside, IsWithin};
 ghost use Rattle.vp_field.specs.Bands.{IsCounted};
 ghost use Rattle.vp_field.specs.Counts.{ArePieces};
 ghost use Rattle.vp_field.specs.Contents.{lines_cost};
@@ -38,13 +38,13 @@ const BLOCK_DOTS: u64 = 8 * BLOCK;
 struct Reach {
     from: usize,
     to: usize,
+    ghost order: { from ≤ to },
+    ghost within: { to ≤ BAND_BYTES },
 }
 
 /// The bytes that lines of so many dots may reach, in whole blocks.
 fn reached(columns: Axis, width: u32) -> Reach
-    ensures order { result.from ≤ result.to }
-    ensures to { result.to ≤ BAND_BYTES }
-    ensures white { (line : ℕ → Bool) → ((u : ℕ) → line u ≡ true → u < width) → (p : ℕ) → p < 8 * BAND_BYTES
+    ensures { (line : ℕ → Bool) → ((u : ℕ) → line u ≡ true → u < width) → (p : ℕ) → p < 8 * BAND_BYTES
         → span (8 * result.from) (8 * result.to) p ≡ false → at_place line (dot_on columns (pos p)) ≡ false }
 {
     let (left, right) = columns.span(width);
@@ -65,10 +65,7 @@ fn paint_drawn<I: Pieces, A: Small>(
     band: &mut LabelBand<A>,
 )
     requires columns { IsWithin (2 ^ 41) columns }
-    requires order { reach.from ≤ reach.to }
-    requires to { reach.to ≤ BAND_BYTES }
-    requires white { (v p : ℕ) → p < 8 * BAND_BYTES → span (8 * reach.from) (8 * reach.to) p ≡ false
-        → at_place (λ u. I.ink_at pen.old.ink.now u v) (dot_on columns (pos p)) ≡ false }
+    requires white { AreWhiteBeside (I.ink_at pen.old.ink.now) columns reach.from reach.to }
     requires inside { k + shown.places ≤ BAND_ROWS }
     requires count { pen.old.lines < 2 ^ 22 }
     requires within { ArePieces (I.most_pieces pen.old.ink.now (8 * BAND_BYTES)) pen.old.lines
@@ -77,9 +74,8 @@ fn paint_drawn<I: Pieces, A: Small>(
     ensures counted { pen.new.lines ≡ pen.old.lines + 1 }
     ensures within { ArePieces (I.most_pieces pen.new.ink.now (8 * BAND_BYTES)) pen.new.lines
         pen.new.pieces }
-    ensures painted { RowsPainted BAND_ROWS op (λ x r. span k (k + shown.places) r && unwrap_or (option_map
-        (λ v. at_place (λ u. I.ink_at pen.old.ink.now u v) (dot_on columns (pos x))) shown.line) false)
-        band.old band.new }
+    ensures painted { RowsPainted BAND_ROWS op (λ x r. span k (k + shown.places) r
+        && shown_dot (I.ink_at pen.old.ink.now) columns shown.line x) band.old band.new }
 {
     let mut line = [0u8; BAND_BYTES];
     pen.draw_on(shown, columns, 0, &mut line);
@@ -99,10 +95,7 @@ fn paint_alike<I: Pieces, A: Small>(
     band: &mut LabelBand<A>,
 )
     requires columns { IsWithin (2 ^ 41) columns }
-    requires order { reach.from ≤ reach.to }
-    requires to { reach.to ≤ BAND_BYTES }
-    requires white { (v p : ℕ) → p < 8 * BAND_BYTES → span (8 * reach.from) (8 * reach.to) p ≡ false
-        → at_place (λ u. I.ink_at pen.old.ink.now u v) (dot_on columns (pos p)) ≡ false }
+    requires white { AreWhiteBeside (I.ink_at pen.old.ink.now) columns reach.from reach.to }
     requires inside { k + shown.places ≤ BAND_ROWS }
     requires count { pen.old.lines < 2 ^ 22 }
     requires within { ArePieces (I.most_pieces pen.old.ink.now (8 * BAND_BYTES)) pen.old.lines
@@ -111,9 +104,8 @@ fn paint_alike<I: Pieces, A: Small>(
     ensures counted { pen.new.lines ≡ pen.old.lines + 1 }
     ensures within { ArePieces (I.most_pieces pen.new.ink.now (8 * BAND_BYTES)) pen.new.lines
         pen.new.pieces }
-    ensures painted { RowsPainted BAND_ROWS op (λ x r. span k (k + shown.places) r && unwrap_or (option_map
-        (λ v. at_place (λ u. I.ink_at pen.old.ink.now u v) (dot_on columns (pos x))) shown.line) false)
-        band.old band.new }
+    ensures painted { RowsPainted BAND_ROWS op (λ x r. span k (k + shown.places) r
+        && shown_dot (I.ink_at pen.old.ink.now) columns shown.line x) band.old band.new }
 {
     if shown.places == 1 {
         pen.paint_on(shown, op, columns, band.row_mut(k));

@@ -3,7 +3,7 @@ ghost use Rattle.std.specs.Prelude.{◌≡◌, ℕ, ◌+◌, ◌*◌, ◌^◌, �
 ghost use Rattle.vp_dots.specs.Dots.{dot};
 ghost use Rattle.vp_dots.specs.Painting.{Painted};
 ghost use Rattle.vp_field.specs.Places.{at_place};
-ghost use Rattle.vp_field.specs.Axes.{IsWithin, dot_on};
+ghost use Rattle.vp_field.specs.Axes.{dot_on, shown_dot, IsWithin};
 ghost use Rattle.vp_field.specs.Counts.{ArePieces};
 ghost use Rattle.vp_label_size.specs.declared.TheConstants.{BAND_BYTES};
 
@@ -118,9 +118,8 @@ impl<'a, I: Pieces, const BYTES: usize> Pen<'a, I, BYTES> {
         ensures within { ArePieces (I.most_pieces self.new.ink.now (8 * BYTES)) self.new.lines
             self.new.pieces }
         ensures some { (p : ℕ) → p < 8 * BYTES → dot line.new p ≡ true → self.old.pieces < self.new.pieces }
-        ensures dots { (p : ℕ) → p < 8 * BYTES → dot line.new p ≡ unwrap_or (option_map
-            (λ v. at_place (λ u. I.ink_at self.old.ink.now u v) (dot_on dots (pos (from + p)))) shown.line)
-            false }
+        ensures dots { (p : ℕ) → p < 8 * BYTES
+            → dot line.new p ≡ shown_dot (I.ink_at self.old.ink.now) dots shown.line (from + p) }
     {
         if let Some(v) = self.handed(shown) {
             self.pieces += draw::<I, BYTES>(self.ink, v, dots, from, line);
@@ -139,12 +138,10 @@ impl<'a, I: Pieces, const BYTES: usize> Pen<'a, I, BYTES> {
         ensures counted { self.new.lines ≡ self.old.lines + 1 }
         ensures within { ArePieces (I.most_pieces self.new.ink.now (8 * BYTES)) self.new.lines
             self.new.pieces }
-        ensures some { (p : ℕ) → p < 8 * BAND_BYTES → unwrap_or (option_map
-            (λ v. at_place (λ u. I.ink_at self.old.ink.now u v) (dot_on dots (pos p))) shown.line) false
-            ≡ true → self.old.pieces < self.new.pieces }
-        ensures painted { Painted op (λ p. unwrap_or (option_map
-            (λ v. at_place (λ u. I.ink_at self.old.ink.now u v) (dot_on dots (pos p))) shown.line) false)
-            row.old row.new }
+        ensures some { (p : ℕ) → p < 8 * BAND_BYTES
+            → shown_dot (I.ink_at self.old.ink.now) dots shown.line p ≡ true
+            → self.old.pieces < self.new.pieces }
+        ensures painted { Painted op (shown_dot (I.ink_at self.old.ink.now) dots shown.line) row.old row.new }
     {
         if let Some(v) = self.handed(shown) {
             self.pieces += paint_line(self.ink, v, op, dots, row);

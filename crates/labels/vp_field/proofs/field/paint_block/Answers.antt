@@ -3,9 +3,7 @@ use Rattle.std.proofs.lemmas.List.{length-take}
 use Rattle.vp_format.specs.declared.field.Content.TheVariants as contents
 use Rattle.vp_format.specs.declared.field.TextBlock.{TextBlock}
 use Rattle.vp_glyph.specs.Blocks.{block_height, block_width, block_dot}
-use Rattle.vp_glyph.specs.Above.{pieces_above}
 use Rattle.vp_glyph.specs.Layouts.{layout_of}
-use Rattle.vp_glyph.proofs.Ended.{pieces_above_less}
 use Rattle.vp_field.specs.Axes.{laid, lines_of, dot_on}
 use Rattle.vp_field.specs.Counts.{block_least}
 use Rattle.vp_field.specs.Contents.{bytes_of, block_layout, content_height, content_dot, most_lines, IsTextBlock}
@@ -14,7 +12,7 @@ use Rattle.vp_field.specs.Standing.{standing}
 use Rattle.vp_field.specs.Views.{seen_x, seen_y}
 use Rattle.vp_field.specs.declared.axis.Lines.TheVariants.{Along, Across}
 use Rattle.vp_field.proofs.Counts.{along_cost, across_cost}
-use Rattle.vp_field.proofs.Passing.{seen_part, block_wide}
+use Rattle.vp_field.proofs.Passing.{passed_beside}
 use Rattle.vp_field.proofs.Shown.{rows_same}
 use Rattle.vp_field.proofs.field.paint_block.Goals as goal
 
@@ -92,49 +90,41 @@ returns-in-Along-clause-passed g c = λ x k y l m e.
     let b = c.block_of-ink.ensures in
     let r = c.from_row-block.ensures in
     let d = c.args.block in
-    let sheets = c.args.sheets.now in
-    let stored = c.args.stored.now in
-    let text = bytes_of stored d.text.bytes in
+    let text = bytes_of c.args.stored.now d.text.bytes in
     let lay = c.laid-laid.result in
-    let row = c.first_line-row.result in
-    let h = content_height sheets stored (contents.Block d) in
-    let ink = content_dot sheets stored (contents.Block d) in
+    let h = content_height c.args.sheets.now c.args.stored.now (contents.Block d) in
+    let ink = content_dot c.args.sheets.now c.args.stored.now (contents.Block d) in
     let lines : lines_of c.args.on.orientation ≡ Along = sym c.laid-laid.ensures.lines ∙ c.in-Along.is in
-    let from = y + most_lines (lines_of c.args.on.orientation) in
+    let most = most_lines (lines_of c.args.on.orientation) in
     let shown = rw (c.in-Along.is, b.w, b.h, b.wide, b.rows, b.pitch) at c.laid-laid.ensures.ink in
-    let seen = seen_part from h ink (dot_on lay.columns (pos x)) (dot_on lay.rows (pos (c.args.first + k))) (shown (part from h ink) (pos x) (pos (c.args.first + k)) ∙ e) in
     let height = rw (b.h, b.rows, b.pitch) at c.size-height.ensures.height in
-    let near = c.first_line-row.ensures.near c.in-Along.is k seen.v m (omega (arith, seen.high, height)) seen.place in
-    let above = pieces_above_less (block_layout sheets d) text y row (omega (arith, near, seen.low, ap most_lines lines)) in
     let walked = rw (b.walked, b.passed, b.sheet, b.text, b.w, b.h, b.wide, b.rows, b.pitch, b.alignment) at r.counted in
-    let counted : c.from_row-block.result.walked ≡ min (0 + pieces_above (block_layout sheets d) text row) (2 ^ 64 - 1) = walked (block_wide (block_layout sheets d) text seen.u seen.v seen.dot) in
-    let few = text_few stored d _ c.requires.block b.text in
     let painted = rw (r.sheet ∙ b.sheet, r.text ∙ b.text, r.w ∙ b.w, r.h ∙ b.h, r.wide ∙ b.wide, r.rows ∙ b.rows, r.pitch ∙ b.pitch, r.alignment ∙ b.alignment) at c.paint_block_along.ensures.counted in
-    let some = painted x k m (sym (shown ink (pos x) (pos (c.args.first + k))) ∙ seen.whole) in
-    omega (arith, above, counted, few, r.walked, b.walked, some, ap block_least lines, c.walked-walked.ensures)
+    let few = text_few c.args.stored.now d _ c.requires.block b.text in
+    let passed = passed_beside (block_layout c.args.sheets.now d) text y c.first_line-row.result most h (block_least (lines_of c.args.on.orientation)) c.from_row-block.result.walked c.paint_block_along.result
+    (dot_on lay.columns (pos x)) (dot_on lay.rows (pos (c.args.first + k))) (shown (part (y + most) h ink) (pos x) (pos (c.args.first + k)) ∙ e)
+    (λ v n p. let near = c.first_line-row.ensures.near c.in-Along.is k v m (omega (arith, n, height)) p in omega (arith, near, ap most_lines lines))
+    walked (omega (arith, few, r.walked, b.walked)) (λ w. let some = painted x k m (sym (shown ink (pos x) (pos (c.args.first + k))) ∙ w) in omega (arith, some, ap block_least lines)) in
+    omega (arith, passed, c.walked-walked.ensures)
 
 pub returns-in-Across-clause-passed : goal.returns-in-Across-clause-passed
 returns-in-Across-clause-passed g c = λ x k y l m e.
     let b = c.block_of-ink.ensures in
     let r = c.from_row-block.ensures in
     let d = c.args.block in
-    let sheets = c.args.sheets.now in
-    let stored = c.args.stored.now in
-    let text = bytes_of stored d.text.bytes in
+    let text = bytes_of c.args.stored.now d.text.bytes in
     let lay = c.laid-laid.result in
-    let row = c.first_line-row.result in
-    let h = content_height sheets stored (contents.Block d) in
-    let ink = content_dot sheets stored (contents.Block d) in
+    let h = content_height c.args.sheets.now c.args.stored.now (contents.Block d) in
+    let ink = content_dot c.args.sheets.now c.args.stored.now (contents.Block d) in
     let lines : lines_of c.args.on.orientation ≡ Across = sym c.laid-laid.ensures.lines ∙ c.in-Across.is in
-    let from = y + most_lines (lines_of c.args.on.orientation) in
+    let most = most_lines (lines_of c.args.on.orientation) in
     let shown = rw (c.in-Across.is, b.w, b.h, b.wide, b.rows, b.pitch) at c.laid-laid.ensures.ink in
-    let seen = seen_part from h ink (dot_on lay.rows (pos (c.args.first + k))) (dot_on lay.columns (pos x)) (shown (part from h ink) (pos x) (pos (c.args.first + k)) ∙ e) in
     let height = rw (b.h, b.rows, b.pitch) at c.size-height.ensures.height in
-    let near = c.first_line-row.ensures.within c.in-Across.is x seen.v l (omega (arith, seen.high, height)) seen.place in
-    let above = pieces_above_less (block_layout sheets d) text y row (omega (arith, near, seen.low, ap most_lines lines)) in
     let walked = rw (b.walked, b.passed, b.sheet, b.text, b.w, b.h, b.wide, b.rows, b.pitch, b.alignment) at r.counted in
-    let counted : c.from_row-block.result.walked ≡ min (0 + pieces_above (block_layout sheets d) text row) (2 ^ 64 - 1) = walked (block_wide (block_layout sheets d) text seen.u seen.v seen.dot) in
-    let few = text_few stored d _ c.requires.block b.text in
     let painted = rw (r.sheet ∙ b.sheet, r.text ∙ b.text, r.w ∙ b.w, r.h ∙ b.h, r.wide ∙ b.wide, r.rows ∙ b.rows, r.pitch ∙ b.pitch, r.alignment ∙ b.alignment) at c.paint_block_across.ensures.least in
-    let some = painted x k l m seen.whole in
-    omega (arith, above, counted, few, r.walked, b.walked, some, ap block_least lines, c.walked-walked.ensures)
+    let few = text_few c.args.stored.now d _ c.requires.block b.text in
+    let passed = passed_beside (block_layout c.args.sheets.now d) text y c.first_line-row.result most h (block_least (lines_of c.args.on.orientation)) c.from_row-block.result.walked c.paint_block_across.result
+    (dot_on lay.rows (pos (c.args.first + k))) (dot_on lay.columns (pos x)) (shown (part (y + most) h ink) (pos x) (pos (c.args.first + k)) ∙ e)
+    (λ v n p. let near = c.first_line-row.ensures.within c.in-Across.is x v l (omega (arith, n, height)) p in omega (arith, near, ap most_lines lines))
+    walked (omega (arith, few, r.walked, b.walked)) (λ w. let some = painted x k l m w in omega (arith, some, ap block_least lines)) in
+    omega (arith, passed, c.walked-walked.ensures)

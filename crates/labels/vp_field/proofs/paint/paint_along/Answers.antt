@@ -1,9 +1,8 @@
-use Rattle.std.proofs.Common.{inl, inr, ◌≡◌, ℕ, ◌+◌, ◌-◌, ◌<◌, ◌≤◌, true, false, arith, refl, ap, ◌∙◌, pos}
+use Rattle.std.proofs.Common.{inl, inr, ◌≡◌, ℕ, ◌+◌, ◌-◌, ◌<◌, ◌≤◌, true, arith, refl, ap, ◌∙◌, pos}
 use Rattle.std.proofs.lemmas.Bool.{both_ways, cases_lt}
-use Rattle.std.specs.Prelude.{option_map, unwrap_or}
 use Rattle.vp_dots.proofs.Placing.{rows_init, rows_all}
 use Rattle.vp_field.specs.Places.{at_place}
-use Rattle.vp_field.specs.Axes.{dot_on, laid}
+use Rattle.vp_field.specs.Axes.{dot_on, laid, shown_dot}
 use Rattle.vp_field.specs.declared.axis.Lines.TheVariants.{Along}
 use Rattle.vp_field.proofs.Places.{line_inside}
 use Rattle.vp_field.proofs.Counts.{few_pieces}
@@ -27,7 +26,7 @@ pub loop-k-preserved : goal.loop-k-preserved
 loop-k-preserved g c =
     let ink = λ (u v : ℕ). g.I.Ink.ink_at c.args.ink.ink.now u v in
     let dots = λ (x k : ℕ). laid Along c.args.columns c.args.rows ink (pos x) (pos (c.args.first + k)) in
-    let line = λ (x : ℕ). unwrap_or (option_map (λ v. at_place (λ u. ink u v) (dot_on c.args.columns (pos x))) c.shown-shown.result.line) false in
+    let line = shown_dot ink c.args.columns c.shown-shown.result.line in
     let alike : (x k : ℕ) → c.loop-k.k ≤ k → k < c.loop-k.k + c.shown-shown.result.places → dots x k ≡ line x = λ x k a b.
     let there : c.args.first + k ≡ c.from-first.result + c.loop-k.k + (k - c.loop-k.k) = omega (arith, c.from-first.ensures) in
     ap (λ n. at_place (λ v. at_place (λ u. ink u v) (dot_on c.args.columns (pos x))) (dot_on c.args.rows (pos n))) there ∙ (rw c.loop-k.invariant.ink at c.shown-shown.ensures.line) (k - c.loop-k.k) (omega arith) (dot_on c.args.columns (pos x)) in

@@ -1,10 +1,9 @@
-use Rattle.std.proofs.Common.{inl, inr, ◌≡◌, ℕ, ◌+◌, ◌*◌, ◌&&◌, false, leb, refl, sym, ap, ◌∙◌, arith, pos}
+use Rattle.std.proofs.Common.{inl, inr, ◌≡◌, ℕ, ◌+◌, ◌*◌, ◌&&◌, leb, refl, sym, ap, ◌∙◌, arith, pos}
 use Rattle.std.proofs.lemmas.Bool.{cases_lt, le-leb}
-use Rattle.std.specs.Prelude.{option_map, unwrap_or}
 use Rattle.vp_dots.proofs.Heights.{rows_next}
 use Rattle.vp_dots.proofs.Paints.{painted_same}
 use Rattle.vp_field.specs.Places.{at_place}
-use Rattle.vp_field.specs.Axes.{dot_on}
+use Rattle.vp_field.specs.Axes.{dot_on, shown_dot}
 use Rattle.vp_dots.proofs.Rows.{dot_past}
 use Rattle.vp_field.proofs.Alike.{no_line}
 use Rattle.vp_field.proofs.OnWhite.{dot_white}
@@ -15,7 +14,7 @@ draw_on-requires g c = (omega arith, (omega arith, (c.requires.columns, (omega a
 
 pub loop-i-preserved : goal.loop-i-preserved
 loop-i-preserved g c =
-    let line = λ (x : ℕ). unwrap_or (option_map (λ v. at_place (λ u. g.I.Ink.ink_at c.args.pen.now.ink.now u v) (dot_on c.args.columns (pos x))) c.args.shown.line) false in
+    let line = shown_dot (g.I.Ink.ink_at c.args.pen.now.ink.now) c.args.columns c.args.shown.line in
     rows_next 32 c.args.op (λ x k. leb c.args.k k && line x) c.args.k c.loop-i.i _ _ _ (omega (arith, c.row_mut.ensures.rows)) (omega arith) c.loop-i.invariant
     (rw (sym c.row_mut.ensures.value) (painted_same _ _ _ _ _ (λ d l.
     let here : 0 + d ≡ d = omega arith in
