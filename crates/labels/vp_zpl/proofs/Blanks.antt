@@ -5,19 +5,13 @@ use Rattle.vp_zpl.specs.Spelling.{is_comma, is_blank, ended, last, behind_commas
 use Rattle.vp_zpl.specs.Commands.{is_whole, head}
 use Rattle.vp_zpl.proofs.Parameters.{not_whole_is}
 
-both : (x y : Bool) (p : List ℕ) (a : ℕ) {X : Type 0} (f : List ℕ → X) (g : List ℕ → X) (add : X → X) (u v : X)
-    → ((q : List ℕ) → f q ≡ g q) → u ≡ v → cond x (add u) (cond y (f p) (f (p ++ a ∷ []))) ≡ cond x (add v) (cond y (g p) (g (p ++ a ∷ [])))
-both x y p a f g add u v h e = grind arith
-
 pub ended_blank : (p args more : List ℕ) → ended p (args ++ 0x20 ∷ more) ≡ ended p (args ++ more)
 ended_blank p [] more = refl
-ended_blank p (a ∷ args) more =
-    both (is_comma a) (is_blank a) p a (λ q. ended q (args ++ 0x20 ∷ more)) (λ q. ended q (args ++ more)) (λ e. p ∷ e) _ _ (λ q. ended_blank q args more) (ended_blank [] args more)
+ended_blank p (a ∷ args) more = grind (arith, (λ (q : List ℕ). ended_blank q args more), ended_blank [] args more)
 
 pub last_blank : (p args more : List ℕ) → last p (args ++ 0x20 ∷ more) ≡ last p (args ++ more)
 last_blank p [] more = refl
-last_blank p (a ∷ args) more =
-    both (is_comma a) (is_blank a) p a (λ q. last q (args ++ 0x20 ∷ more)) (λ q. last q (args ++ more)) (λ e. e) _ _ (λ q. last_blank q args more) (last_blank [] args more)
+last_blank p (a ∷ args) more = grind (arith, (λ (q : List ℕ). last_blank q args more), last_blank [] args more)
 
 pub parameters_blank : (args more : List ℕ) → parameters (args ++ 0x20 ∷ more) ≡ parameters (args ++ more)
 unfolding parameters

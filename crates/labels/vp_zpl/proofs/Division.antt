@@ -3,7 +3,7 @@ use Rattle.std.proofs.Common.{◌≡◌, ℕ, Bool, true, false, List, [], ◌�
 use Rattle.std.proofs.lemmas.Bool.Decides.{nat_tests}
 use Rattle.vp_zpl.specs.Spelling.{is_sign, is_line_end}
 use Rattle.vp_zpl.specs.Commands.{Cut, cut, cut_back, with_byte, longer, wants_binary}
-use Rattle.vp_zpl.specs.Laws.{Follows, GoesOn, IsCommand, IsCut, cut_of}
+use Rattle.vp_zpl.specs.Laws.{Follows, GoesOn, IsCommand, IsCut}
 use Rattle.vp_zpl.proofs.Cuts.{cut-push, with-byte, taken}
 use Rattle.vp_zpl.proofs.Phases.{carry}
 
@@ -17,11 +17,10 @@ follows wants s c w f = grind (arith, with-byte)
 
 goes_on : (bytes : List ℕ) (before : List (List ℕ)) (sign : ℕ) (front more : List ℕ) → cut bytes ≡ record { before = before; open_one = sign ∷ front }
     → GoesOn (sign ∷ front) more → cut (bytes ++ more) ≡ record { before = before; open_one = sign ∷ front ++ more }
-goes_on bytes before sign front [] e g = ap cut (nothing_after bytes) ∙ e ∙ ap (λ x. cut_of before (sign ∷ x)) (sym (nothing_after front))
+goes_on bytes before sign front [] e g = grind (arith, nothing_after)
 goes_on bytes before sign front (c ∷ more) e g =
     let one : cut (bytes ++ c ∷ []) ≡ record { before = before; open_one = sign ∷ front ++ c ∷ [] } = grind (arith, cut-push, follows) in
-    ap cut (sym (append_assoc bytes (c ∷ []) more)) ∙ goes_on (bytes ++ c ∷ []) before sign (front ++ c ∷ []) more one g.1
-    ∙ ap (λ x. cut_of before (sign ∷ x)) (append_assoc front (c ∷ []) more)
+    grind (arith, goes_on (bytes ++ c ∷ []) before sign (front ++ c ∷ []) more one g.1, append_assoc, one)
 
 -- no sign is the end of a line
 sign_ends : (c : ℕ) → is_sign c ≡ true → is_line_end c ≡ false

@@ -90,10 +90,7 @@ nothing_after [] = refl
 nothing_after (x ∷ xs) = ap (λ y. x ∷ y) (nothing_after xs)
 
 pub grows : (bytes more : List ℕ) → Grows (items bytes) (items (bytes ++ more))
-grows bytes [] = same _ _ (ap items (nothing_after bytes))
+grows bytes [] = grind (arith, same, nothing_after)
 grows bytes (c ∷ more) =
     let a = one_more bytes c in let b = grows (bytes ++ c ∷ []) more in
-    record {
-      added = a.added ++ b.added;
-      is = ap items (sym (append_assoc bytes (c ∷ []) more)) ∙ b.is ∙ ap (λ x. x ++ b.added) a.is ∙ append_assoc (items bytes) a.added b.added;
-    }
+    grind (arith, append_assoc)

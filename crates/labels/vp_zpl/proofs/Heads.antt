@@ -1,5 +1,5 @@
 -- Parameters and the data of ^GF, by one byte more.
-use Rattle.std.proofs.Common.{◌≡◌, ℕ, ◌-◌, ◌<◌, ◌≤◌, ◌==◌, Bool, true, false, cond, List, [], ◌∷◌, ◌++◌, length, map, refl, sym, ap, ◌∙◌, arith, length-append}
+use Rattle.std.proofs.Common.{◌≡◌, ℕ, ◌-◌, ◌<◌, ◌≤◌, ◌==◌, Bool, true, false, cond, List, [], ◌∷◌, ◌++◌, length, map, refl, ap, ◌∙◌, arith, length-append}
 use Rattle.std.proofs.lemmas.Bool.Decides.{nat_tests}
 use Rattle.std.proofs.lemmas.List.{map-append, take-append-le, take_all, length_push}
 use Rattle.std.specs.Prelude.{filter}
@@ -11,17 +11,9 @@ use Rattle.vp_zpl.specs.Items.{picture, is_code}
 abbrev pub tail : ℕ → List ℕ → List (List ℕ)
 tail c p = cond (is_comma c) (p ∷ []) []
 
-ended_step : (x y : Bool) (p : List ℕ) (args : List ℕ) (a c : ℕ) → ((q : List ℕ) → ended q (args ++ c ∷ []) ≡ ended q args ++ tail c (last q args))
-    → cond x (p ∷ ended [] (args ++ c ∷ [])) (cond y (ended p (args ++ c ∷ [])) (ended (p ++ a ∷ []) (args ++ c ∷ [])))
-    ≡ cond x (p ∷ ended [] args) (cond y (ended p args) (ended (p ++ a ∷ []) args)) ++ tail c (cond x (last [] args) (cond y (last p args) (last (p ++ a ∷ []) args)))
-ended_step x y p args a c ih = grind arith
-
-one_more : (x y : Bool) (p : List ℕ) (a : ℕ) → cond x (p ∷ []) (cond y [] []) ≡ cond x (p ∷ []) []
-one_more x y p a = grind arith
-
 pub ended-push : (p args : List ℕ) (c : ℕ) → ended p (args ++ c ∷ []) ≡ ended p args ++ tail c (last p args)
-ended-push p [] c = one_more (is_comma c) (is_blank c) p c
-ended-push p (a ∷ args) c = ended_step (is_comma a) (is_blank a) p args a c (λ q. ended-push q args c)
+ended-push p [] c = grind arith
+ended-push p (a ∷ args) c = grind (arith, (λ (q : List ℕ). ended-push q args c))
 
 -- behind a whole head, a byte more is a byte of data more
 behind_step : (x y : Bool) (n : ℕ) (p args : List ℕ) (a c : ℕ)
@@ -36,11 +28,8 @@ behind_if z xs ys xs' ys' e f = cc
 append_if : (z : Bool) (xs ys : List ℕ) (c : ℕ) → cond z (xs ++ c ∷ []) (ys ++ c ∷ []) ≡ cond z xs ys ++ c ∷ []
 append_if z xs ys c = grind arith
 
-behind_none : (z : Bool) (n c : ℕ) → n ≤ 0 → behind_commas n (c ∷ []) ≡ c ∷ []
-behind_none z n c h = let e : n ≡ 0 = omega arith in rw e refl
-
 pub behind-push : (n : ℕ) (p args : List ℕ) (c : ℕ) → n ≤ length (ended p args) → behind_commas n (args ++ c ∷ []) ≡ behind_commas n args ++ c ∷ []
-behind-push n p [] c h = behind_none true n c h
+behind-push n p [] c h = grind arith
 behind-push n p (a ∷ args) c h =
     behind_if (n == 0) _ _ _ _ refl (behind_step (is_comma a) (is_blank a) n p args a c (λ m q g. behind-push m q args c g) h)
     ∙ append_if (n == 0) (a ∷ args) _ c
@@ -71,16 +60,11 @@ pub binary_more : (args : List ℕ) (c : ℕ) → is_whole args ≡ true → is_
 unfolding picture
 binary_more args c w b few =
     let s = still args c w in
-    rw (s.head_is, s.data_is, b)
-    (take_all (count_of (head args)) (behind_commas 4 args ++ c ∷ []) (omega (arith, length_push (behind_commas 4 args) c))
-    ∙ ap (λ x. x ++ c ∷ []) (sym (take_all (count_of (head args)) (behind_commas 4 args) (omega arith))))
-
-filter_if : (z : Bool) (x : ℕ) (xs ys zs : List ℕ) → xs ≡ ys ++ zs → cond z (x ∷ xs) xs ≡ cond z (x ∷ ys) ys ++ zs
-filter_if z x xs ys zs e = grind arith
+    grind (arith, take_all, length_push)
 
 filter_push : (xs : List ℕ) (c : ℕ) → filter is_code (xs ++ c ∷ []) ≡ filter is_code xs ++ cond (is_code c) (c ∷ []) []
 filter_push [] c = refl
-filter_push (x ∷ xs) c = filter_if (is_code x) x (filter is_code (xs ++ c ∷ [])) (filter is_code xs) (cond (is_code c) (c ∷ []) []) (filter_push xs c)
+filter_push (x ∷ xs) c = grind (arith, filter_push xs c)
 
 pub code_more : (args : List ℕ) (c : ℕ) (more : List ℕ) → is_whole args ≡ true → is_b (head args) ≡ false → cond (is_code c) (c ∷ []) [] ≡ more
     → picture (args ++ c ∷ []) ≡ picture args ++ more

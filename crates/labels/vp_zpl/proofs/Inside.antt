@@ -1,7 +1,5 @@
 -- A byte more among parameters.
 use Rattle.std.proofs.Common.{◌≡◌, ℕ, ◌<◌, ◌≤◌, Bool, true, false, cond, List, [], ◌∷◌, ◌++◌, length, take, refl, sym, ap, ◌∙◌, arith}
-use Rattle.std.proofs.Math.Seq.{take-nil}
-use Rattle.std.specs.Prelude.{filter}
 use Rattle.vp_zpl.specs.declared.name.Kind.{Kind}
 use Rattle.vp_zpl.specs.declared.name.Kind.TheVariants as kinds
 use Rattle.vp_zpl.specs.declared.name.Name.{Name}
@@ -10,7 +8,7 @@ use Rattle.vp_zpl.specs.declared.reader.Phase.TheVariants.{Parameters, Codes, Bi
 use Rattle.vp_zpl.specs.Spelling.{is_comma, is_blank, ended, last, behind_commas, kept, kept_of, Kept}
 use Rattle.vp_zpl.specs.Shown.{shown_part, shown_parts}
 use Rattle.vp_zpl.specs.Commands.{is_b, count_of, head, is_whole, longer, indicator}
-use Rattle.vp_zpl.specs.Items.{item_of, picture, is_code, given_named}
+use Rattle.vp_zpl.specs.Items.{item_of, picture, given_named}
 use Rattle.vp_zpl.specs.Reader.{Named, StandsIn, Goes, InParameters, has_parameters, in_phase, indicator_at, behind_head}
 use Rattle.vp_zpl.proofs.Named.{goes_named, named_longer, indicator-is}
 use Rattle.vp_zpl.proofs.Phases.{at_phase, at_indicator, carry}
@@ -86,12 +84,9 @@ head_phase z new args command n w d e = grind arith
 head_indicates : (z : Bool) (n : ℕ) (command : List ℕ) (before : List (List ℕ)) → indicator (command ∷ before) ≡ indicator_at (cond z (Binary n) Codes) command before
 head_indicates z n command before = grind arith
 
-no_picture : (z : Bool) (n : ℕ) (none : List ℕ) → none ≡ [] → cond z (take n []) none ≡ []
-no_picture z n none e = grind (arith, take-nil)
-
 picture_none : (args : List ℕ) → behind_commas 4 args ≡ [] → picture args ≡ []
 unfolding picture
-picture_none args d = rw d (no_picture (is_b (head args)) (count_of (head args)) (filter is_code []) refl)
+picture_none args d = grind arith
 
 whole_given : (before : List (List ℕ)) (name : Name) (args more : List ℕ) → is_whole args ≡ false → is_whole more ≡ true → picture more ≡ []
     → given_named kinds.Graphic before name more ≡ given_named kinds.Graphic before name args ++ item_of kinds.Graphic name (head more) ∷ []

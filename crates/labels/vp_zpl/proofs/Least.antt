@@ -4,7 +4,7 @@ use Rattle.std.proofs.lemmas.List.{length-take, length-reverse, length_push}
 use Rattle.vp_zpl.specs.declared.name.Kind.{Kind}
 use Rattle.vp_zpl.specs.declared.name.Kind.TheVariants as kinds
 use Rattle.vp_zpl.specs.declared.name.Name.{Name}
-use Rattle.vp_zpl.specs.Spelling.{behind_commas, decoded, known, could_spell, spelled, or_itself}
+use Rattle.vp_zpl.specs.Spelling.{behind_commas, decoded, known}
 use Rattle.vp_zpl.specs.Commands.{Cut, cut, cut_back, with_byte, is_whole, indicator}
 use Rattle.vp_zpl.specs.Items.{Item, items, data_items, graphic, picture, is_code, text_known, text_at_end, given, given_named, at_end, at_end_named, all_ended, least_bytes}
 use Rattle.vp_zpl.proofs.Cuts.{items-is}
@@ -19,12 +19,9 @@ least_data (b ∷ bytes) = omega (arith, least_data bytes)
 
 -- Data that a command gives are no longer than what is behind its name.
 
-or_shorter : (b : Bool) (x : ℕ) (xs ys : List ℕ) → length xs ≤ length ys → length (cond b (x ∷ xs) xs) ≤ length (x ∷ ys)
-or_shorter b x xs ys h = grind arith
-
 codes_few : (bytes : List ℕ) → length (filter is_code bytes) ≤ length bytes
 codes_few [] = lit≤ tt
-codes_few (b ∷ bytes) = or_shorter (is_code b) b (filter is_code bytes) bytes (codes_few bytes)
+codes_few (b ∷ bytes) = grind (arith, codes_few bytes)
 
 either_few : (b : Bool) (xs ys : List ℕ) (n : ℕ) → length xs ≤ n → length ys ≤ n → length (cond b xs ys) ≤ n
 either_few b xs ys n h k = grind arith
@@ -37,21 +34,17 @@ picture_few : (args : List ℕ) → length (picture args) ≤ length args
 unfolding picture
 picture_few args = grind (arith, either_few, length-take, behind_few, codes_few)
 
-itself_few : (o : Option ℕ) (behind_it rest : List ℕ) (a b c : ℕ) (more : List ℕ) → length behind_it ≤ length more → length rest ≤ length (b ∷ c ∷ more)
-    → length (or_itself o behind_it a rest) ≤ length (a ∷ b ∷ c ∷ more)
-itself_few o behind_it rest a b c more h k = grind arith
-
 decoded_few : (x : ℕ) (bytes : List ℕ) → length (decoded x bytes) ≤ length bytes
 decoded_few x [] = lit≤ tt
 decoded_few x (a ∷ []) = lit≤ tt
 decoded_few x (a ∷ b ∷ []) = lit≤ tt
-decoded_few x (a ∷ b ∷ c ∷ more) = itself_few (spelled x a b c) _ _ a b c more (decoded_few x more) (decoded_few x (b ∷ c ∷ more))
+decoded_few x (a ∷ b ∷ c ∷ more) = grind (arith, decoded_few x more, decoded_few x (b ∷ c ∷ more))
 
 known_few : (x : ℕ) (bytes : List ℕ) → length (known x bytes) ≤ length bytes
 known_few x [] = lit≤ tt
-known_few x (a ∷ []) = either_few (could_spell x (a ∷ [])) [] (a ∷ []) 1 (lit≤ tt) (lit≤ tt)
-known_few x (a ∷ b ∷ []) = either_few (could_spell x (a ∷ b ∷ [])) [] (a ∷ known x (b ∷ [])) 2 (lit≤ tt) (let few = known_few x (b ∷ []) in omega arith)
-known_few x (a ∷ b ∷ c ∷ more) = itself_few (spelled x a b c) _ _ a b c more (known_few x more) (known_few x (b ∷ c ∷ more))
+known_few x (a ∷ []) = grind arith
+known_few x (a ∷ b ∷ []) = grind (arith, known_few x (b ∷ []))
+known_few x (a ∷ b ∷ c ∷ more) = grind (arith, known_few x more, known_few x (b ∷ c ∷ more))
 
 at_end_text : (o : Option ℕ) (args : List ℕ) → length (text_at_end o args) ≤ length args
 at_end_text o args = grind (arith, decoded_few)

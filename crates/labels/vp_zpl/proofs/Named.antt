@@ -1,11 +1,10 @@
 -- A command whose name is known.
 use Rattle.std.proofs.Common.{◌≡◌, ℕ, Bool, true, false, Option, Some, List, [], ◌∷◌, ◌++◌, refl, sym, ap, ◌∙◌, arith, nat_lt}
-use Rattle.std.proofs.lemmas.Bool.Decides.{nat_tests}
 use Rattle.vp_zpl.specs.declared.name.Kind.{Kind}
 use Rattle.vp_zpl.specs.declared.name.Kind.TheVariants as kinds
 use Rattle.vp_zpl.specs.declared.reader.ZplReader.{ZplReader}
 use Rattle.vp_zpl.specs.declared.reader.Phase.{Phase}
-use Rattle.vp_zpl.specs.Commands.{kind, is_whole, is_short, longer, in_format, in_format_by, indicator, indicator_by, wants_binary, wants_binary_named}
+use Rattle.vp_zpl.specs.Commands.{kind, is_short, longer, in_format, in_format_by, indicator, indicator_by, wants_binary, wants_binary_named}
 use Rattle.vp_zpl.specs.Items.{Item, given, given_named, at_end, at_end_named, name_of}
 use Rattle.vp_zpl.specs.Reader.{Named, Goes, in_phase, is_alone, indicator_at, left_of}
 
@@ -27,14 +26,7 @@ module _ {r : ZplReader} {k : Kind} {args command : List ℕ} (n : Named r k arg
   wants-is = ap wants_binary n.bytes ∙ ap (λ x. wants_binary_named x args) n.kind
 
   pub named_longer : (new : ZplReader) (c : ℕ) → new.sent.name ≡ r.sent.name → Named new k (args ++ c ∷ []) (longer command c)
-  named_longer new c e = record {
-    sign = n.sign;
-    first = n.first;
-    second = n.second;
-    bytes = ap (λ x. longer x c) n.bytes;
-    kind = n.kind;
-    name = e ∙ n.name;
-  }
+  named_longer new c e = grind arith
 
 pub opened-is : {r : ZplReader} {k : Kind} {args command : List ℕ} → Named r k args command → (before : List (List ℕ)) → in_format (command ∷ before) ≡ in_format_by (Some k) (in_format before)
 unfolding in_format
@@ -54,13 +46,9 @@ same_by k a b opened was e = grind arith
 pub alone_not : (k : Kind) → is_alone k ≡ true → is_indicator k ≡ false
 alone_not k e = grind arith
 
-parameters_want : (k : Kind) (args : List ℕ) → (k ≡ kinds.Graphic → is_whole args ≡ false) → wants_binary_named k args ≡ false
-unfolding is_short
-parameters_want k args e = grind arith
-
 pub wants_in : (p : Phase) (r : ZplReader) (o : List ℕ) → in_phase p r o → wants_binary o ≡ nat_lt 0 (left_of p)
 unfolding wants_binary is_short
-wants_in p r o e = grind (arith, parameters_want, nat_tests)
+wants_in p r o e = grind arith
 
 carry : {A : Type 0} (P : A → Type 0) (a b : A) → a ≡ b → P a → P b
 carry P a b e x = rw e at x

@@ -1,5 +1,6 @@
 -- Parameters, by one byte more and at their end.
-use Rattle.std.proofs.Common.{◌≡◌, ℕ, ◌+◌, ◌-◌, ◌<◌, ◌≤◌, ◌==◌, Bool, true, false, cond, zero, suc, List, [], ◌∷◌, ◌++◌, length, take, map, refl, sym, ap, ◌∙◌, arith, nat_le}
+use Rattle.std.proofs.lemmas.Grind.{common_steps}
+use Rattle.std.proofs.Common.{◌≡◌, ℕ, ◌+◌, ◌-◌, ◌<◌, ◌≤◌, ◌==◌, Bool, true, false, cond, zero, suc, List, [], ◌∷◌, ◌++◌, length, take, map, refl, ap, ◌∙◌, arith, nat_le}
 use Rattle.std.proofs.lemmas.Bool.Decides.{nat_tests}
 use Rattle.std.proofs.lemmas.List.{map_push, take_all, length_push, length-take}
 use Rattle.vp_zpl.specs.Spelling.{is_comma, is_blank, ended, last, behind_commas, parameters, kept, kept_of, Kept}
@@ -10,14 +11,9 @@ use Rattle.vp_zpl.proofs.Heads.{ended-push}
 abbrev pub after : ℕ → List ℕ → List ℕ
 after c p = cond (is_comma c) [] (cond (is_blank c) p (p ++ c ∷ []))
 
-last_step : (x y : Bool) (p args : List ℕ) (a c : ℕ) → ((q : List ℕ) → last q (args ++ c ∷ []) ≡ after c (last q args))
-    → cond x (last [] (args ++ c ∷ [])) (cond y (last p (args ++ c ∷ [])) (last (p ++ a ∷ []) (args ++ c ∷ [])))
-    ≡ after c (cond x (last [] args) (cond y (last p args) (last (p ++ a ∷ []) args)))
-last_step x y p args a c ih = grind arith
-
 pub last-push : (p args : List ℕ) (c : ℕ) → last p (args ++ c ∷ []) ≡ after c (last p args)
 last-push p [] c = refl
-last-push p (a ∷ args) c = last_step (is_comma a) (is_blank a) p args a c (λ q. last-push q args c)
+last-push p (a ∷ args) c = grind (arith, (λ (q : List ℕ). last-push q args c))
 
 -- the first n, with one more behind the first n
 pub take_front : {X : Type 0} (n : ℕ) (xs : List X) (y : X) → take n (xs ++ y ∷ []) ≡ take n (take n xs ++ y ∷ [])
@@ -35,11 +31,7 @@ keeps_at_end args = keeps (ended [] args) (last [] args)
 
 -- a byte that is no comma
 pub same_ended : (args : List ℕ) (c : ℕ) → is_comma c ≡ false → ended [] (args ++ c ∷ []) ≡ ended [] args
-same_ended args c e = ended-push [] args c ∙ ap (λ z. ended [] args ++ cond z (last [] args ∷ []) []) e ∙ sym (nothing_behind (ended [] args))
-  where
-    nothing_behind : (xs : List (List ℕ)) → xs ≡ xs ++ []
-    nothing_behind [] = refl
-    nothing_behind (x ∷ xs) = ap (λ y. x ∷ y) (nothing_behind xs)
+same_ended args c e = grind (arith, common_steps, ended-push)
 
 pub same_whole : (args : List ℕ) (c : ℕ) → is_comma c ≡ false → is_whole (args ++ c ∷ []) ≡ is_whole args
 unfolding is_whole
@@ -89,14 +81,4 @@ few_whole args h = let l = few_kept (ended [] args) h in grind (arith, nat_tests
 
 pub completes : (args : List ℕ) (sent : List Kept) → is_whole args ≡ false → sent ≡ kept_of (ended [] (args ++ 0x2C ∷ [])) → 4 ≤ length sent → Completes args sent
 unfolding is_whole head kept_of
-completes args sent w e l =
-    let few : length (ended [] args) < 4 = not_whole_is args w in
-    let one : length (ended [] (args ++ 0x2C ∷ [])) ≡ length (ended [] args) + 1 = ap length (comma_ended args) ∙ length_push (ended [] args) (last [] args) in
-    let ps = ended [] (args ++ 0x2C ∷ []) in
-    let kept_all : take 8 (map kept ps) ≡ map kept ps = take_all 8 (map kept ps) (omega (arith, length_kept ps)) in
-    let four : length ps ≡ 4 = omega (arith, ap length e, ap length kept_all, length_kept ps) in
-    record {
-      whole = rw four refl;
-      head_is = take_all 4 (map kept ps) (omega (arith, length_kept ps)) ∙ sym kept_all ∙ sym e;
-      data_is = behind_last 4 [] args (omega arith);
-    }
+completes args sent w e l = grind (arith, common_steps, not_whole_is, comma_ended, length_push, take_all, length_kept, behind_last)

@@ -10,7 +10,6 @@ use Rattle.vp_zpl.specs.declared.item.DataBytes.{DataBytes}
 use Rattle.vp_zpl.specs.Shown.{data_bytes}
 use Rattle.vp_zpl.specs.declared.reader.Phase.{Phase}
 use Rattle.vp_zpl.specs.declared.reader.Phase.TheVariants.{Outside, AfterSign, AfterFirst, Skipping, Text}
-use Rattle.vp_zpl.specs.Spelling.{known}
 use Rattle.vp_zpl.specs.Commands.{kind, longer, in_format, indicator}
 use Rattle.vp_zpl.specs.Items.{Item, item_of, data_items, given, given_named, text_known, waiting}
 use Rattle.vp_zpl.specs.Items.Item.{Data}

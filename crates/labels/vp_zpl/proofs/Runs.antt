@@ -1,4 +1,5 @@
 -- Data that are taken at once.
+use Rattle.std.proofs.lemmas.Grind.{common_steps}
 use Rattle.std.proofs.Common.{◌≡◌, ℕ, ◌+◌, ◌-◌, ◌<◌, ◌≤◌, Bool, true, false, not, ◌&&◌, ◌||◌, cond, zero, suc, min, Option, Some, None, List, [], ◌∷◌, ◌++◌, length, take, refl, sym, ap, ◌∙◌, append_assoc, arith, nat_lt}
 use Rattle.std.proofs.lemmas.Bool.Decides.{nat_tests}
 use Rattle.std.specs.List.{prefix_len}
@@ -39,12 +40,8 @@ pub record Ran (new : ZplReader) (bytes cs : List ℕ) : Type 0 where
   pub gives : items (bytes ++ cs) ≡ items bytes ++ data_items cs
   pub stands : Stands new (bytes ++ cs)
 
-nothing_after : {X : Type 0} (xs : List X) → xs ≡ xs ++ []
-nothing_after [] = refl
-nothing_after (x ∷ xs) = ap (λ y. x ∷ y) (nothing_after xs)
-
 ran_none : (new : ZplReader) (bytes : List ℕ) → Stands new bytes → Ran new bytes []
-ran_none new bytes stands = grind (arith, nothing_after, carry)
+ran_none new bytes stands = grind (arith, common_steps)
 
 ran_more : (one new : ZplReader) (bytes cs : List ℕ) (c : ℕ) → Advances (data_items (c ∷ [])) one (cut bytes) c → Ran new (bytes ++ c ∷ []) cs → Ran new bytes (c ∷ cs)
 ran_more one new bytes cs c a more = record {
@@ -113,8 +110,7 @@ binary_step r left p some bytes c stands =
 
 pub runs_binary : (cs : List ℕ) (r : ZplReader) (left : ℕ) (bytes : List ℕ) → r.phase ≡ Binary left → length cs ≤ left → Stands r bytes
     → Ran (record r { phase = Binary (left - length cs) }) bytes cs
-runs_binary [] r left bytes p fits stands =
-    ran_none (record r { phase = Binary (left - 0) }) bytes (carry (λ q. Stands (record r { phase = q }) bytes) r.phase (Binary (left - 0)) (p ∙ ap Binary (omega arith)) stands)
+runs_binary [] r left bytes p fits stands = grind (arith, common_steps)
 runs_binary (c ∷ cs) r left bytes p fits stands =
     let some : 0 < left = omega arith in
     let a = binary_step r left p some bytes c stands in
@@ -159,12 +155,8 @@ front_is (AfterDigit x d) r before command input h i = sym (text_by r before com
 front_is Codes r before command input h i = sym (front_of h.named before input ∙ whole_front (indicator before) h.args input false h.whole h.is_a)
 front_is (Binary left) r before command input h i = grind (arith, front_of, whole_front)
 
--- by the phase
-fits_in : (q : Phase) (o : Option ℕ) (input : List ℕ) → front_by q o input ≤ length input
-fits_in q o input = grind (arith, prefix_len-le-length)
-
 pub fits : (q : Phase) (o : Option ℕ) (input : List ℕ) → front_by q o input ≤ length input
-fits q o input = fits_in q o input
+fits q o input = grind (arith, prefix_len-le-length)
 
 none_ran : (r : ZplReader) (q : Phase) (n : ℕ) (bytes input : List ℕ) → r.phase ≡ q → phase_after q n ≡ q → n ≤ 0 → Stands r bytes
     → Ran (record r { phase = phase_after q n }) bytes (take n input)

@@ -1,5 +1,5 @@
 -- The data of ^FD behind ^FH, by one byte more.
-use Rattle.std.proofs.Common.{◌≡◌, ℕ, ◌==◌, Bool, ◌&&◌, cond, if◌then◌else◌, Option, List, [], ◌∷◌, ◌++◌, refl, arith}
+use Rattle.std.proofs.Common.{◌≡◌, ℕ, ◌==◌, if◌then◌else◌, Option, List, [], ◌∷◌, ◌++◌, refl, arith}
 use Rattle.vp_zpl.specs.Spelling.{known, undecided, decoded, spelled, or_itself, or_later, is_hex, hex_of, hex_pair}
 
 -- what a byte makes known, and what is left undecided, behind this that was
@@ -25,34 +25,22 @@ step_by o a x c u1 u2 k1 k2 K1 K2 U1 U2 e f = grind arith
 leave_by : (o : Option ℕ) (x c : ℕ) (u1 u2 U1 U2 : List ℕ) → U1 ≡ left_by x u1 c → U2 ≡ left_by x u2 c → or_later o U1 U2 ≡ left_by x (or_later o u1 u2) c
 leave_by o x c u1 u2 U1 U2 e f = grind arith
 
-one_makes : (t : Bool) (x a c : ℕ) → cond (t && is_hex (hex_of c)) [] (a ∷ known x (c ∷ [])) ≡ cond t [] (a ∷ []) ++ out x (cond t (a ∷ []) []) c
-one_makes t x a c = grind arith
-
-one_leaves : (t : Bool) (x a c : ℕ) → cond (t && is_hex (hex_of c)) (a ∷ c ∷ []) (undecided x (c ∷ [])) ≡ left_by x (cond t (a ∷ []) []) c
-one_leaves t x a c = grind arith
-
-one : (x a c : ℕ) → Step x (a ∷ []) c
-one x a c = record { makes = one_makes (a == x) x a c; leaves = one_leaves (a == x) x a c }
-
 two : (x a b c : ℕ) → Step x (a ∷ b ∷ []) c
 unfolding spelled
 two x a b c = grind arith
 
 pub step : (x : ℕ) (bytes : List ℕ) (c : ℕ) → Step x bytes c
 step x [] c = record { makes = refl; leaves = refl }
-step x (a ∷ []) c = one x a c
+step x (a ∷ []) c = grind arith
 step x (a ∷ b ∷ []) c = two x a b c
 step x (a ∷ b ∷ d ∷ more) c = grind (arith, step_by, leave_by, step x more c, step x (b ∷ d ∷ more) c)
-
--- at the end, what was undecided is itself
-whole_if : (z : Bool) (a : ℕ) (rest k u : List ℕ) → rest ≡ k ++ u → a ∷ rest ≡ cond z [] (a ∷ k) ++ cond z (a ∷ rest) u
-whole_if z a rest k u e = grind arith
 
 whole_by : (o : Option ℕ) (a : ℕ) (d1 d2 k1 k2 u1 u2 : List ℕ) → d1 ≡ k1 ++ u1 → d2 ≡ k2 ++ u2 → or_itself o d1 a d2 ≡ or_itself o k1 a k2 ++ or_later o u1 u2
 whole_by o a d1 d2 k1 k2 u1 u2 e f = grind arith
 
+-- at the end, what was undecided is itself
 pub at_the_end : (x : ℕ) (bytes : List ℕ) → decoded x bytes ≡ known x bytes ++ undecided x bytes
 at_the_end x [] = refl
-at_the_end x (a ∷ []) = whole_if (a == x) a [] [] [] refl
-at_the_end x (a ∷ b ∷ []) = whole_if ((a == x) && is_hex (hex_of b)) a (b ∷ []) (known x (b ∷ [])) (undecided x (b ∷ [])) (at_the_end x (b ∷ []))
+at_the_end x (a ∷ []) = grind arith
+at_the_end x (a ∷ b ∷ []) = grind (arith, at_the_end x (b ∷ []))
 at_the_end x (a ∷ b ∷ c ∷ more) = grind (arith, whole_by, at_the_end x more, at_the_end x (b ∷ c ∷ more))
