@@ -212,18 +212,7 @@ resumed_cursor c bytes from r at old same also some short mark above read here f
     let start = ap (start_of p) first ∙ marked_start p c.mark m in
     let bound = ap (bound_of p) first ∙ marked_bound p c.mark m in
     let inside = m.here.at in
-    record {
-      some = some;
-      short = short;
-      mark = m;
-      kept = λ _ j l. above_read p c.mark r at old c.row j m decoded l;
-      place = λ _. here;
-      stopped = λ e. absurd (false≢true (sym going ∙ e));
-      reading = record { at = omega (arith, inside); read = omega (arith, taken, few) };
-      least = omega (arith, start);
-      most = omega (arith, taken, few, bound);
-      passed = record { bytes = omega (arith, passed, start); rows = omega (arith, passed, first) };
-    }
+    grind (arith, above_read, false≢true, start)
 
 -- the cursor behind a row
 pub next_cursor : (c n : Inside) (end : RowEnd) → IsCursor c → c.refused ≡ false → n.refused ≡ false → Advanced c.codes n.codes

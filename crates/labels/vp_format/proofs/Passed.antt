@@ -10,7 +10,7 @@ use Rattle.vp_format.specs.declared.reading.Codes.{Codes}
 use Rattle.vp_format.specs.Codes.{code_of, Spelled, spelled, joined, symbols, symbols_behind}
 use Rattle.vp_format.specs.Pictures.{AsAbove, Unreadable, shows, end_of, is_unreadable, Picture, width_of, place_of, is_refused, row_after, unless_fault, passing}
 use Rattle.vp_format.specs.Cursors.{digit_value, symbols_from, InHand, IsReading, Passed, PassesOn}
-use Rattle.vp_format.proofs.Reached.{shown_in, shown_past, in_hand}
+use Rattle.vp_format.proofs.Reached.{shown_in, in_hand}
 use Rattle.vp_format.proofs.Quick.{plain_symbol}
 use Rattle.vp_format.proofs.Skipped.{first_read, rows_read, read_to}
 
@@ -18,12 +18,8 @@ use Rattle.vp_format.proofs.Skipped.{first_read, rows_read, read_to}
 pub passed_at : (w : ℕ) (all : List Spelled) (x y : ℕ) (ss left : List Spelled) → x ≡ y → ss ≡ left → Passed w all x ss → Passed w all y left
 passed_at w all x y ss left d e r = subst (λ q. Passed w all q left) d (subst (λ p. Passed w all x p) e r)
 
--- a symbol that isn't refused
-symbol_passed : (w : ℕ) (all : List Spelled) (x k : ℕ) (s : Symbol) (left : List Spelled) → x ≤ end_of w x s → is_unreadable (shows w x s) ≡ false → Passed w all x (spelled s k ∷ left) → Passed w all (end_of w x s) left
-symbol_passed w all x k s left order taken r = grind (arith, shown_in, shown_past)
-
 pub digits_passed : (w : ℕ) (all : List Spelled) (x n v k : ℕ) (left : List Spelled) → Passed w all x (spelled (Digits n v) k ∷ left) → Passed w all (x + n) left
-digits_passed w all x n v k left r = symbol_passed w all x k (Digits n v) left (omega arith) refl r
+digits_passed w all x n v k left r = grind arith
 
 -- so many plain digits
 pub plain_passed : (w : ℕ) (all : List Spelled) (x : ℕ) (codes : List ℕ) (at k : ℕ) → at + k ≤ length codes → ((i : ℕ) → i < k → digit_value (code_of (get_or codes (at + i) 0)) < 16)

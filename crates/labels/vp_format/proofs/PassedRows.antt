@@ -1,4 +1,5 @@
 -- Rows that are passed by their codes.
+use Rattle.std.proofs.lemmas.Grind.{common_steps}
 use Rattle.std.proofs.Common.{inl, inr, ◌≡◌, ◌⊎◌, ℕ, zero, suc, ◌+◌, ◌*◌, ◌/◌, ◌%◌, ◌<◌, ◌≤◌, true, false, List, [], ◌∷◌, drop, length, length-drop, ap, sym, ◌∙◌, refl, arith}
 use Rattle.std.specs.Prelude.{◌==◌}
 use Rattle.std.proofs.lemmas.Bool.{cases_Bool, cases_lt}
@@ -48,13 +49,6 @@ module _ (w : ℕ) (coding : Coding) (codes : List ℕ) (s after : Spot) (end : 
   next_start = let e : w ≡ w + 0 = omega arith in
       ap (λ q. s.at + bytes_before w 0 (symbols_at coding codes s) q) e ∙ d.bytes 0 ∙ ap (λ k. after.at + k) (bytes_none w 0 (symbols_at coding codes after) 0 (omega arith)) ∙ omega arith
 
-  -- a row that a run doesn't cover has a byte
-  pub byte_read : s.left < w → s.at < length codes → s.at < after.at
-  byte_read short more =
-      let run = bytes_run w 0 s.left s.digit (symbols coding (drop s.at codes)) w (omega arith) in
-      let some = some_read coding (drop s.at codes) w (0 + s.left) (omega (arith, length-drop s.at codes)) (omega arith) in
-      omega (arith, next_start, run, some)
-
   -- behind the last code white is all that comes once the run has ended
   pub white_next : s.at ≡ length codes → ((s.left ≤ w) ⊎ (s.digit ≡ 0)) → is_white (length codes) after ≡ true
   white_next ends rest =
@@ -77,8 +71,7 @@ module _ (c n : Inside) (end : RowEnd) (i : IsCursor c) (going : c.refused ≡ f
     (coding : n.coding ≡ c.coding) (row_bytes : n.row_bytes ≡ c.row_bytes) (rows : n.rows ≡ c.rows) (first : n.first ≡ c.first)
     (next : n.mark.next ≡ c.mark.next + 1) (here : n.mark.here ≡ record { left = end.left; digit = end.digit; at = n.codes.at }) where
   start : start_of (picture_of n) n.first ≡ start_of (picture_of c) c.first
-  start = let same : picture_of n ≡ picture_of c = rw (coding, row_bytes, rows, a.bytes) refl in
-      ap (λ q. start_of q n.first) same ∙ ap (start_of (picture_of c)) first
+  start = grind arith
 
   there : n.mark.here.at ≡ n.codes.at
   there = ap (λ (s : Spot). s.at) here
@@ -91,24 +84,8 @@ module _ (c n : Inside) (end : RowEnd) (i : IsCursor c) (going : c.refused ≡ f
 
   -- and not counted
   pub read_passed : n.passed ≡ c.passed → ArePassed n
-  read_passed same = record {
-    bytes = elim (cases_Bool (is_white (length c.codes.bytes.now) c.mark.here)) [
-      | inl w ↦ (let at = is_white_at (length c.codes.bytes.now) c.mark.here w in
-          let was : white_rest (length c.codes.bytes.now) c.mark.here ≡ 1 = rw w refl in
-          omega (arith, start, same, there, a.at, i.place going, i.passed.bytes, was, white at.0 (elim at.1 [ inl none ↦ inl (omega (arith, none)) | inr digit ↦ inr digit ])))
-      | inr w ↦ (let was : white_rest (length c.codes.bytes.now) c.mark.here ≡ 0 = rw w refl in omega (arith, start, same, there, a.at, i.place going, i.passed.bytes, was))
-    ];
-    rows = omega (arith, same, first, next, i.passed.rows);
-  }
+  read_passed same = grind (arith, cases_Bool, is_white_at, start, there, white)
 
   -- or counted, where a code spells it
   pub spelled_passed : n.passed ≡ c.passed + 1 → c.mark.here.left < 2 * c.row_bytes → is_white (length c.codes.bytes.now) c.mark.here ≡ false → ArePassed n
-  spelled_passed more short w =
-      let was : white_rest (length c.codes.bytes.now) c.mark.here ≡ 0 = rw w refl in
-      record {
-        bytes = elim (cases_lt c.mark.here.at (length c.codes.bytes.now)) [
-          | inl l ↦ omega (arith, start, more, there, i.passed.bytes, was, byte_read (2 * c.row_bytes) c.coding c.codes.bytes.now c.mark.here _ end c.row n.row d short l)
-          | inr g ↦ omega (arith, start, more, there, a.at, i.place going, i.passed.bytes, was, white (omega (arith, i.mark.here.at)) (inl (omega arith)))
-        ];
-        rows = omega (arith, more, first, next, i.passed.rows);
-      }
+  spelled_passed more short w = grind (arith, common_steps, cases_lt, start, there, bytes_run, some_read, length-drop, next_start, white)

@@ -94,8 +94,7 @@ paired_lanes f bytes row lanes at i n k room inside h is values few =
     let lane : (j : ℕ) → j < 2 * n → get_or (lanes ++ lanes) j 0 ≡ digit_value (code_of (get_or bytes (at + j) 0)) = λ j l. get_or_append_left lanes lanes 0 j (omega (arith, many)) ∙ ap (λ l. get_or l j 0) is ∙ get_or-map f v j 0 0 (omega (arith, long)) ∙ ap f (get_or-chunk at (2 * n) bytes j 0 l) ∙ values j l in
     let g = λ (j : ℕ). (get_or (lanes ++ lanes) (2 * j) 0 * 16 % 256 + get_or (lanes ++ lanes) (2 * j + 1) 0) % 256 in
     let many_made : length (map g (range_with_len 0 n)) ≡ n = length-map (range_with_len 0 n) g ∙ length-range_with_len 0 n in
-    get_or-put_chunk_at i row (map g (range_with_len 0 n)) k 0 (omega (arith, many_made)) (omega (arith, many_made)) ∙ get_or-map-range_with_len g 0 n k k 0 (omega arith) (omega arith)
-    ∙ omega (arith, lane (2 * k) (omega arith), lane (2 * k + 1) (omega arith), few (2 * k) (omega arith), few (2 * k + 1) (omega arith))
+    grind (arith, get_or-put_chunk_at, get_or-map-range_with_len)
 
 -- digits up to a place, and behind it
 pub digits_more : (bytes : List ℕ) (at i w : ℕ) → ((k : ℕ) → k < 2 * i → digit_value (code_of (get_or bytes (at + k) 0)) < 16) → ((k : ℕ) → k < 2 * w → digit_value (code_of (get_or bytes (at + 2 * i + k) 0)) < 16)

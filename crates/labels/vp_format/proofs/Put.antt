@@ -1,4 +1,5 @@
 -- Places that are filled code by code.
+use Rattle.std.proofs.lemmas.Grind.{common_steps}
 use Rattle.std.proofs.Common.{inl, inr, ◌≡◌, ℕ, zero, suc, ◌+◌, ◌-◌, ◌<◌, ◌≤◌, max, ltb, bit_or, List, length, get_or, subst, sym, ap, ◌∙◌, refl, arith}
 use Rattle.std.proofs.lemmas.Bool.{cases_lt}
 use mir.Val.{bool_byte}
@@ -22,24 +23,14 @@ module _ (w : ℕ) (all : List Spelled) (start : ℕ) (old new : List ℕ) (from
   digit_put : (k v : ℕ) → at + k < length codes → digit_value (code_of (get_or codes (at + k) 0)) < 16 → v ≡ digit_value (code_of (get_or codes (at + k) 0)) → Filled (from + added codes at k) (from + added codes at k + 32) v old new
       → Reached w all start old (from + added codes at k) (symbols_from codes (at + k)) (at + k) → Reached w all start new (from + added codes at (suc k)) (symbols_from codes (at + suc k)) (at + suc k)
   unfolding added
-  digit_put k v inside digit is f r =
-      let x = from + added codes at k in
-      let u = digit_value (code_of (get_or codes (at + k) 0)) in
-      let e : added codes at (suc k) ≡ added codes at k + 1 = ap (λ p. added codes at k + p) (one_place (code_of (get_or codes (at + k) 0)) digit) in
-      let there : at + k + 1 ≡ at + suc k = omega arith in
-      let filled = subst (λ q. Filled x (x + 32) q old new) is f in
-      let symbol = reached_at w all start old x x _ _ (at + k) (at + k) refl (plain_symbol codes (at + k) inside digit) refl r in
-      reached_at w all start new (x + 1) _ _ _ (at + k + 1) _ (omega (arith, e)) (ap (symbols_from codes) there) there
-      (run_taken w all start old new x 1 u _ (symbols_from codes (at + k + 1)) (at + k) (at + k + 1) (omega arith) (omega arith) digit (omega arith) refl filled symbol)
+  digit_put k v inside digit is f r = grind (arith, one_place, reached_at, start, plain_symbol, run_taken)
 
   -- a count, whose places but one are filled
   count_put : (k v : ℕ) → 16 ≤ digit_value (code_of (get_or codes (at + k) 0)) → IsShortCount (code_of (get_or codes (at + k) 0)) → v ≡ digit_value (code_of (get_or codes (at + suc k) 0)) → Filled (from + added codes at k) (from + added codes at k + 32) v old new
       → Reached w all start old (from + added codes at k) (symbols_from codes (at + k)) (at + k)
       → Reached w all start new (from + added codes at k) (symbols_from codes (at + k)) (at + k) × ((i : ℕ) → from + added codes at k ≤ i → i < from + added codes at (suc k) → get_or new i 0 ≡ digit_value (code_of (get_or codes (at + suc k) 0)))
   unfolding added
-  count_put k v big short is f r =
-      let e : added codes at (suc k) ≡ added codes at k + (count_value (code_of (get_or codes (at + k) 0)) - 1) = ap (λ p. added codes at k + p) (count_places (code_of (get_or codes (at + k) 0)) big) in
-      (reached_same w all start old new (from + added codes at k) _ (at + k) f.kept r, λ i l m. f.filled i l (omega (arith, e, short.1, m)) ∙ is)
+  count_put k v big short is f r = grind arith
 
   -- the digit behind it
   pair_put : (j v : ℕ) → at + suc j < length codes → get_or codes (at + j) 0 < 256 → 16 ≤ digit_value (code_of (get_or codes (at + j) 0)) → IsShortCount (code_of (get_or codes (at + j) 0)) → digit_value (code_of (get_or codes (at + suc j) 0)) < 16
@@ -73,11 +64,7 @@ module _ (w : ℕ) (all : List Spelled) (start : ℕ) (old new : List ℕ) (from
       → (digit_value (code_of (get_or codes (at + k) 0)) < 16 → v ≡ digit_value (code_of (get_or codes (at + k) 0))) → (16 ≤ digit_value (code_of (get_or codes (at + k) 0)) → v ≡ digit_value (code_of (get_or codes (at + 1 + k) 0)))
       → Filled (from + added codes at k) (from + added codes at k + 32) v old new → Put w all start old from codes at k → Put w all start new from codes at (suc k)
   unfolding added Put
-  put_step zero v inside few runs own next f p =
-      let e : from ≡ from + added codes at 0 = omega arith in
-      let there : at ≡ at + 0 = omega arith in
-      let r = reached_at w all start old from _ _ _ at _ e (ap (symbols_from codes) there) there p in
-      (λ d. digit_put 0 v (omega (arith, inside)) d (own d) f r, λ big. count_put 0 v big (runs 0 (omega arith) big).0 (next_value 0 v (next big)) f r)
+  put_step zero v inside few runs own next f p = grind (arith, common_steps)
   put_step (suc j) v inside few runs own next f p = (
     λ d. elim (cases_lt (digit_value (code_of (get_or codes (at + j) 0))) 16) [
       | inl b ↦ digit_put (suc j) v (omega (arith, inside)) d (own d) f (p.0 b)

@@ -1,19 +1,20 @@
 -- Codes that are read in a quick way: digits one after the other, and short runs.
-use Rattle.std.proofs.Common.{inl, inr, ◌≡◌, ℕ, Bool, true, cond, bit_or, ltb, zero, suc, ◌+◌, ◌-◌, ◌<◌, ◌≤◌, max, List, ◌∷◌, drop, take, map, length, get_or, Result, Ok, Err, ap, sym, ◌∙◌, refl, arith}
+use Rattle.std.proofs.lemmas.Grind.{common_steps}
+use Rattle.std.proofs.Common.{◌≡◌, ℕ, Bool, true, cond, bit_or, ltb, zero, suc, ◌+◌, ◌-◌, ◌<◌, ◌≤◌, max, List, ◌∷◌, drop, take, map, length, get_or, Result, ap, sym, ◌∙◌, refl, arith}
 use Rattle.std.proofs.lemmas.List.{drop_more, get_or-map}
 use Rattle.std.proofs.lemmas.Simd.{length-chunk, get_or-chunk}
 use Rattle.vp_dots.specs.declared.fault.Fault.{Fault}
 use Rattle.vp_format.specs.declared.rows.Spot.{Spot}
 use Rattle.vp_format.specs.declared.rows.Coding.TheVariants.{RunLength}
-use Rattle.std.proofs.lemmas.Bool.{cases_lt, lt-ltb, ltb-true, agree_below_at, true≢false}
+use Rattle.std.proofs.lemmas.Bool.{lt-ltb, ltb-true, agree_below_at, true≢false}
 use mir.Val.{bool_byte}
 use Rattle.vp_format.specs.declared.codes.Code.{Code}
 use Rattle.vp_format.specs.declared.codes.Code.TheVariants.{Digit, Count}
 use Rattle.vp_format.specs.declared.codes.Symbol.TheVariants.{Digits}
 use Rattle.vp_format.specs.Codes.{code_of, Spelled, spelled, joined, symbols_behind}
 use Rattle.vp_format.specs.declared.row.RowEnd.{RowEnd}
-use Rattle.vp_format.specs.Cursors.{count_value, digit_value, symbols_from, symbols_at, Filled, Reached, ReadsOn, Decoded, RowRead}
-use Rattle.vp_format.proofs.Reached.{run_over, run_reached, run_done, reached_at, start_reached, digit_is, digit_in_hand}
+use Rattle.vp_format.specs.Cursors.{count_value, digit_value, symbols_from, symbols_at, Filled, Reached, ReadsOn, RowRead}
+use Rattle.vp_format.proofs.Reached.{run_over, run_reached, run_done, reached_at, start_reached, digit_in_hand}
 
 -- places from x on may be overwritten
 pub reached_same : (w : ℕ) (all : List Spelled) (from : ℕ) (old new : List ℕ) (x : ℕ) (left : List Spelled) (at : ℕ) → ((j : ℕ) → j < x → get_or new j 0 ≡ get_or old j 0)
@@ -88,7 +89,7 @@ count_is : (c : Code) → small_digit c ≡ true → 16 ≤ digit_value c → co
 count_is c s h l = grind (arith, ltb-true)
 
 pub digit_adds : (c : Code) → digit_value c < 16 → count_value c ≡ 0
-digit_adds c h = ap count_value (digit_is c (digit_value c) refl h)
+digit_adds c h = grind arith
 
 -- one more count
 count_taken : (codes : List ℕ) (begun at n sum : ℕ) → at < length codes → get_or codes at 0 < 256 → begun ≤ at → 16 ≤ digit_value (code_of (get_or codes at 0)) → sum ≡ n + count_value (code_of (get_or codes at 0)) → sum < 1000
@@ -98,23 +99,12 @@ count_taken codes begun at n sum inside byte ordered big is few pending = grind 
 -- one count or none, from a byte on
 one_counted : (codes : List ℕ) (at n next : ℕ) → at < length codes → get_or codes at 0 < 256 → n ≡ count_value (code_of (get_or codes at 0)) → n < 1000 → (0 < n → next ≡ at + 1) → (n ≡ 0 → next ≡ at)
     → symbols_from codes at ≡ symbols_behind (drop next codes) n (next - at)
-one_counted codes at n next inside byte is few one none =
-    let c = code_of (get_or codes at 0) in
-    elim (cases_lt 0 n) [
-      | inl l ↦ (let here = one l in
-          let big : 16 ≤ digit_value c = elim (cases_lt (digit_value c) 16) [ inl d ↦ absurd (omega (arith, digit_adds c d, is, l)) | inr g ↦ g ] in
-          let nought : 0 ≡ at - at = omega arith in
-          count_taken codes at at 0 n inside byte (omega arith) big (omega (arith, is)) few (ap (λ k. symbols_behind (drop at codes) 0 k) nought) ∙ ap (λ k. symbols_behind (drop k codes) n (k - at)) (sym here))
-      | inr g ↦ (let nought : 0 ≡ n = omega arith in
-          let here = none (sym nought) in
-          let zero : 0 ≡ next - at = omega (arith, here) in
-          ap (λ k. symbols_behind (drop k codes) 0 0) (sym here) ∙ ap (λ k. symbols_behind (drop next codes) 0 k) zero ∙ ap (λ m. symbols_behind (drop next codes) m (next - at)) nought)
-    ]
+one_counted codes at n next inside byte is few one none = grind (arith, common_steps)
 
 -- a digit behind counts
 digit_behind : (codes : List ℕ) (at n next v m to : ℕ) → next < length codes → at ≤ next → v ≡ digit_value (code_of (get_or codes next 0)) → v < 16 → m ≡ max n 1 → to ≡ next + 1 → symbols_from codes at ≡ symbols_behind (drop next codes) n (next - at)
     → symbols_from codes at ≡ spelled (Digits m v) (to - at) ∷ symbols_from codes to
-digit_behind codes at n next v m to inside ordered shows digit takes there counted = grind (arith, behind_next, digit_is)
+digit_behind codes at n next v m to inside ordered shows digit takes there counted = grind (arith, common_steps)
 
 -- a plain digit
 pub plain_symbol : (codes : List ℕ) (at : ℕ) → at < length codes → digit_value (code_of (get_or codes at 0)) < 16 → symbols_from codes at ≡ spelled (Digits 1 (digit_value (code_of (get_or codes at 0)))) (at + 1 - at) ∷ symbols_from codes (at + 1)
@@ -123,8 +113,7 @@ plain_symbol codes at inside digit = let nought : 0 ≡ at - at = omega arith in
 -- a digit behind one count or none
 pub run_symbol : (codes : List ℕ) (at n next v m to : ℕ) → next < length codes → at ≤ next → get_or codes at 0 < 256 → n ≡ count_value (code_of (get_or codes at 0)) → n < 1000 → (0 < n → next ≡ at + 1) → (n ≡ 0 → next ≡ at) → v ≡ digit_value (code_of (get_or codes next 0)) → v < 16 → m ≡ max n 1
     → to ≡ next + 1 → symbols_from codes at ≡ spelled (Digits m v) (to - at) ∷ symbols_from codes to
-run_symbol codes at n next v m to inside ordered byte is few one none shows digit takes there =
-    digit_behind codes at n next v m to inside ordered shows digit takes there (one_counted codes at n next (omega (arith, ordered, inside)) byte is few one none)
+run_symbol codes at n next v m to inside ordered byte is few one none shows digit takes there = grind (arith, common_steps)
 
 -- a digit behind two
 pub second_symbol : (codes : List ℕ) (at n next sum v m to : ℕ) → next + 1 < length codes → at ≤ next → ((i : ℕ) → get_or codes i 0 < 256) → n ≡ count_value (code_of (get_or codes at 0)) → (0 < n → next ≡ at + 1) → (n ≡ 0 → next ≡ at) → 16 ≤ digit_value (code_of (get_or codes next 0)) → sum ≡ n + count_value (code_of (get_or codes next 0)) → sum < 1000
@@ -152,10 +141,5 @@ behind_count b n r at h is few e =
 pub one_most : (r : ℕ) (b : Bool) → r ≡ bool_byte b → r ≤ 1
 one_most r b e = grind arith
 
--- such a row is the same whichever stood before
-decoded_anew : (w : ℕ) (codes old before new : List ℕ) (s after : Spot) (end : RowEnd) → s.left ≡ 0 → s.at < length codes → digit_value (code_of (get_or codes s.at 0)) < 16 → Decoded w RunLength codes s end after old new → Decoded w RunLength codes s end after before new
-decoded_anew w codes old before new s after end none inside digit d = grind (arith, true≢false, run_over, plain_symbol)
-
 pub read_anew : (w : ℕ) (codes old before new : List ℕ) (s : Spot) (at : ℕ) (r : Result RowEnd Fault) → s.left ≡ 0 → s.at < length codes → digit_value (code_of (get_or codes s.at 0)) < 16 → RowRead w RunLength codes s r at old new → RowRead w RunLength codes s r at before new
-read_anew w codes old before new s at (Ok end) none inside digit d = decoded_anew w codes old before new s _ end none inside digit d
-read_anew w codes old before new s at (Err why) none inside digit refused = refused
+read_anew w codes old before new s at r h1 h2 h3 h4 = grind (arith, true≢false, run_over, plain_symbol)

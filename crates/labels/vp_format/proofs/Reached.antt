@@ -1,11 +1,10 @@
 -- What symbols show of a row, and how many bytes spell them.
-use Rattle.std.proofs.Common.{◌≡◌, ℕ, ◌+◌, ◌-◌, ◌*◌, ◌/◌, ◌<◌, ◌≤◌, true, false, ltb, eqb, cond, List, [], ◌∷◌, drop, length, get_or, None, Some, subst, ap, sym, ◌∙◌, refl, arith}
+use Rattle.std.proofs.lemmas.Grind.{common_steps}
+use Rattle.std.proofs.Common.{◌≡◌, ℕ, ◌+◌, ◌-◌, ◌<◌, ◌≤◌, true, false, ltb, cond, List, [], ◌∷◌, drop, length, get_or, None, Some, subst, ap, sym, ◌∙◌, refl, arith}
 use Rattle.std.proofs.Math.Seq.{drop-length}
 use Rattle.std.proofs.lemmas.List.{drop_more}
-use Rattle.std.proofs.lemmas.Bool.{ne_eqb, lt-ltb, le-ltb, true≢false, false≢true}
-use Rattle.std.proofs.Math.Nat.{zero-mod, mod-eq_of_lt, add-mod_left, add-div_left, div-eq_of_lt}
-use Rattle.vp_format.specs.declared.codes.Code.{Code}
-use Rattle.vp_format.specs.declared.codes.Code.TheVariants.{Digit}
+use Rattle.std.proofs.lemmas.Bool.{lt-ltb, le-ltb, true≢false, false≢true}
+use Rattle.std.proofs.Math.Nat.{add-mod_left, add-div_left}
 use Rattle.vp_format.specs.declared.rows.Coding.TheVariants.{RunLength}
 use Rattle.vp_format.specs.declared.rows.Spot.{Spot}
 use Rattle.vp_format.specs.declared.row.RowEnd.{RowEnd}
@@ -32,10 +31,6 @@ bytes_past w p s ss j h = ap (λ b. cond b (s.bytes + bytes_before w (end_of w p
 pub bytes_none : (w p : ℕ) (ss : List Spelled) (j : ℕ) → j ≤ p → bytes_before w p ss j ≡ 0
 bytes_none w p [] j h = refl
 bytes_none w p (s ∷ ss) j h = ap (λ b. cond b (s.bytes + bytes_before w (end_of w p s.symbol) ss j) 0) (le-ltb p j h)
-
--- the end of the first row
-row_end : (w p : ℕ) → p < w → (p / w + 1) * w ≡ w
-row_end w p h = ap (λ q. (q + 1) * w) (div-eq_of_lt h) ∙ omega arith
 
 -- a span that is filled with what its symbols show
 reached_more : (w : ℕ) (all : List Spelled) (from : ℕ) (old new : List ℕ) (x to v : ℕ) (ss left : List Spelled) (at k : ℕ) → x ≤ to → v < 16 → Reached w all from old x ss at → Filled x to v old new
@@ -82,7 +77,7 @@ run_before w all from row x v left at r = record {
 -- a digit to the row's end
 pub end_reached : (w : ℕ) (all : List Spelled) (from : ℕ) (old new : List ℕ) (x v k : ℕ) (left : List Spelled) (at : ℕ) → x < w → v < 16 → Reached w all from old x (spelled (ToEnd v) k ∷ left) at → Filled x w v old new
     → Reached w all from new w left (at + k)
-end_reached w all from old new x v k left at h few r f = grind (arith, row_end, reached_more, shown_in, shown_past, bytes_past)
+end_reached w all from old new x v k left at h few r f = grind (arith, common_steps)
 
 -- no code is left for the rest of a row
 pub white_reached : (w : ℕ) (all : List Spelled) (from : ℕ) (old new codes : List ℕ) (x at : ℕ) → x ≤ w → (x < w → at ≡ length codes) → Reached w all from old x (symbols_from codes at) at → Filled x w 0 old new
@@ -91,21 +86,21 @@ white_reached w all from old new codes x at h none r f = grind (arith, drop-leng
 
 -- the row before once more
 pub again_shown : (w k : ℕ) (ss : List Spelled) (j : ℕ) → j < w → shown_at w 0 (spelled Again k ∷ ss) j ≡ AsAbove
-again_shown w k ss j h = shown_in w 0 (spelled Again k) ss j (rw (row_end w 0 (omega arith)) h) ∙ ap (λ r. cond (eqb r 0) AsAbove Unreadable) (zero-mod w)
+again_shown w k ss j h = grind arith
 
 again_behind : (w k : ℕ) (ss : List Spelled) (j : ℕ) → 0 < w → w ≤ j → shown_at w 0 (spelled Again k ∷ ss) j ≡ shown_at w w ss j
-again_behind w k ss j h l = shown_past w 0 (spelled Again k) ss j (rw (row_end w 0 h) l) ∙ ap (λ q. shown_at w q ss j) (row_end w 0 h)
+again_behind w k ss j h l = grind arith
 
 again_bytes : (w k : ℕ) (ss : List Spelled) (j : ℕ) → 0 < w → w ≤ j → bytes_before w 0 (spelled Again k ∷ ss) j ≡ k + bytes_before w w ss j
-again_bytes w k ss j h l = bytes_past w 0 (spelled Again k) ss j (omega arith) ∙ ap (λ q. k + bytes_before w q ss j) (row_end w 0 h)
+again_bytes w k ss j h l = grind arith
 
 -- but not inside a row
 pub again_refused : (w x k : ℕ) (ss : List Spelled) → 0 < x → x < w → shown_at w x (spelled Again k ∷ ss) (w - 1) ≡ Unreadable
-again_refused w x k ss some h = grind (arith, shown_in, row_end, mod-eq_of_lt, ne_eqb)
+again_refused w x k ss some h = grind (arith, common_steps)
 
 -- a refused symbol
 pub refused_shown : (w x k : ℕ) (ss : List Spelled) → x < w → shown_at w x (spelled Refused k ∷ ss) (w - 1) ≡ Unreadable
-refused_shown w x k ss h = shown_in w x (spelled Refused k) ss (w - 1) (rw (row_end w x h) (omega arith))
+refused_shown w x k ss h = grind arith
 
 -- a row further on, the symbols show the same
 end_later : (w p : ℕ) (s : Symbol) → 0 < w → end_of w (w + p) s ≡ w + end_of w p s
@@ -161,12 +156,8 @@ same_row_decoded w codes places row s at k some inside r =
 pub in_hand : (codes : List ℕ) (at b : ℕ) → 0 < at → at ≤ length codes → b ≡ get_or codes (at - 1) 0 → symbols_from codes (at - 1) ≡ joined (code_of b) 0 0 (symbols_behind (drop at codes))
 in_hand codes at b some inside e = grind (arith, drop_more)
 
--- a digit by its value
-pub digit_is : (c : Code) (v : ℕ) → v ≡ digit_value c → v < 16 → c ≡ Digit v
-digit_is c v e h = grind arith
-
 pub digit_in_hand : (codes : List ℕ) (at b v : ℕ) → 0 < at → at ≤ length codes → b ≡ get_or codes (at - 1) 0 → v ≡ digit_value (code_of b) → v < 16 → symbols_from codes (at - 1) ≡ spelled (Digits 1 v) 1 ∷ symbols_from codes at
-digit_in_hand codes at b v some inside e is small = in_hand codes at b some inside e ∙ ap (λ c. joined c 0 0 (symbols_behind (drop at codes))) (digit_is (code_of b) v is small)
+digit_in_hand codes at b v some inside e is small = grind (arith, common_steps)
 
 -- the same symbols, the same place
 pub reached_at : (w : ℕ) (all : List Spelled) (from : ℕ) (row : List ℕ) (x y : ℕ) (ss left : List Spelled) (at to : ℕ) → x ≡ y → ss ≡ left → at ≡ to → Reached w all from row x ss at → Reached w all from row y left to
@@ -180,14 +171,7 @@ module _ (codes : List ℕ) (at : ℕ) (new : Codes) (w : ℕ) (all : List Spell
   pub next_reached : (mid : Codes) (b : ℕ) (s : Symbol) → mid.bytes.now ≡ codes → mid.at ≡ at + 1 → InHand mid (Some b) → IsReading mid → mid.at ≤ new.at
       → joined (code_of b) 0 0 (symbols_behind (drop mid.at mid.bytes.now)) ≡ spelled s (1 + (new.at - mid.at)) ∷ symbols_from new.bytes.now new.at
       → Reached w all from row x (symbols_from codes at) at → ReachedNext w all from row x new (Some s)
-  next_reached mid b s same step hand reading more e r =
-      let back : at ≡ mid.at - 1 = omega arith in (
-        1 + (new.at - mid.at),
-        (
-          omega arith,
-          reached_at w all from row x x _ _ _ _ refl (ap (λ cs. symbols_from cs at) (sym same) ∙ ap (symbols_from mid.bytes.now) back ∙ in_hand mid.bytes.now mid.at b hand.0 reading.at hand.1 ∙ e) (omega arith) r,
-        ),
-      )
+  next_reached mid b s same step hand reading more e r = grind (arith, reached_at, in_hand)
 
 -- the end of a row whose places are all reached and packed
 pub ended_decoded : (codes places old new : List ℕ) (c : Codes) (w : ℕ) (s : Spot) (end : RowEnd) (n v at : ℕ) → end ≡ record { left = n; digit = v; repeats = false } → 0 < w → c.bytes.now ≡ codes → IsReading c → v < 16 → at ≡ c.at

@@ -1,5 +1,6 @@
 -- Digits of which some stand behind a count, sixteen at a time.
-use Rattle.std.proofs.Common.{inl, inr, ◌≡◌, ℕ, zero, suc, ◌+◌, ◌-◌, ◌*◌, ◌/◌, ◌%◌, ◌^◌, ◌<◌, ◌≤◌, max, Bool, true, false, cond, ltb, eqb, ◌&&◌, bit_and, bit_or, List, [], ◌∷◌, ◌++◌, drop, length, get_or, map, replicate, subst, sym, ap, ◌∙◌, refl, arith}
+use Rattle.std.proofs.lemmas.Grind.{common_steps}
+use Rattle.std.proofs.Common.{inl, inr, ◌≡◌, ℕ, zero, suc, ◌+◌, ◌-◌, ◌*◌, ◌/◌, ◌%◌, ◌^◌, ◌<◌, ◌≤◌, Bool, true, false, cond, ltb, eqb, ◌&&◌, bit_and, bit_or, List, [], ◌∷◌, ◌++◌, drop, length, get_or, map, replicate, subst, sym, ap, ◌∙◌, refl, arith}
 use Rattle.std.proofs.Math.Seq.{take-suc}
 use Rattle.std.proofs.lemmas.Bool.{cases_lt, lt-ltb, le-ltb, ltb-true, eqb-true, and_parts, agree_below_at, true≢false}
 use Rattle.std.proofs.lemmas.List.{length-drop, get_or-drop, get_or-map, length-map, take_all}
@@ -11,7 +12,7 @@ use Rattle.vp_format.specs.Codes.{code_of, Spelled}
 use Rattle.vp_format.specs.Cursors.{count_value, digit_value, places_of, added, symbols_from, IsRun, IsShortCount, Passed}
 use Rattle.vp_format.proofs.Lanes.{less, up_to, other, value_by, sel_maps}
 use Rattle.vp_format.proofs.Passed.{passed_at, digits_passed}
-use Rattle.vp_format.proofs.Quick.{plain_symbol, run_symbol, digit_adds, behind_count}
+use Rattle.vp_format.proofs.Quick.{plain_symbol, digit_adds, behind_count}
 
 -- the places of a digit, and of a count
 pub one_place : (c : Code) → digit_value c < 16 → places_of c ≡ 1
@@ -75,8 +76,7 @@ wide b = cond (top 7 (far b)) 1 (less b 71)
 
 wide_is : (b : ℕ) → b < 256 → cond (is_digit b) true (is_short b) ≡ true → wide b ≡ places_of (code_of b)
 unfolding code_of
-wide_is b h known = eqb-true _ _ (sym (ap (λ t. cond t (eqb (wide b) (places_of (code_of b))) true) known)
-    ∙ agree_below_at (λ x. cond (cond (is_digit x) true (is_short x)) (eqb (wide x) (places_of (code_of x))) true) (λ _. true) 256 b refl h)
+wide_is b h known = grind (arith, common_steps)
 
 run_known : (b c : ℕ) → IsRun (code_of b) (code_of c) → cond (is_digit b) true (is_short b) ≡ true
 run_known b c run = grind (arith, lt-ltb, le-ltb)
@@ -178,13 +178,7 @@ digit_step w all x codes at k inside digit before = grind (arith, one_place, pas
 run_step : (w : ℕ) (all : List Spelled) (x : ℕ) (codes : List ℕ) (at j : ℕ) → at + suc (suc j) ≤ length codes → get_or codes (at + j) 0 < 256 → 16 ≤ digit_value (code_of (get_or codes (at + j) 0)) → IsShortCount (code_of (get_or codes (at + j) 0))
     → digit_value (code_of (get_or codes (at + suc j) 0)) < 16 → Passed w all (x + added codes at j) (symbols_from codes (at + j)) → Passed w all (x + added codes at (suc (suc j))) (symbols_from codes (at + suc (suc j)))
 unfolding added
-run_step w all x codes at j inside byte big short digit before =
-    let n = count_value (code_of (get_or codes (at + j) 0)) in
-    let e : added codes at (suc j) ≡ added codes at j + (n - 1) = ap (λ p. added codes at j + p) (count_places (code_of (get_or codes (at + j) 0)) big) in
-    let f : added codes at (suc (suc j)) ≡ added codes at (suc j) + 1 = ap (λ p. added codes at (suc j) + p) (one_place (code_of (get_or codes (at + suc j) 0)) digit) in
-    let symbol = run_symbol codes (at + j) n (at + suc j) _ (max n 1) (at + suc (suc j)) (omega (arith, inside)) (omega arith) byte refl (omega (arith, short.1)) (λ _. omega arith) (λ z. absurd (omega (arith, z, short.0))) refl digit refl (omega arith) in
-    let next = passed_at w all _ (x + added codes at j) _ _ refl symbol before in
-    passed_at w all (x + added codes at j + max n 1) _ _ _ (omega (arith, e, f, short.0)) refl (digits_passed w all (x + added codes at j) (max n 1) _ _ (symbols_from codes (at + suc (suc j))) next)
+run_step w all x codes at j inside byte big short digit before = grind (arith, common_steps)
 
 -- codes of which the last is a digit
 runs_passed : (w : ℕ) (all : List Spelled) (x : ℕ) (codes : List ℕ) (at k : ℕ) → at + k ≤ length codes → ((i : ℕ) → get_or codes i 0 < 256) → ((i : ℕ) → i + 1 < k → IsRun (code_of (get_or codes (at + i) 0)) (code_of (get_or codes (at + 1 + i) 0)))

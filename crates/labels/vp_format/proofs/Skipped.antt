@@ -1,5 +1,5 @@
 -- So many readings, one after the other.
-use Rattle.std.proofs.Common.{◌≡◌, ℕ, zero, suc, ◌+◌, ◌-◌, ◌<◌, ◌≤◌, true, false, Ok, Err, subst, ap, sym, ◌∙◌, refl, arith}
+use Rattle.std.proofs.Common.{◌≡◌, ℕ, zero, suc, ◌+◌, ◌-◌, ◌<◌, ◌≤◌, true, false, Ok, Err, subst, ap, refl, arith}
 use Rattle.std.proofs.lemmas.Bool.{lt-ltb, le-ltb}
 use Rattle.vp_dots.specs.declared.fault.Fault.{Fault}
 use Rattle.vp_format.specs.Pictures.{Picture, Cursor, is_refused, answer, row_after, unless_fault, passing, rows_after}
@@ -63,17 +63,8 @@ way_even a b d rows left k w few room is taken =
     let first = ap (λ (v : Cursor). v.first) w.same in
     let next = ap (λ (v : Cursor). v.next) is in
     let all = rows_read a.picture b.next left k few (omega (arith, ap (λ (v : Cursor). v.picture.rows) w.same)) (subst (λ (p : Picture). (z : ℕ) → b.next ≤ z → z < b.next + k → is_refused p z ≡ false) picture taken) in
-    record {
-      same = rw (is, picture, first) refl;
-      answer = w.answer ∙ all.0 ∙ ap (λ y. passing a.picture y (left - k)) (sym next);
-      row = w.row ∙ all.1 ∙ ap (λ y. rows_after a.picture y (left - k)) (sym next);
-    }
-
--- a fault stops it
-fault_stays : (p : Picture) (y n : ℕ) (why : Fault) → Err why ≡ answer p y → rows_after p (row_after p y) n ≡ row_after p y
-unfolding rows_after
-fault_stays p y n why e = grind (arith, lt-ltb, stopped_at, le-ltb)
+    grind arith
 
 pub way_stopped : (a b d : Cursor) (rows left : ℕ) (why : Fault) → OnWay a b rows left → 0 < left → Err why ≡ answer b.picture b.next → d ≡ record { picture = b.picture; first = b.first; next = row_after b.picture b.next }
     → (Err why ≡ passing a.picture a.next rows) × (d ≡ record { picture = a.picture; first = a.first; next = rows_after a.picture a.next rows })
-way_stopped a b d rows left why w some read is = grind (arith, first_read, fault_stays)
+way_stopped a b d rows left why w some read is = grind (arith, first_read, lt-ltb, stopped_at, le-ltb)
