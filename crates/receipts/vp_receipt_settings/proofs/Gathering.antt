@@ -1,5 +1,6 @@
 -- The bytes of a raster's row that are kept.
-use Rattle.std.proofs.Common.{◌≡◌, ℕ, ◌+◌, ◌<◌, ◌≤◌, ◌-◌, List, [], ◌∷◌, ◌++◌, length, take, min, set, refl, ap, sym, ◌∙◌, ⊎_elim, arith, length-append}
+use Rattle.std.proofs.lemmas.Grind.{common_steps}
+use Rattle.std.proofs.Common.{◌≡◌, ℕ, ◌+◌, ◌<◌, ◌≤◌, ◌-◌, List, [], ◌∷◌, ◌++◌, length, take, min, set, ap, sym, ◌∙◌, ⊎_elim, arith, length-append}
 use Rattle.std.proofs.Math.Seq.{take-append-add}
 use Rattle.std.proofs.lemmas.Bool.{cases_lt}
 use Rattle.std.proofs.lemmas.Slice.{take-put_mid}
@@ -21,8 +22,7 @@ kept_all row came got byte h e k =
     ap (λ n. take n row) a ∙ k ∙ sym (take-append-le LINE_BYTES came (byte ∷ []) (omega arith))
 
 none_of : (xs : List ℕ) → length xs ≡ 0 → xs ≡ []
-none_of [] e = refl
-none_of (x ∷ xs) e = absurd (omega arith)
+none_of xs h1 = grind (arith, common_steps)
 
 -- the front of what came and comes
 fronts : (came bytes new : List ℕ) (got a n : ℕ) → a ≡ min got LINE_BYTES → n ≡ min (length bytes) (LINE_BYTES - a) → got ≡ length came → new ≡ take n bytes → length new ≡ n → take LINE_BYTES came ++ new ≡ take LINE_BYTES (came ++ bytes)

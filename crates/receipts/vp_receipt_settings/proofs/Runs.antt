@@ -1,7 +1,8 @@
 -- Bytes of a raster that don't end its row, one after another.
-use Rattle.std.proofs.Common.{◌≡◌, ℕ, ◌+◌, ◌-◌, ◌<◌, ◌≤◌, eqb, false, Bool, cond, List, [], ◌∷◌, ◌++◌, length, map, reverse, take, min, refl, sym, ap, ◌∙◌, append_assoc, arith, length-append}
+use Rattle.std.proofs.lemmas.Grind.{common_steps}
+use Rattle.std.proofs.Common.{◌≡◌, ℕ, ◌+◌, ◌<◌, ◌≤◌, eqb, false, List, [], ◌∷◌, ◌++◌, length, take, min, refl, sym, ap, ◌∙◌, append_assoc, arith, length-append}
 use Rattle.std.proofs.lemmas.Bool.Decides.{nat_tests}
-use Rattle.std.proofs.lemmas.List.{append-nil, reverse-append}
+use Rattle.std.proofs.lemmas.List.{append-nil}
 use Rattle.vp_esc.specs.declared.item.EscItem.{EscItem}
 use Rattle.vp_esc.specs.declared.item.EscItem.TheVariants.{RasterByte}
 use Rattle.vp_receipt_settings.specs.Setup.{Setup}
@@ -16,9 +17,7 @@ use Rattle.vp_page.specs.declared.line.TheConstants.{LINE_BYTES}
 
 -- the oldest byte first
 pub after_first : (b : ℕ) (bytes : List ℕ) (before : List EscItem) → bytes_after (b ∷ bytes) before ≡ bytes_after bytes (RasterByte b ∷ before)
-after_first b bytes before =
-    ap (λ (x : List EscItem). x ++ before) (reverse-append (RasterByte b ∷ []) (map (λ c. RasterByte c) bytes))
-    ∙ append_assoc (reverse (map (λ c. RasterByte c) bytes)) (RasterByte b ∷ []) before
+after_first b bytes before = grind (arith, common_steps)
 
 -- no byte ends a row
 abbrev pub AreInside : List ℕ → List EscItem → Type 0
@@ -63,17 +62,12 @@ pub inside : (b : ℕ) (before : List EscItem) → 0 < rows_to_come before → l
 inside b before some room = grind (arith, goes_on, nat_tests)
 
 pub lasts : (bytes : List ℕ) (before : List EscItem) → 0 < rows_to_come before → length (row_so_far before) + length bytes < raster_bytes before → Lasts bytes before
-lasts [] before some room = record { scale = refl; width = refl; rows = refl; row = sym (append-nil (row_so_far before)) }
+lasts [] before some room = grind (arith, append-nil)
 lasts (b ∷ bytes) before some room =
     let one = inside b before some (omega arith) in
     let all = after_first b bytes before in
     let more = lasts bytes (RasterByte b ∷ before) (omega (arith, one.rows)) (omega (arith, ap length one.row, length-append (row_so_far before) (b ∷ []))) in
-    record {
-      scale = ap raster_scale all ∙ more.scale;
-      width = ap raster_bytes all ∙ more.width;
-      rows = ap rows_to_come all ∙ more.rows ∙ one.rows;
-      row = ap row_so_far all ∙ more.row ∙ ap (λ x. x ++ bytes) one.row ∙ append_assoc (row_so_far before) (b ∷ []) bytes;
-    }
+    grind (arith, append_assoc)
 
 are_inside : (bytes : List ℕ) (before : List EscItem) → 0 < rows_to_come before → length (row_so_far before) + length bytes < raster_bytes before → AreInside bytes before
 are_inside [] before some room = tt
@@ -87,11 +81,8 @@ pub record HasRoom (r : Raster) (n : ℕ) : Type 0 where
   pub some : 0 < r.rows
   pub less : r.got + n < r.bytes
 
-room_by : (r : Raster) (n : ℕ) (none : Bool) → eqb r.rows 0 ≡ none → 0 < n → n ≤ cond none 0 (r.bytes - r.got - 1) → HasRoom r n
-room_by r n none e some h = grind (arith, nat_tests)
-
 pub has_room : (r : Raster) (b : ℕ) (bytes : List ℕ) → length (b ∷ bytes) ≤ room_of r → HasRoom r (length (b ∷ bytes))
-has_room r b bytes h = room_by r (length (b ∷ bytes)) (eqb r.rows 0) refl (omega arith) h
+has_room r b bytes h = grind arith
 
 -- bytes that there is room for are gathered
 pub gathers_run : (r : Raster) (row bytes : List ℕ) (before : List EscItem) → length bytes ≤ room_of r → IsGathering r before
@@ -111,7 +102,4 @@ gathers_run r row (b ∷ bytes) before h g k =
 
 -- and don't end the row
 pub run_inside : (r : Raster) (bytes : List ℕ) (before : List EscItem) → length bytes ≤ room_of r → IsGathering r before → AreInside bytes before
-run_inside r [] before h g = tt
-run_inside r (b ∷ bytes) before h g =
-    let room = has_room r b bytes h in
-    are_inside (b ∷ bytes) before (omega (arith, room.some, g.rows)) (omega (arith, room.less, g.got, g.bytes))
+run_inside r bytes before h1 h2 = grind (arith, common_steps, has_room, are_inside)

@@ -1,26 +1,22 @@
 -- Bytes that are stored, one by one and in runs.
-use Rattle.std.proofs.Common.{◌≡◌, ℕ, ◌+◌, ◌-◌, ◌<◌, ◌≤◌, true, Bool, nat_lt, List, [], ◌∷◌, ◌++◌, length, take, reverse, min, ap, sym, ◌∙◌, append_assoc, arith, length-append, ⊎_elim}
-use Rattle.std.proofs.lemmas.List.{append-nil, reverse-append, take-append-le, take_all, take_min, length-take}
+use Rattle.std.proofs.lemmas.Grind.{common_steps}
+use Rattle.std.proofs.Common.{◌≡◌, ℕ, ◌+◌, ◌-◌, ◌<◌, ◌≤◌, true, Bool, nat_lt, List, [], ◌∷◌, ◌++◌, length, take, min, ap, sym, ◌∙◌, append_assoc, arith, length-append, ⊎_elim}
+use Rattle.std.proofs.lemmas.List.{append-nil, take-append-le, take_all, take_min, length-take}
 use Rattle.std.proofs.lemmas.Bool.Decides.{nat_tests}
 use Rattle.std.proofs.lemmas.Bool.{lt-ltb, le-ltb, cases_lt}
 use Rattle.std.proofs.Math.Seq.{take-append-add}
 use Rattle.vp_esc.specs.declared.item.EscItem.{EscItem}
 use Rattle.vp_esc.specs.declared.item.EscItem.TheVariants.{QrByte}
-use Rattle.vp_esc.specs.Reader.{stored_items}
 use Rattle.vp_receipt_settings.specs.Runs.{stored_after}
 use Rattle.vp_receipt_settings.specs.Symbols.{qr_data}
 use Rattle.vp_receipt_settings.specs.declared.stored.TheConstants.{STORED_BYTES}
 
 module _ (room : ℕ) (kept came : List ℕ) (byte : ℕ) (k : kept ≡ take room came) where
   pub kept_one : length kept < room → kept ++ byte ∷ [] ≡ take room (came ++ byte ∷ [])
-  kept_one h =
-      let short : length came < room = omega (arith, ap length k, length-take room came) in
-      ap (λ (xs : List ℕ). xs ++ byte ∷ []) (k ∙ take_all room came (omega arith)) ∙ sym (take_all room (came ++ byte ∷ []) (omega (arith, length-append came (byte ∷ []))))
+  kept_one h = grind (arith, length-take, take_all, length-append)
 
   pub no_more : length kept < room → nat_lt room (length came) ≡ nat_lt room (length (came ++ byte ∷ []))
-  no_more h =
-      let short : length came < room = omega (arith, ap length k, length-take room came) in
-      le-ltb room (length came) (omega arith) ∙ sym (le-ltb room (length (came ++ byte ∷ [])) (omega (arith, length-append came (byte ∷ []))))
+  no_more h = grind (arith, length-take, le-ltb, length-append)
 
   pub kept_none : room ≤ length kept → kept ≡ take room (came ++ byte ∷ [])
   kept_none h = k ∙ sym (take-append-le room came (byte ∷ []) (omega (arith, ap length k, length-take room came)))
@@ -30,9 +26,7 @@ module _ (room : ℕ) (kept came : List ℕ) (byte : ℕ) (k : kept ≡ take roo
 
 -- the oldest byte first
 pub stored_first : (b : ℕ) (bytes : List ℕ) (before : List EscItem) → stored_after (b ∷ bytes) before ≡ stored_after bytes (QrByte b ∷ before)
-stored_first b bytes before =
-    ap (λ (x : List EscItem). x ++ before) (reverse-append (QrByte b ∷ []) (stored_items bytes))
-    ∙ append_assoc (reverse (stored_items bytes)) (QrByte b ∷ []) before
+stored_first b bytes before = grind (arith, common_steps)
 
 pub data_after : (bytes : List ℕ) (before : List EscItem) → qr_data (stored_after bytes before) ≡ qr_data before ++ bytes
 data_after [] before = sym (append-nil (qr_data before))

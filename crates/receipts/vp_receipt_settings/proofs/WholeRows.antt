@@ -63,12 +63,7 @@ row_ends (b ∷ c ∷ bytes) before h =
     let one = inside b before h.rows go.room in
     let all = after_first b (c ∷ bytes) before in
     let more = row_ends (c ∷ bytes) (RasterByte b ∷ before) go.rest in
-    record {
-      scale = ap raster_scale all ∙ more.scale;
-      width = ap raster_bytes all ∙ more.width;
-      rows = ap rows_to_come all ∙ more.rows ∙ ap (λ n. n - 1) one.rows;
-      row = ap row_so_far all ∙ more.row;
-    }
+    grind arith
 
 some_down : (k : RasterScale) → 0 < times_down k
 some_down k = grind arith
@@ -116,12 +111,7 @@ are_whole bytes (suc k) before h =
     let above = are_whole bytes k before (fewer bytes k before h) in
     let last = row_ends _ _ (lacks_after bytes k before h above) in
     let all = next_row bytes (raster_bytes before) k before in
-    record {
-      scale = ap raster_scale all ∙ last.scale ∙ above.scale;
-      width = ap raster_bytes all ∙ last.width ∙ above.width;
-      rows = ap rows_to_come all ∙ last.rows ∙ ap (λ n. n - 1) above.rows ∙ (let e : rows_to_come before - k - 1 ≡ rows_to_come before - suc k = omega arith in e);
-      row = ap row_so_far all ∙ last.row;
-    }
+    grind arith
 
 -- the row below so many
 pub lacks_row : (bytes : List ℕ) (k : ℕ) (before : List EscItem) → HaveRows bytes (suc k) before
@@ -157,22 +147,12 @@ pub row_gathered : (r : Raster) (row bytes : List ℕ) (before : List EscItem) �
     → IsGathering (record r { rows = r.rows - 1; got = 0; row = row }) (bytes_after bytes before)
 row_gathered r row bytes before some few lacks g =
     let e = row_ends bytes before (record { rows = omega (arith, g.rows); some = omega arith; all = omega (arith, g.got, g.bytes) }) in
-    record {
-      scale = g.scale ∙ sym e.scale;
-      bytes = g.bytes ∙ sym e.width;
-      rows = ap (λ n. n - 1) g.rows ∙ sym e.rows;
-      got = ap length (sym e.row);
-      row = ap (take LINE_BYTES) (sym e.row);
-    }
-
-no_bytes : (xs : List ℕ) → length xs ≡ 0 → xs ≡ []
-no_bytes [] e = refl
-no_bytes (x ∷ xs) e = absurd (omega arith)
+    grind arith
 
 -- a raster of which no row has begun has rows in as many bytes
 pub have_rows : (r : Raster) (n : ℕ) (bytes : List ℕ) (before : List EscItem) → IsPartRow r → r.got ≡ 0 → n ≤ r.rows → IsGathering r before → n * r.bytes ≤ length bytes
     → HaveRows bytes n before
-have_rows r n bytes before part begins few g long = grind (arith, no_bytes)
+have_rows r n bytes before part begins few g long = grind arith
 
 -- whole rows that are passed
 pub rows_pass : (r : Raster) (n : ℕ) (bytes : List ℕ) (before : List EscItem) → IsPartRow r → r.got ≡ 0 → n ≤ r.rows → IsGathering r before → n * r.bytes ≤ length bytes
