@@ -49,17 +49,11 @@ doubled_none row = record {
 module _ (row wide : List ℕ) (i left right : ℕ) (left_is : (k : ℕ) → k < 8 → bit left k ≡ bit (get_or row i 0 / 2 ^ 4) (k / 2)) (right_is : (k : ℕ) → k < 8 → bit right k ≡ bit (bit_and (get_or row i 0) 15) (k / 2)) where
   left_dots : (x : ℕ) → x / 8 ≡ 2 * i → bit left (7 - x % 8) ≡ dot row (x / 2)
   unfolding dot
-  left_dots x e =
-      let q : x / 2 / 8 ≡ i = omega arith in
-      let r : 4 + (7 - x % 8) / 2 ≡ 7 - x / 2 % 8 = omega arith in
-      left_is (7 - x % 8) (omega arith) ∙ bit_high (get_or row i 0) ((7 - x % 8) / 2) ∙ rw (q, r) refl
+  left_dots x e = grind (arith, bit_high)
 
   right_dots : (x : ℕ) → x / 8 ≡ 2 * i + 1 → bit right (7 - x % 8) ≡ dot row (x / 2)
   unfolding dot
-  right_dots x e =
-      let q : x / 2 / 8 ≡ i = omega arith in
-      let r : (7 - x % 8) / 2 ≡ 7 - x / 2 % 8 = omega arith in
-      right_is (7 - x % 8) (omega arith) ∙ bit_low (get_or row i 0) ((7 - x % 8) / 2) (omega arith) ∙ rw (q, r) refl
+  right_dots x e = grind (arith, bit_low)
 
   pub doubled_more : i < 104 → IsDoubled row i wide → IsDoubled row (i + 1) (set (set wide (2 * i) left) (2 * i + 1) right)
   doubled_more room d =

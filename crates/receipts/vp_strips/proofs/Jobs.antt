@@ -1,5 +1,5 @@
 -- What a job keeps, where another field changes.
-use Rattle.std.proofs.Common.{is_some, IsTrue, ◌↔◌, ◌≡◌, ◌<◌, ◌≤◌, ℕ, ◌++◌, length, drop, arith, length-append, length-drop, Option, Some, None}
+use Rattle.std.proofs.Common.{is_some, IsTrue, ◌↔◌, ◌≡◌, ◌<◌, ◌≤◌, ℕ, ◌++◌, length, drop, arith, length-append, length-drop, Option, Some}
 use Rattle.vp_strips.specs.Canvases.{Canvas}
 use Rattle.vp_strips.specs.declared.job.Job.{Job}
 use Rattle.vp_strips.specs.declared.job.After.{After}
@@ -10,7 +10,7 @@ use Rattle.vp_output.specs.declared.place.Place.{Place}
 use Rattle.vp_output.specs.Lines.{line_text}
 use Rattle.vp_output.proofs.Parts.{pending_long}
 use Rattle.vp_strips.specs.Jobs.{lines_of, text}
-use Rattle.vp_strips.specs.Held.{line_bytes, SomeLeft, IsTurned, after_text, part_of, IsLowDots, IsOwnDots, Shows, shown_in, IsShowing}
+use Rattle.vp_strips.specs.Held.{line_bytes, SomeLeft, IsTurned, after_text, part_of, IsLowDots, IsOwnDots, IsShowing}
 use Rattle.vp_strips.proofs.Rows.{length-paper_row}
 
 -- a line has so many bytes
@@ -33,16 +33,7 @@ pending_while j canvas p after l t = grind (arith, some_left, length-append)
 pub own_low : (dots : Dots) → IsOwnDots dots → IsLowDots dots
 own_low dots h = grind arith
 
--- bytes are left at a place, unless it is none
-pub part_left : (j : Job) (canvas : Canvas) (p : Option Place) → SomeLeft j.strip p → (p ≡ None → ⊥) → 0 < length (text j.strip canvas p)
-part_left j canvas p l n = grind (arith, some_left)
-
--- a line goes on being shown while bytes of its strip are left
-shows_further : (dots : Dots) (p q : Option Place) (after now then high others : ℕ) → (p ≡ None → ⊥) → then ≤ now → (q ≡ None → then ≡ after) → ((q ≡ None → ⊥) → after < then)
-    → Shows (shown_in dots p after) now high others → Shows (shown_in dots q after) then high others
-shows_further dots p q after now then high others n l e g h = grind arith
-
 -- the same of a job that put out bytes of its strip
 pub shows_on : (j k : Job) (canvas : Canvas) (n high others : ℕ) → k.strip ≡ j.strip → k.after ≡ j.after → part_of k canvas ≡ drop n (part_of j canvas) → 0 < length (part_of j canvas) → SomeLeft k.strip k.place
     → IsShowing j canvas high others → IsShowing k canvas high others
-shows_on j k canvas n high others strip after rest some left h = grind (arith, length-append, length-drop, shows_further, part_left)
+shows_on j k canvas n high others strip after rest some left h = grind (arith, length-append, length-drop, some_left)

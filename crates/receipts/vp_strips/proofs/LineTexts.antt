@@ -1,9 +1,7 @@
 -- The line's strip out of its bitmap.
-use Rattle.std.proofs.Common.{inl, inr, ◌≡◌, ℕ, ◌+◌, ◌-◌, ◌<◌, ◌≤◌, true, nat_lt, nat_le, ◌&&◌, ◌||◌, refl, sym, ap, ◌∙◌, arith, List, [], ◌∷◌, get_or, Some}
-use Rattle.std.proofs.lemmas.Bool.{cases_lt, le-leb, lt-leb, le-ltb}
+use Rattle.std.proofs.Common.{◌≡◌, ℕ, ◌+◌, ◌-◌, ◌<◌, ◌≤◌, true, nat_lt, nat_le, refl, ap, ◌∙◌, arith, List, [], ◌∷◌, Some}
+use Rattle.std.proofs.lemmas.Bool.{cases_lt, le-ltb}
 use Rattle.vp_page.specs.declared.page.TheConstants.{PAPER_DOTS}
-use Rattle.vp_page.specs.declared.line.TheConstants.{LINE_DOTS}
-use Rattle.vp_dots.specs.Dots.{dot}
 use Rattle.vp_esc.specs.declared.item.EscItem.{EscItem}
 use Rattle.vp_strips.specs.Canvases.{Canvas}
 use Rattle.vp_strips.specs.declared.strip.Dots.TheVariants.{Line, Drawn}
@@ -13,20 +11,16 @@ use Rattle.vp_receipt_settings.specs.Setup.{Setup}
 use Rattle.vp_strips.specs.Held.{whole}
 use Rattle.vp_receipt_settings.specs.Line.{Placed, height, right_edge, line, is_open, standard_length}
 use Rattle.vp_receipt_settings.specs.Settings.{settings_of, paper_length, printed_at}
-use Rattle.vp_strips.specs.LineDots.{HasDots, HasOpen, any_dot, item_dot}
-use Rattle.vp_strips.specs.Rows.{printed_dot, strip_text, line_text, image_dot, image_text}
+use Rattle.vp_strips.specs.LineDots.{HasDots, HasOpen, any_dot}
+use Rattle.vp_strips.specs.Rows.{printed_dot, strip_text, line_text, image_text}
 use Rattle.vp_receipt_settings.specs.declared.settings.Settings.{Settings}
 use Rattle.vp_strips.specs.Jobs.{line_dot_of}
 use Rattle.vp_receipt_settings.specs.declared.text.TheConstants.{LINE_ROWS}
 use Rattle.vp_strips.proofs.Strips.{whole_is}
 
--- an item stands on the same bottom row in a higher line
-item_raised : (p : Placed) (high x y : ℕ) → p.image.height ≤ high → high ≤ LINE_ROWS → y < high → item_dot p high x y ≡ item_dot p LINE_ROWS x (LINE_ROWS - high + y)
-item_raised p high x y h k l = grind (arith, lt-leb, le-leb)
-
 pub raised : (placed : List Placed) (high x y : ℕ) → height placed ≤ high → high ≤ LINE_ROWS → y < high → any_dot placed high x y ≡ any_dot placed LINE_ROWS x (LINE_ROWS - high + y)
 raised [] high x y h k l = refl
-raised (p ∷ rest) high x y h k l = ap (λ b. b || any_dot rest high x y) (item_raised p high x y (omega arith) k l) ∙ ap (λ b. item_dot p LINE_ROWS x (LINE_ROWS - high + y) || b) (raised rest high x y (omega arith) k l)
+raised (p ∷ rest) high x y h k l = grind (arith, raised rest high x y (omega arith) k l)
 
 open_line : (placed : List Placed) → 0 < height placed → is_open placed ≡ true
 open_line placed h = grind arith
@@ -34,15 +28,8 @@ open_line placed h = grind arith
 -- the lowest rows of the bitmap of a line are that line
 module _ (setup : Setup) (before : List EscItem) (bitmap : List (List ℕ)) (high left length : ℕ) (high_is : high ≡ height (line setup before)) (long_is : length ≡ paper_length setup before)
     (left_is : left ≡ printed_at setup before (right_edge (line setup before))) (small : high ≤ LINE_ROWS) (has : is_open (line setup before) ≡ true → HasDots (line setup before) bitmap) where
-  read : (x y : ℕ) → x < LINE_DOTS → y < high → dot (get_or bitmap (LINE_ROWS - high + y) []) x ≡ any_dot (line setup before) (height (line setup before)) x y
-  read x y l h = (has (open_line (line setup before) (omega arith))).dots_are x (LINE_ROWS - high + y) l (omega arith)
-      ∙ ap (λ k. any_dot (line setup before) LINE_ROWS x (LINE_ROWS - k + y)) high_is ∙ sym (raised (line setup before) (height (line setup before)) x y (omega arith) (omega arith) (omega arith))
-
   pub same_dot : (x y : ℕ) → x < PAPER_DOTS → line_dot_of high left length bitmap x y ≡ printed_dot setup before x y
-  same_dot x y l = elim (cases_lt y high) [
-    | inl h ↦ ap (λ b. nat_lt y high && (nat_le left x && nat_lt (x - left) length && b)) (read (x - left) y (omega arith) h) ∙ rw (high_is, long_is, left_is) refl
-    | inr h ↦ rw (le-ltb y high h, le-ltb y (height (line setup before)) (omega arith)) refl
-  ]
+  same_dot x y l = grind (arith, cases_lt, nat_lt, nat_le, open_line, raised, le-ltb)
 
 -- the strip that is made of the settings
 pub text_is : (setup : Setup) (before : List EscItem) (canvas : Canvas) (s : Settings) (high left length rows : ℕ) → s ≡ settings_of setup before → high ≡ s.height
@@ -58,10 +45,4 @@ text_is setup before canvas s high left length rows e high_is long_is left_is sm
 pub drawn_is : (setup : Setup) (before : List EscItem) (canvas : Canvas) (s : Settings) (image : Image) (wide high left length : ℕ) → s ≡ settings_of setup before
     → IsDrawn canvas.sheets canvas.symbol wide high image → 0 < high → left ≡ printed_at setup before wide → length ≡ standard_length s.paper s.left_margin s.area_width
     → whole (record { paper = s.paper; tall = high; rows = high; dots = Drawn left length }) canvas ≡ image_text setup before (Some image)
-drawn_is setup before canvas s image wide high left length e is some left_is long_is =
-    let at : left ≡ printed_at setup before image.width = left_is ∙ ap (printed_at setup before) is.width in
-    let long : length ≡ paper_length setup before = long_is ∙ ap (λ (q : Settings). standard_length q.paper q.left_margin q.area_width) e in
-    whole_is (record { paper = s.paper; tall = high; rows = high; dots = Drawn left length }) canvas (image_dot setup before image) refl (λ z. absurd (omega arith))
-    (λ x y h. ap (λ b. nat_le left x && nat_lt (x - left) length && b) (is.dots (x - left) y) ∙ rw (at, long) refl)
-    ∙ ap (λ n. strip_text s.paper n (image_dot setup before image)) is.height
-    ∙ ap (λ (q : Settings). strip_text q.paper image.height (image_dot setup before image)) e
+drawn_is setup before canvas s image wide high left length e is some left_is long_is = grind (arith, whole_is, nat_le, nat_lt)

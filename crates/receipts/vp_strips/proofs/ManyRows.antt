@@ -1,5 +1,5 @@
 -- Many rows of a strip, as the paper shows them.
-use Rattle.std.proofs.Common.{◌≡◌, ℕ, zero, suc, ◌+◌, ◌-◌, ◌*◌, ◌/◌, ◌<◌, ◌≤◌, Bool, ◌&&◌, nat_lt, min, Some, refl, sym, ap, ◌∙◌, arith, List, ◌∷◌, ◌++◌, length, replicate, take, drop, append_assoc, false}
+use Rattle.std.proofs.Common.{◌≡◌, ℕ, zero, suc, ◌+◌, ◌-◌, ◌*◌, ◌/◌, ◌<◌, ◌≤◌, Bool, ◌&&◌, nat_lt, min, Some, refl, sym, ap, ◌∙◌, arith, List, ◌++◌, length, replicate, take, drop, append_assoc, false}
 use Rattle.std.specs.List.{range_with_len, flat_map}
 use Rattle.std.proofs.Math.Nat.{suc-mul, mul-sub, mul_comm, mul-le-mul_right, le-div_iff_mul-le}
 use borrow.Rule.Slice.PartMut.{put_mid}
@@ -7,7 +7,7 @@ use Rattle.std.proofs.lemmas.Bool.{lt-ltb, le-leb}
 use Rattle.std.proofs.lemmas.List.{take_at, drop_at, drop-drop, replicate-append-replicate}
 use Rattle.vp_page.specs.declared.page.TheConstants.{PAGE_ROWS, PAPER_DOTS}
 use Rattle.vp_dots.specs.Dots.{dot}
-use Rattle.vp_dots.specs.Images.{row_of, row_from, packed}
+use Rattle.vp_dots.specs.Images.{row_of, row_from}
 use Rattle.vp_dots.proofs.ImageLaws.{length-pieces}
 use Rattle.vp_receipt_settings.specs.declared.width.Width.{Width}
 use Rattle.vp_receipt_settings.specs.Setup.{across, row_bytes}
@@ -77,11 +77,7 @@ module _ (paper : Width) (f : ℕ → ℕ → Bool) where
 
   -- a row fits behind k others
   pub row_fits : (k n bytes : ℕ) (old : List ℕ) → bytes ≡ row_bytes paper → k < n → n * row_bytes paper ≤ length old → k * bytes + row_bytes paper ≤ length old
-  row_fits k n bytes old e h fits =
-      let b = row_bytes paper in
-      let next : (k + 1) * b ≡ k * b + b = ap (λ m. m * b) (let e : k + 1 ≡ suc k = omega arith in e) ∙ suc-mul k b in
-      let all = mul-le-mul_right b (let l : k + 1 ≤ n = omega arith in l) in
-      rw e (omega (arith, next, all))
+  row_fits k n bytes old e h fits = grind arith
 
   -- all are copied
   pub rows_copied : (y n : ℕ) (old : List ℕ) → take (n * row_bytes paper) (rows_text paper f y n) ++ drop (n * row_bytes paper) old ≡ rows_text paper f y n ++ drop (n * row_bytes paper) old
@@ -110,13 +106,9 @@ pub some_rows : (paper : Width) (room left rows : ℕ) → row_bytes paper ≤ r
 some_rows paper room left rows h l e = let one = (le-div_iff_mul-le (some_bytes paper)).1 (let m : 1 * row_bytes paper ≤ room = omega arith in m) in omega arith
 
 -- rows without a dot
-packed_white : (n : ℕ) (f : ℕ → Bool) (at most : ℕ) → at + n ≤ most → ((d : ℕ) → d < most → f d ≡ false) → packed n f at ≡ 0
-packed_white zero f at most l h = refl
-packed_white (suc n) f at most l h = rw (h at (omega arith)) (omega (arith, packed_white n f (at + 1) most (omega arith) h))
-
 row_white : (n : ℕ) (f : ℕ → Bool) (at most : ℕ) → at + 8 * n ≤ most → ((d : ℕ) → d < most → f d ≡ false) → row_from n f at ≡ replicate n 0
 row_white zero f at most l h = refl
-row_white (suc n) f at most l h = ap (λ b. b ∷ row_from n f (at + 8)) (packed_white 8 f at most (omega arith) h) ∙ ap (λ r. 0 ∷ r) (row_white n f (at + 8) most (omega arith) h)
+row_white (suc n) f at most l h = grind (arith, row_white n f (at + 8) most (omega arith) h)
 
 paper_row_white : (paper : Width) (f : ℕ → Bool) → ((d : ℕ) → f d ≡ false) → paper_row paper f ≡ replicate (row_bytes paper) 0
 unfolding paper_row
@@ -167,11 +159,4 @@ module _ (s : Strip) (canvas : Canvas) where
   -- what is left behind some rows
   pub left_behind : (y n last : ℕ) → 0 < n → y + n ≤ s.rows → last ≡ y + (n - 1)
       → text s canvas (advanced s.rows (row_bytes s.paper) (row_bytes s.paper) (at last)) ≡ drop (n * row_bytes s.paper) (from y (s.rows - y))
-  left_behind y n last some few e =
-      let b = row_bytes s.paper in
-      let f = strip_dot s canvas in
-      pending_on (lines_of s canvas) (at last) b b (sym (length-paper_row s.paper (λ x. strip_dot s canvas x last))) (omega arith)
-      ∙ ap (drop b) (rows_left last (omega arith)) ∙ ap (λ m. drop m (from last (s.rows - last))) (let u : b ≡ 1 * b = omega arith in u)
-      ∙ other_rows s.paper f last 1 (s.rows - last) (omega arith)
-      ∙ ap (λ a. from a (s.rows - last - 1)) (let u : last + 1 ≡ y + n = omega arith in u) ∙ ap (from (y + n)) (let u : s.rows - last - 1 ≡ s.rows - y - n = omega arith in u)
-      ∙ sym (other_rows s.paper f y n (s.rows - y) (omega arith))
+  left_behind y n last some few e = grind (arith, pending_on, length-paper_row, rows_left, other_rows)

@@ -1,44 +1,29 @@
 -- A QR symbol as it is drawn.
-use Rattle.std.proofs.Common.{◌≡◌, ℕ, ◌*◌, ◌/◌, ◌<◌, ◌≤◌, Bool, true, false, nat_lt, ◌&&◌, refl, ap, sym, ◌∙◌, arith, List, Option, Some, None, Result, OnOk, IfOk, IfErr, length, take, inl, inr, cond}
-use Rattle.std.proofs.lemmas.Bool.{ltb-true, lt-ltb, le-ltb, cases_lt, true≢false}
+use Rattle.std.proofs.lemmas.Grind.{common_steps}
+use Rattle.std.proofs.Common.{◌≡◌, ℕ, ◌*◌, ◌<◌, ◌≤◌, false, nat_lt, refl, ap, sym, ◌∙◌, arith, List, Option, Some, None, Result, OnOk, IfOk, IfErr, length, take, inl, inr, cond}
+use Rattle.std.proofs.lemmas.Bool.{lt-ltb, le-ltb, cases_lt, true≢false}
 use Rattle.std.proofs.lemmas.List.{take_all}
-use Rattle.std.proofs.Math.Nat.{div-lt_iff_lt-mul}
 use Rattle.std.specs.Option.{option_or}
 use Rattle.vp_dots.specs.declared.fault.Fault.{Fault}
 use Rattle.vp_dots.specs.declared.fault.Fault.TheVariants.{SymbolTooWide, SymbolTooLong}
 use Rattle.vp_qr.specs.declared.segment.Mode.TheVariants.{Auto}
 use Rattle.vp_qr.specs.Places.{size}
-use Rattle.vp_qr.specs.Walk.{dark}
-use Rattle.vp_qr.specs.Encoding.{QrSymbol, Encodes, symbol_module}
-use Rattle.vp_qr.specs.Inks.{ScaledSymbol, side, ink_of}
+use Rattle.vp_qr.specs.Encoding.{QrSymbol, Encodes}
+use Rattle.vp_qr.specs.Inks.{ScaledSymbol, side}
 use Rattle.vp_esc.specs.declared.item.QrModel.{QrModel}
 use Rattle.vp_esc.specs.declared.item.QrModel.TheVariants.{Two}
 use Rattle.vp_receipt_settings.specs.declared.stored.Stored.{Stored}
 use Rattle.vp_receipt_settings.specs.declared.qr_style.QrStyle.{QrStyle}
 use Rattle.vp_receipt_settings.specs.declared.stored.TheConstants.{STORED_BYTES}
-use Rattle.vp_receipt_settings.specs.Symbols.{level_of, qr_side, qr_dot, qr_image, IsQrImage, IsStored, too_wide, model_refusal, many_refusal, bytes_refusal, qr_refusal}
-
-and_under : (a b c d : Bool) → (a ≡ true → b ≡ true → c ≡ d) → (a && b && c) ≡ (a && b && d)
-and_under a b c d h = grind arith
+use Rattle.vp_receipt_settings.specs.Symbols.{level_of, qr_side, qr_image, IsQrImage, IsStored, too_wide, model_refusal, many_refusal, bytes_refusal, qr_refusal}
 
 module _ (style : QrStyle) (bytes : List ℕ) (qr : QrSymbol) (ink : ScaledSymbol) (e : Encodes (level_of style.level) Auto bytes qr)
     (size_is : ink.size ≡ size qr.version) (scale_is : ink.scale ≡ style.module_dots) (rows_are : ink.rows ≡ qr.rows) (some : 0 < style.module_dots) where
   pub side_is : side ink ≡ qr_side style bytes
   side_is = ap (λ m. m * ink.size) scale_is ∙ ap (λ s. style.module_dots * s) (size_is ∙ ap size e.version_is)
 
-  dots_are : (x y : ℕ) → ink_of ink x y ≡ qr_dot style bytes x y
-  dots_are x y =
-      and_under (nat_lt x (side ink)) (nat_lt y (side ink)) (dark ink.rows (y / ink.scale) (x / ink.scale)) (symbol_module (level_of style.level) Auto bytes (y / style.module_dots) (x / style.module_dots))
-      (λ a b.
-      let inside : side ink ≡ style.module_dots * size qr.version = ap (λ m. m * ink.size) scale_is ∙ ap (λ s. style.module_dots * s) size_is in
-      let row : y / style.module_dots < size qr.version = (div-lt_iff_lt-mul some).1 (let l = ltb-true y (side ink) b in omega arith) in
-      let column : x / style.module_dots < size qr.version = (div-lt_iff_lt-mul some).1 (let l = ltb-true x (side ink) a in omega arith) in
-      ap (λ m. dark ink.rows (y / m) (x / m)) scale_is ∙ ap (λ (rows : List ℕ). dark rows (y / style.module_dots) (x / style.module_dots)) rows_are
-      ∙ e.modules_are (y / style.module_dots) (x / style.module_dots) row column)
-      ∙ ap (λ s. nat_lt x s && nat_lt y s && symbol_module (level_of style.level) Auto bytes (y / style.module_dots) (x / style.module_dots)) side_is
-
   pub is_image : IsQrImage ink (qr_image style bytes)
-  is_image = record { width = side_is; height = side_is; dots = dots_are }
+  is_image = grind (arith, common_steps)
 
 -- wider than the line
 pub wide_refused : (wide length : ℕ) (f : Option Fault) → f ≡ None → length < wide → option_or f (too_wide wide length) ≡ Some SymbolTooWide

@@ -1,24 +1,18 @@
 -- The rows of a strip.
-use Rattle.std.proofs.Common.{◌≡◌, ℕ, ◌+◌, ◌-◌, ◌*◌, ◌/◌, ◌%◌, ◌^◌, ◌<◌, ◌≤◌, Bool, false, nat_lt, nat_le, ◌&&◌, refl, ap, ◌∙◌, arith, List, ◌∷◌, length as list_length, replicate, cond, pos, zero, suc, ℤ, take}
+use Rattle.std.proofs.Common.{◌≡◌, ℕ, ◌+◌, ◌-◌, ◌*◌, ◌/◌, ◌%◌, ◌<◌, ◌≤◌, Bool, nat_le, ◌&&◌, refl, ap, arith, List, length as list_length, replicate, pos, zero, suc, ℤ, take}
 use Rattle.std.proofs.lemmas.List.{length-replicate, get_or-take}
 use Rattle.std.proofs.lemmas.Bool.{le-leb}
-use Rattle.std.proofs.lemmas.Bool.Decides.{nat_tests}
 use Rattle.vp_page.specs.declared.page.TheConstants.{PAPER_DOTS, PAPER_BYTES}
 use Rattle.vp_dots.specs.Dots.{bit, dot, shifted, span}
 use Rattle.vp_dots.specs.Painting.{Painted}
-use Rattle.vp_dots.specs.Images.{row_of, row_from, packed}
+use Rattle.vp_dots.specs.Images.{row_of, row_from}
 use Rattle.vp_dots.specs.declared.Op.TheVariants.{Black, White}
 use Rattle.vp_dots.proofs.ImageRows.{length-row_from}
 use Rattle.vp_strips.specs.Rows.{paper_row, clipped}
 use Rattle.vp_receipt_settings.specs.declared.width.Width.{Width}
 use Rattle.vp_receipt_settings.specs.Setup.{across, row_bytes}
-use Rattle.vp_receipt_settings.proofs.Widths.{dots_across, few_bytes, few_dots}
+use Rattle.vp_receipt_settings.proofs.Widths.{dots_across, few_dots}
 use Rattle.vp_strips.proofs.Bitmaps.{dot_white}
-
--- a dot of a source that is moved to the right, and whitened from an end on
-over : (left length d : ℕ) (b : Bool) → d < PAPER_DOTS →
-    cond (nat_le (left + length) d && nat_lt d PAPER_DOTS) false (nat_le left d && b) ≡ (nat_le left d && nat_lt (d - left) length && b)
-over left length d b h = grind (arith, nat_tests)
 
 -- a row that was white has the dots of a source, moved to the right
 pub moved_dot : (n left : ℕ) (at : ℤ) (f : ℕ → Bool) (row a : List ℕ) → row ≡ replicate n 0 → at ≡ pos left → Painted Black (shifted at f) row a
@@ -28,16 +22,12 @@ moved_dot n left at f row a e at_is p d h = grind (arith, list_length, length-re
 -- and is clipped where it is whitened from an end on
 pub row_clipped : (left length end : ℕ) (f : ℕ → Bool) (a b : List ℕ) → end ≡ left + length → list_length a ≡ PAPER_BYTES → ((d : ℕ) → d < PAPER_DOTS → dot a d ≡ (nat_le left d && f (d - left)))
     → Painted White (span end PAPER_DOTS) a b → (d : ℕ) → d < PAPER_DOTS → dot b d ≡ clipped left length f d
-row_clipped left length end f a b end_is long moved p d h = grind (arith, over)
+row_clipped left length end f a b end_is long moved p d h = grind arith
 
 -- rows with the same dots have the same bytes
-packed_same : (n : ℕ) (f g : ℕ → Bool) (at most : ℕ) → at + n ≤ most → ((d : ℕ) → d < most → f d ≡ g d) → packed n f at ≡ packed n g at
-packed_same zero f g at most l h = refl
-packed_same (suc n) f g at most l h = ap (λ b. cond b (2 ^ n) 0 + packed n f (at + 1)) (h at (omega arith)) ∙ ap (λ m. cond (g at) (2 ^ n) 0 + m) (packed_same n f g (at + 1) most (omega arith) h)
-
 row_from_same : (n : ℕ) (f g : ℕ → Bool) (at most : ℕ) → at + 8 * n ≤ most → ((d : ℕ) → d < most → f d ≡ g d) → row_from n f at ≡ row_from n g at
 row_from_same zero f g at most l h = refl
-row_from_same (suc n) f g at most l h = ap (λ b. b ∷ row_from n f (at + 8)) (packed_same 8 f g at most (omega arith) h) ∙ ap (λ r. packed 8 g at ∷ r) (row_from_same n f g (at + 8) most (omega arith) h)
+row_from_same (suc n) f g at most l h = grind (arith, row_from_same n f g (at + 8) most (omega arith) h)
 
 pub row_of_same : (n : ℕ) (f g : ℕ → Bool) → ((d : ℕ) → d < 8 * n → f d ≡ g d) → row_of n f ≡ row_of n g
 row_of_same n f g h = row_from_same n f g 0 (8 * n) (omega arith) h
@@ -65,11 +55,6 @@ straight_dot left source row d none e h =
     rw (e, none, here, le-leb 0 d (omega arith)) (dot-take PAPER_BYTES source d (omega arith))
 
 -- narrower paper has the front of the row
-take_row_from : (n m : ℕ) (f : ℕ → Bool) (at : ℕ) → n ≤ m → take n (row_from m f at) ≡ row_from n f at
-take_row_from zero m f at h = refl
-take_row_from (suc n) zero f at h = absurd (omega arith)
-take_row_from (suc n) (suc m) f at h = ap (λ r. packed 8 f at ∷ r) (take_row_from n m f (at + 8) (omega arith))
-
 pub take_row : (paper : Width) (f : ℕ → Bool) (row : List ℕ) → row ≡ row_of PAPER_BYTES f → take (row_bytes paper) row ≡ paper_row paper f
 unfolding paper_row
-take_row paper f row e = ap (take (row_bytes paper)) e ∙ take_row_from (row_bytes paper) PAPER_BYTES f 0 (few_bytes paper)
+take_row paper f row e = grind arith
