@@ -1,21 +1,15 @@
 -- What bytes lay on pages and wipe there at most.
-use Rattle.std.proofs.Common.{◌≤◌, ◌+◌, ◌*◌, Bool, if◌then◌else◌, List, [], ◌∷◌, ◌++◌, length, arith, lit≤}
+use Rattle.std.proofs.Common.{◌≤◌, ◌+◌, ◌*◌, if◌then◌else◌, List, [], ◌∷◌, ◌++◌, length, arith, lit≤}
 use Rattle.vp_esc.specs.declared.item.EscItem.{EscItem}
-use Rattle.vp_esc.specs.declared.item.EscItem.TheVariants.{PageMode}
 use Rattle.vp_page.specs.declared.page.TheConstants.{PAGE_ROWS}
 use Rattle.vp_receipt_settings.specs.declared.text.TheConstants.{LINE_ROWS}
 use Rattle.vp_receipt_settings.specs.Setup.{Setup}
-use Rattle.vp_receipt_settings.specs.Line.{begins_page, line, mode}
 use Rattle.vp_receipt.specs.Work.{most_work, most_by, most_in_all, begun_by, counts_anew, ended_counts}
 use Rattle.vp_receipt.proofs.Costs.{costs_at_most}
 
-begun_few : (b : Bool) → (if b then PAGE_ROWS else 0) ≤ PAGE_ROWS
-begun_few b = grind (arith, lit≤)
-
 -- an item takes at most a line and a page
 item_takes : (setup : Setup) (before : List EscItem) (item : EscItem) → most_by setup before item + begun_by setup before item ≤ LINE_ROWS + PAGE_ROWS
-item_takes setup before PageMode = let few = begun_few (begins_page (mode setup before) (line setup before)) in omega arith
-item_takes setup before item = let few = costs_at_most.item setup before item in omega arith
+item_takes setup before item = grind (arith, costs_at_most)
 
 -- more items, the newest first
 pub items_take : (setup : Setup) (more before : List EscItem) → most_in_all setup (more ++ before) ≤ most_in_all setup before + (LINE_ROWS + PAGE_ROWS) * length more

@@ -1,52 +1,34 @@
 -- What an item lays on a page and wipes there at most.
-use Rattle.std.proofs.Common.{◌≤◌, ℕ, ◌+◌, ◌*◌, Bool, ◌&&◌, if◌then◌else◌, List, [], ◌∷◌, Option, Some, None, is_some, arith, lit≤}
-use Rattle.std.proofs.lemmas.Bool.Decides.{nat_tests}
+use Rattle.std.proofs.Common.{◌≤◌, ℕ, ◌+◌, Bool, ◌&&◌, if◌then◌else◌, List, [], ◌∷◌, Option, Some, None, is_some, arith, lit≤}
 use Rattle.std.proofs.lemmas.Nat.{mul-le}
 use Rattle.vp_dots.specs.Images.{Image}
 use Rattle.vp_esc.specs.declared.item.EscItem.{EscItem}
 use Rattle.vp_esc.specs.declared.item.EscItem.TheVariants.{PrintMode, Magnify, Initialize, Character, Column8, Column24, LineFeed, FeedDots, FeedLines, CutLeavingOnePoint, CutLeavingThreePoints, Cut, FeedAndCut, Symbol, QrPrint, Raster, RasterByte, StandardMode, VerticalPosition, MoveVerticalPosition, Area as SetArea, Direction as SetDirection, PrintPage, FormFeed, Cancel}
-use Rattle.vp_esc.specs.declared.item.Magnification.{Magnification}
-use Rattle.vp_glyph.specs.Cells.{font_height}
-use Rattle.vp_glyph.specs.declared.cell.Font.{Font}
 use Rattle.vp_page.specs.declared.area.Area.{Area}
-use Rattle.vp_page.specs.declared.area.Direction.{Direction}
 use Rattle.vp_page.specs.declared.page.TheConstants.{PAGE_ROWS}
-use Rattle.vp_page.specs.Areas.{depth}
 use Rattle.vp_page.specs.Work.{rows_laid, area_rows}
 use Rattle.vp_receipt_settings.specs.declared.text.TheConstants.{LINE_ROWS}
 use Rattle.vp_receipt_settings.specs.declared.width.Width.{Width}
-use Rattle.vp_receipt_settings.specs.Setup.{Setup, across}
-use Rattle.vp_receipt_settings.specs.Pages.{area, is_area, area_cut, is_vertical_move, whole_page}
+use Rattle.vp_receipt_settings.specs.Setup.{Setup}
+use Rattle.vp_receipt_settings.specs.Pages.{area, is_area, area_cut, is_vertical_move}
 use Rattle.vp_receipt_settings.specs.Rasters.{draws}
 use Rattle.vp_receipt_settings.specs.Symbols.{symbol_image}
-use Rattle.vp_receipt_settings.specs.Texts.{high, font, height_or}
+use Rattle.vp_receipt_settings.specs.Texts.{high}
 use Rattle.vp_receipt_settings.specs.Line.{Placed, Layout, breaks, character, height, is_open, layout, layout_by, layout_length, line, on_page}
 use Rattle.vp_receipt_settings.specs.Extent.{ends_line}
 use Rattle.vp_receipt.specs.PageMarks.{line_mark, raster_mark, symbol_mark_of}
 use Rattle.vp_receipt.specs.Work.{CostsAtMost, most_by, mark_rows}
 use Rattle.vp_receipt.proofs.Work.{adds_at_most}
 
-magnified_few : (m : Option Magnification) (old : ℕ) → old ≤ 8 → height_or m old ≤ 8
-magnified_few m old h = grind (arith, nat_tests)
-
-if_few : (b : Bool) → (if b then 2 else 1) ≤ 8
-if_few b = grind (arith, lit≤)
-
 high_few : (before : List EscItem) → high before ≤ 8
 high_few [] = lit≤ tt
-high_few (PrintMode mode ∷ before) = if_few mode.value.double_height
-high_few (Magnify s ∷ before) = magnified_few s.value (high before) (high_few before)
+high_few (PrintMode mode ∷ before) = grind arith
+high_few (Magnify s ∷ before) = grind (arith, high_few before)
 high_few (Initialize ∷ before) = lit≤ tt
 high_few (_ ∷ before) = high_few before
 
-font_low : (f : Font) → font_height f ≤ 24
-font_low f = grind (arith, lit≤)
-
-product_low : (a b : ℕ) → a ≤ 24 → b ≤ 8 → a * b ≤ LINE_ROWS
-product_low a b h k = mul-le a b 24 8 h k
-
 pub character_low : (setup : Setup) (before : List EscItem) (code : ℕ) → (character setup before code).height ≤ LINE_ROWS
-character_low setup before code = product_low (font_height (font before)) (high before) (font_low (font before)) (high_few before)
+character_low setup before code = grind (arith, mul-le, high_few)
 
 none_if : (b : Bool) (l : List Placed) → height l ≤ LINE_ROWS → height (if b then [] else l) ≤ LINE_ROWS
 none_if b l h = grind (arith, lit≤)
@@ -93,42 +75,30 @@ pub record IsOnPaper (a : Area) : Type 0 where
   pub across : a.dx ≤ PAGE_ROWS
   pub down : a.dy ≤ PAGE_ROWS
 
-narrow : (paper : Width) → across paper ≤ PAGE_ROWS
-narrow paper = grind (arith, lit≤)
-
 cut_on_paper : (paper : Width) (x y wide high : ℕ) → IsOnPaper (area_cut paper x y wide high)
-cut_on_paper paper x y wide high = let few = narrow paper in record { across = omega arith; down = omega arith }
-
-whole_on_paper : (paper : Width) → IsOnPaper (whole_page paper)
-whole_on_paper paper = record { across = narrow paper; down = lit≤ tt }
+cut_on_paper paper x y wide high = grind arith
 
 area_if : (b : Bool) (a c : Area) → IsOnPaper a → IsOnPaper c → IsOnPaper (if b then a else c)
 area_if b a c h k = grind arith
 
 on_paper : (setup : Setup) (before : List EscItem) → IsOnPaper (area setup before)
-on_paper setup [] = whole_on_paper setup.width
+on_paper setup [] = grind arith
 on_paper setup (SetArea x y wide high ∷ before) = grind (arith, area_if, cut_on_paper, on_paper setup before)
-on_paper setup (Initialize ∷ before) = whole_on_paper setup.width
+on_paper setup (Initialize ∷ before) = grind arith
 on_paper setup (_ ∷ before) = on_paper setup before
 
-few_deep : (a : Area) (d : Direction) → IsOnPaper a → depth a d ≤ PAGE_ROWS
-few_deep a d h = grind arith
-
 symbol_few : (setup : Setup) (before : List EscItem) (image : Option Image) → mark_rows (symbol_mark_of setup before image) ≤ PAGE_ROWS
-symbol_few setup before image = grind (arith, lit≤, few_deep, on_paper)
+symbol_few setup before image = grind (arith, on_paper)
 
 row_few : (setup : Setup) (before : List EscItem) (row : List ℕ) (ends : Bool) → mark_rows (if ends then Some (raster_mark setup before row) else None) ≤ 2
 row_few setup before row ends = grind (arith, lit≤)
-
-lined : (b : Bool) (n : ℕ) → n ≤ LINE_ROWS → (if b then n else 0) ≤ LINE_ROWS
-lined b n h = grind (arith, lit≤)
 
 wiped_few : (b : Bool) (a : Area) → (if b then area_rows a else 0) ≤ PAGE_ROWS
 wiped_few b a = grind (arith, lit≤)
 
 -- the line that an item ends
 line_few : (setup : Setup) (before : List EscItem) (b : Bool) → (if b then rows_laid (line_mark setup before) else 0) ≤ LINE_ROWS
-line_few setup before b = lined b (rows_laid (line_mark setup before)) (let low = line_low setup before in omega arith)
+line_few setup before b = grind (arith, line_low)
 
 item_few : (setup : Setup) (before : List EscItem) (item : EscItem) → most_by setup before item ≤ LINE_ROWS + PAGE_ROWS
 item_few setup before (Symbol kind bytes more) = grind (arith, symbol_few, line_few)

@@ -6,8 +6,6 @@ use Rattle.vp_esc.specs.declared.item.EscItem.TheVariants.{CarriageReturn, Contr
 use Rattle.arrayvec.specs.ArrayVec.{ArrayVec}
 use Rattle.vp_esc.specs.declared.item.Spelled.{Spelled}
 use Rattle.vp_bar_code.specs.declared.BarCode.{BarCode}
-use Rattle.vp_dots.specs.Images.{Image}
-use Rattle.vp_glyph.specs.Sheets.{Sheets}
 use Rattle.vp_receipt_settings.specs.Setup.{Setup}
 use Rattle.vp_receipt_settings.specs.Tabs.{tab_stops}
 use Rattle.vp_receipt_settings.specs.Symbols.{qr_data, symbol_image, image_rows}
@@ -91,13 +89,9 @@ no_refusal setup before item h = grind arith
 pub no_page : (setup : Setup) (before : List EscItem) (item : EscItem) → is_symbol item ≡ true → false ≡ printed_page setup (item ∷ before)
 no_page setup before item h = grind arith
 
--- how many rows it has
-rows_of : (sheets : Sheets) (symbol : Symbol) (image : Option Image) → IsSymbolOf sheets (Some symbol) image → symbol_height sheets symbol ≡ image_rows image
-rows_of sheets symbol image h = grind arith
-
 pub rows_drawn : (setup : Setup) (before : List EscItem) (item : EscItem) (symbol : Symbol) → IsSymbolOf setup.sheets (Some symbol) (symbol_image setup before item)
     → symbol_height setup.sheets symbol ≡ image_rows (symbol_image setup before item)
-rows_drawn setup before item symbol h = rows_of setup.sheets symbol (symbol_image setup before item) h
+rows_drawn setup before item symbol h = grind arith
 
 -- the symbols are bars and QR
 pub is_qr : (item : EscItem) → ((kind : Spelled (Option BarCode)) (bytes : ArrayVec ℕ) (more : Bool) → item ≡ SetSymbol kind bytes more → ⊥) → is_symbol item ≡ true → item ≡ QrPrint

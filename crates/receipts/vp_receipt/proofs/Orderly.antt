@@ -1,17 +1,18 @@
 -- The items of bytes: those of a raster's bytes come before any other item does.
-use Rattle.std.proofs.Common.{◌≡◌, ℕ, zero, suc, ◌+◌, ◌-◌, ◌*◌, ◌≤◌, ◌<◌, ◌==◌, Bool, true, false, List, [], ◌∷◌, ◌++◌, length, map, reverse, append_assoc, Option, Some, None, inl, inr, refl, sym, ap, subst, ◌∙◌, arith, length-append}
+use Rattle.std.proofs.lemmas.Grind.{common_steps}
+use Rattle.std.proofs.Common.{◌≡◌, ℕ, zero, suc, ◌+◌, ◌-◌, ◌*◌, ◌≤◌, ◌<◌, ◌==◌, Bool, true, false, List, [], ◌∷◌, ◌++◌, length, map, reverse, Option, None, inl, inr, refl, sym, subst, arith, length-append}
 use Rattle.std.specs.List.{flat_map, AllByRecursion}
-use Rattle.std.proofs.Math.Nat.{mul_comm, suc-mul}
-use Rattle.std.proofs.lemmas.Bool.{eqb-true, eqb-false, ltb-true, and_parts}
-use Rattle.std.proofs.lemmas.List.{append-nil, reverse-append}
+use Rattle.std.proofs.Math.Nat.{suc-mul}
+use Rattle.std.proofs.lemmas.Bool.{eqb-true, eqb-false}
+use Rattle.std.proofs.lemmas.List.{append-nil}
 use Rattle.vp_esc.specs.declared.item.EscItem.{EscItem}
 use Rattle.vp_esc.specs.declared.item.EscItem.TheVariants.{Raster, RasterByte}
 use Rattle.vp_esc.specs.declared.item.RasterScale.{RasterScale}
 use Rattle.vp_esc.specs.Laws.{IsUnit, Splits}
 use Rattle.vp_esc.specs.Split.{split, items}
 use Rattle.vp_esc.specs.Units.{is_unfinished, given, raster_bytes as given_bytes}
-use Rattle.vp_receipt_settings.specs.Rasters.{draws, raster_bytes, rows_to_come, row_so_far}
-use Rattle.vp_receipt.proofs.Begun.{IsOrderly, by_bool}
+use Rattle.vp_receipt_settings.specs.Rasters.{raster_bytes, rows_to_come, row_so_far}
+use Rattle.vp_receipt.proofs.Begun.{IsOrderly}
 use Rattle.vp_receipt.proofs.Images.{is_raster}
 use Rattle.vp_receipt.proofs.UnitKinds.{IsOther, IsRasterGiven, Kind, kinds}
 
@@ -22,8 +23,7 @@ onto (item ∷ items) before = onto items (item ∷ before)
 
 onto_is : (items before : List EscItem) → onto items before ≡ reverse items ++ before
 onto_is [] before = refl
-onto_is (item ∷ items) before =
-    onto_is items (item ∷ before) ∙ sym (ap (λ x. x ++ before) (reverse-append (item ∷ []) items) ∙ append_assoc (reverse items) (item ∷ []) before)
+onto_is (item ∷ items) before = grind (arith, common_steps, onto_is items (item ∷ before))
 
 onto_more : (xs ys before : List EscItem) → onto (xs ++ ys) before ≡ onto ys (onto xs before)
 onto_more [] ys before = refl
@@ -34,9 +34,7 @@ abbrev IsBetween : List EscItem → Type 0
 IsBetween before = IsOrderly before × (rows_to_come before ≡ 0)
 
 other_next : (item : EscItem) (before : List EscItem) → is_raster item ≡ false → IsBetween before → IsBetween (item ∷ before)
-other_next (Raster scale bytes rows) before h b = cc
-other_next (RasterByte byte) before h b = cc
-other_next _ before h b = ((b.1, b.0), refl)
+other_next item before h1 h2 = grind arith
 
 others_next : (items before : List EscItem) → AllByRecursion IsOther items → IsBetween before → IsBetween (onto items before)
 others_next [] before h b = b
@@ -55,8 +53,7 @@ row_less (suc rows) bytes got n h e =
     subst (λ r. r * bytes ≤ n) (sym less) (omega (arith, h, e, s))
 
 none_left : (rows bytes got : ℕ) → rows * bytes ≤ got + 0 → (0 < rows → got < bytes) → rows ≡ 0
-none_left zero bytes got h w = refl
-none_left (suc rows) bytes got h w = let s = suc-mul rows bytes in let l = w (omega arith) in absurd (omega (arith, h, s, l))
+none_left rows bytes got h1 h2 = grind arith
 
 module _ (before : List EscItem) (byte n : ℕ) (enough : IsEnough before (suc n)) where
   abbrev after : List EscItem
@@ -96,37 +93,24 @@ bytes_orderly [] before o = o
 bytes_orderly (b ∷ dots) before o = bytes_orderly dots (RasterByte b ∷ before) o
 
 given_orderly : (value : Option RasterScale) (dots : List ℕ) (before : List EscItem) → IsOrderly before → IsOrderly (onto (given_bytes value dots) before)
-given_orderly None dots before o = o
-given_orderly (Some scale) dots before o = bytes_orderly dots before o
+given_orderly value dots before h1 = grind (arith, bytes_orderly)
 
 given_whole : (value : Option RasterScale) (dots : List ℕ) (before : List EscItem) → (value ≡ None → rows_to_come before ≡ 0) → IsEnough before (length dots) →
     rows_to_come (onto (given_bytes value dots) before) ≡ 0
-given_whole None dots before none enough = none refl
-given_whole (Some scale) dots before none enough = all_come dots before enough
-
-some_bytes : (value : Option RasterScale) (bytes rows : ℕ) → draws value bytes rows ≡ true → 0 < bytes
-some_bytes None bytes rows e = cc
-some_bytes (Some scale) bytes rows e = ltb-true 0 bytes (and_parts _ _ e).0
+given_whole value dots before h1 h2 = grind (arith, all_come)
 
 module _ (given : List EscItem) (part : Bool) (r : IsRasterGiven given part) (before : List EscItem) (b : IsBetween before) where
   abbrev head : EscItem
   head = Raster r.scale r.bytes r.rows
 
   raster_orderly : IsOrderly (onto given before)
-  raster_orderly =
-      subst (λ xs. IsOrderly (onto xs before)) (sym r.given_is) (given_orderly r.scale.value r.dots (head ∷ before) (b.1, b.0))
+  raster_orderly = grind (arith, IsOrderly, given_orderly)
 
   enough_given : part ≡ false → IsEnough (head ∷ before) (length r.dots)
-  enough_given whole =
-      let all = r.all whole in
-      let turned = mul_comm r.rows r.bytes in
-      by_bool (draws r.scale.value r.bytes r.rows)
-      (λ e. record { count = rw e (omega (arith, all, turned)); within = λ some. some_bytes r.scale.value r.bytes r.rows e })
-      (λ e. record { count = rw e (omega arith); within = λ some. absurd (let none : rows_to_come (head ∷ before) ≡ 0 = rw e refl in omega (arith, some, none)) })
+  enough_given whole = grind arith
 
   raster_whole : part ≡ false → rows_to_come (onto given before) ≡ 0
-  raster_whole whole =
-      ap (λ xs. rows_to_come (onto xs before)) r.given_is ∙ given_whole r.scale.value r.dots (head ∷ before) (λ e. rw e refl) (enough_given whole)
+  raster_whole whole = grind (arith, given_whole, enough_given)
 
 unit_next : (given before : List EscItem) (part : Bool) → Kind given part → part ≡ false → IsBetween before → IsBetween (onto given before)
 unit_next given before part (inl o) whole b = others_next given before o.each b
@@ -138,26 +122,18 @@ rest_next given before part (inr r) b = raster_orderly given part r before b
 
 units_next : (units : List (List ℕ)) (before : List EscItem) → AllByRecursion IsUnit units → IsBetween before → IsBetween (onto (flat_map given units) before)
 units_next [] before each b = b
-units_next (unit ∷ units) before each b =
-    subst IsBetween (sym (onto_more (given unit) (flat_map given units) before))
-    (units_next units (onto (given unit) before) each.1 (unit_next (given unit) before (is_unfinished unit) (kinds unit) each.0.whole b))
+units_next (unit ∷ units) before each b = grind (arith, units_next units (onto (given unit) before) each.1 (unit_next (given unit) before (is_unfinished unit) (kinds unit) each.0.whole b), onto_more, unit_next, kinds)
 
 module _ (bytes : List ℕ) (s : Splits bytes (split bytes).units (split bytes).rest) where
-  units_between : IsBetween (onto (flat_map given (split bytes).units) [])
-  units_between = units_next (split bytes).units [] s.each (tt, refl)
-
   history_is : reverse (items bytes) ≡ onto (given (split bytes).rest) (onto (flat_map given (split bytes).units) [])
   unfolding items
-  history_is =
-      sym (append-nil (reverse (items bytes))) ∙ sym (onto_is (items bytes) []) ∙ onto_more (flat_map given (split bytes).units) (given (split bytes).rest) []
+  history_is = grind (arith, append-nil, onto_is, onto_more)
 
   -- in the items of bytes
   pub items_orderly : IsOrderly (reverse (items bytes))
-  items_orderly =
-      subst IsOrderly (sym history_is)
-      (rest_next (given (split bytes).rest) (onto (flat_map given (split bytes).units) []) (is_unfinished (split bytes).rest) (kinds (split bytes).rest) units_between)
+  items_orderly = grind (arith, IsOrderly, history_is, rest_next, kinds, units_next)
 
   -- and where they end with a whole command, all rows have come
   pub items_whole : (split bytes).rest ≡ [] → rows_to_come (reverse (items bytes)) ≡ 0
   unfolding given
-  items_whole e = ap rows_to_come history_is ∙ ap (λ rest. rows_to_come (onto (given rest) (onto (flat_map given (split bytes).units) []))) e ∙ units_between.1
+  items_whole e = grind (arith, history_is, units_next)

@@ -20,7 +20,7 @@ use Rattle.vp_receipt.specs.Standing.{HasPageIf, IsSettled}
 use Rattle.vp_receipt_settings.specs.Line.{line, is_open, mode}
 use Rattle.vp_receipt_settings.specs.Settings.{settings_of}
 use Rattle.vp_strips.specs.LineDots.{HasDots}
-use Rattle.vp_receipt.specs.PageMarks.{HasRows, mark_of, line_dot, line_mark, laid_if, layers, layers_with}
+use Rattle.vp_receipt.specs.PageMarks.{HasRows, mark_of, line_dot, line_mark, laid_if, layers}
 use Rattle.vp_strips.specs.Rows.{paper_row, rows_text, strip_text}
 use Rattle.vp_strips.specs.Jobs.{page_dot_of}
 use Rattle.vp_strips.proofs.Rows.{paper_row_same}
@@ -56,10 +56,6 @@ page_strip paper layers' canvas rows h has = grind (arith, eq-eqb, ne_eqb, strip
 
 pub has_page : (m : PrinterMode) (layers : List Layer) (page : Paged) → HasPage layers page → HasPageIf m layers page
 has_page m layers' page h = grind arith
-
--- the page after an item in page mode
-pub page_kept : (setup : Setup) (before : List EscItem) (item : EscItem) (page : Paged) → mode setup before ≡ Page → HasPage (layers_with setup before item (layers setup before)) page → HasPageIf (mode setup (item ∷ before)) (layers setup (item ∷ before)) page
-page_kept setup before item page e h = grind (arith, has_page)
 
 -- the line that is laid
 pub line_laid : (setup : Setup) (before : List EscItem) (s : Settings) (bitmap : List (List ℕ)) (page : Paged) (layers : List Layer) → s ≡ settings_of setup before → s.height ≤ LINE_ROWS → s.is_open ≡ true

@@ -1,5 +1,5 @@
 -- Whole rows of a raster, laid on the page one below the other.
-use Rattle.std.proofs.Common.{◌≡◌, ℕ, zero, suc, ◌+◌, ◌-◌, ◌*◌, ◌/◌, ◌%◌, ◌<◌, ◌≤◌, Bool, true, false, ltb, leb, eqb, cond, nat_lt, ◌&&◌, ◌||◌, List, [], ◌∷◌, ◌++◌, length, take, drop, min, refl, sym, ap, subst, ◌∙◌, append_assoc, arith, Option}
+use Rattle.std.proofs.Common.{◌≡◌, ℕ, zero, suc, ◌+◌, ◌-◌, ◌*◌, ◌/◌, ◌%◌, ◌<◌, ◌≤◌, Bool, true, false, ltb, leb, nat_lt, ◌&&◌, ◌||◌, List, [], ◌∷◌, ◌++◌, length, take, drop, min, refl, sym, ap, subst, ◌∙◌, append_assoc, arith, Option}
 use Rattle.std.proofs.Math.Nat.{suc-mul, mul_comm, mul-le-mul_right, div-le_of_le-mul, div-mul-le_self, lt-div-mul-add, le_trans}
 use Rattle.std.proofs.lemmas.Bool.{lt-ltb}
 use Rattle.std.proofs.lemmas.Bool.Decides.{nat_tests}
@@ -14,7 +14,6 @@ use Rattle.vp_page.specs.Layers.{Layer, Laid, Mark, mark_dot, page_dot, first_ro
 use Rattle.vp_page.specs.Pages.{HasPage, Paged}
 use Rattle.vp_page.specs.declared.area.Area.{Area}
 use Rattle.vp_page.specs.declared.area.Direction.{Direction}
-use Rattle.vp_page.proofs.Falling.{lies, within}
 use Rattle.vp_page.proofs.Pages.{same_page, TakeAsMuch}
 use Rattle.vp_glyph.specs.Sheets.{Sheets}
 use Rattle.vp_receipt_settings.specs.Setup.{Setup}
@@ -112,18 +111,12 @@ module _ (setup : Setup) (bytes : List ℕ) (n : ℕ) (before : List EscItem) (s
   d = times_down (raster_scale before)
 
   on_page : (x y : ℕ) → holds m.area x y ≡ true → down m.area m.direction x y < PAGE_ROWS
-  on_page x y t =
-      let deep = depth_small m.area m.direction fit.across fit.down in
-      let in_depth = (lies m.area m.direction x y (within m.area x y t)).in_depth in
-      omega (arith, deep, in_depth)
+  on_page x y t = grind arith
 
   -- so many rows one by one are the first rows of the mark
   first_laid : (k : ℕ) → k ≤ n → HaveRows bytes k before → (x y : ℕ)
       → page_dot (layers setup (bytes_after (take (k * raster_bytes before) bytes) before)) x y ≡ page_dot (Laid (first_rows (k * d) m) ∷ layers setup before) x y
-  first_laid zero few h x y =
-      ap (λ (items : List EscItem). page_dot (layers setup items) x y) (no_row bytes (raster_bytes before) before)
-      ∙ sym (ap (λ b. b || page_dot (layers setup before) x y)
-      (no_rows (holds m.area x y) (leb m.top (down m.area m.direction x y)) (down m.area m.direction x y - m.top) (0 * d) _ (let none : 0 * d ≡ 0 = omega arith in none)))
+  first_laid zero few h x y = grind (arith, no_row, no_rows)
   first_laid (suc k) few h x y =
       let here = bytes_after (take (k * raster_bytes before) bytes) before in
       let row = row_at bytes (raster_bytes before) k in
@@ -142,9 +135,7 @@ module _ (setup : Setup) (bytes : List ℕ) (n : ℕ) (before : List EscItem) (s
 
   -- and take as much
   much : (k : ℕ) → k ≤ n → HaveRows bytes k before → TakeAsMuch (layers setup (bytes_after (take (k * raster_bytes before) bytes) before)) (Laid (first_rows (k * d) m) ∷ layers setup before)
-  much zero few h =
-      subst (λ (items : List EscItem). TakeAsMuch (layers setup items) (Laid (first_rows (0 * d) m) ∷ layers setup before)) (sym (no_row bytes (raster_bytes before) before))
-      (record { laid = (let none : 0 * d ≡ 0 = omega arith in omega (arith, none)); most = refl; least = refl })
+  much zero few h = grind arith
   much (suc k) few h =
       let here = bytes_after (take (k * raster_bytes before) bytes) before in
       let row = row_at bytes (raster_bytes before) k in
@@ -158,12 +149,7 @@ module _ (setup : Setup) (bytes : List ℕ) (n : ℕ) (before : List EscItem) (s
       (record { laid = omega (arith, above.laid, suc-mul k d, deep); most = above.most; least = above.least })
 
   all_shown : (x y : ℕ) → page_dot (Laid m ∷ layers setup before) x y ≡ page_dot (Laid (first_rows (n * d) m) ∷ layers setup before) x y
-  all_shown x y = ap (λ b. b || page_dot (layers setup before) x y)
-      (twice (holds m.area x y) (leb m.top (down m.area m.direction x y)) (nat_lt (down m.area m.direction x y - m.top) (n * d)) _)
-    where
-      twice : (h t c b : Bool) → (h && (t && (c && b))) ≡ (h && (t && (c && (c && b))))
-      twice h t true b = refl
-      twice h t false b = refl
+  all_shown x y = grind arith
 
   -- rows that are laid as one mark are laid one by one
   pub rows_laid : (page : Paged) → HaveRows bytes n before → HasPage (Laid m ∷ layers setup before) page
@@ -229,11 +215,8 @@ pub rest_fits : (r now : Raster) (bytes : List ℕ) (n wide : ℕ) → Taken r (
 rest_fits r now bytes n wide t is e = grind (arith, length-take, le_trans)
 
 -- a row that has begun lacks one byte more than come before its last
-whole_by : (r : Raster) (none : Bool) → eqb r.rows 0 ≡ none → IsPartRow r → (r.got ≡ 0 → ⊥) → r.got + (cond none 0 (r.bytes - r.got - 1) + 1) ≡ r.bytes
-whole_by r none e part begun = grind (arith, nat_tests)
-
 pub row_whole : (r : Raster) → IsPartRow r → (r.got ≡ 0 → ⊥) → r.got + (room_of r + 1) ≡ r.bytes
-row_whole r part begun = whole_by r (eqb r.rows 0) refl part begun
+row_whole r part begun = grind arith
 
 -- the line stays where it is gathered
 text_stays : (bytes : List ℕ) (before : List EscItem) → text_in_force (bytes_after bytes before) ≡ text_in_force before

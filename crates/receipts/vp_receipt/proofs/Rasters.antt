@@ -11,10 +11,7 @@ use Rattle.vp_strips.proofs.Rows.{paper_row_same}
 module _ (paper : Width) where
   -- rows, and those below them
   rows_split : (f : ℕ → ℕ → Bool) (y a n : ℕ) → rows_text paper f y (a + n) ≡ rows_text paper f y a ++ rows_text paper f (y + a) n
-  rows_split f y zero n =
-      let top : y ≡ y + zero = omega arith in
-      let count : zero + n ≡ n = omega arith in
-      ap (rows_text paper f y) count ∙ ap (λ z. rows_text paper f z n) top
+  rows_split f y zero n = grind arith
   rows_split f y (suc a) n =
       let count : suc a + n ≡ suc (a + n) = omega arith in
       let top : y + 1 + a ≡ y + suc a = omega arith in

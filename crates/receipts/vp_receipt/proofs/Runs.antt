@@ -1,4 +1,5 @@
 -- What bytes of a raster that don't end its row leave alone: the page, and what is printed.
+use Rattle.std.proofs.lemmas.Grind.{common_steps}
 use Rattle.std.proofs.Common.{◌≡◌, ℕ, ◌+◌, ◌<◌, ◌≤◌, eqb, false, List, [], ◌∷◌, ◌++◌, length, refl, sym, ap, ◌∙◌, arith, length-append, subst, if◌then◌else◌}
 use Rattle.vp_page.specs.Pages.{Paged}
 use Rattle.std.proofs.lemmas.List.{append-nil}
@@ -44,7 +45,4 @@ prints_nothing setup (b ∷ bytes) before some room =
 
 -- bytes that there is room for print nothing
 pub paper_stays : (setup : Setup) (r : Raster) (bytes : List ℕ) (before : List EscItem) → length bytes ≤ room_of r → IsGathering r before → printed setup (bytes_after bytes before) ≡ printed setup before
-paper_stays setup r [] before h g = refl
-paper_stays setup r (b ∷ bytes) before h g =
-    let room = has_room r b bytes h in
-    prints_nothing setup (b ∷ bytes) before (omega (arith, room.some, g.rows)) (omega (arith, room.less, g.got, g.bytes))
+paper_stays setup r bytes before h1 h2 = grind (arith, common_steps, has_room, prints_nothing)

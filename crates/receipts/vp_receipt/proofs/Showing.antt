@@ -8,14 +8,11 @@ use Rattle.vp_receipt_settings.specs.Line.{height, line}
 use Rattle.vp_receipt.specs.Strips.{line_rows_after}
 use Rattle.vp_strips.specs.Canvases.{Canvas}
 use Rattle.vp_strips.specs.declared.job.Job.{Job}
-use Rattle.vp_strips.specs.declared.job.After.{After}
-use Rattle.vp_strips.specs.declared.job.After.TheVariants.{End}
 use Rattle.vp_strips.specs.declared.lines.Lines.{Lines}
 use Rattle.vp_output.specs.declared.place.Place.{Place}
-use Rattle.vp_strips.specs.declared.strip.Dots.{Dots}
 use Rattle.vp_strips.specs.Jobs.{text}
 use Rattle.vp_strips.proofs.Jobs.{some_left}
-use Rattle.vp_strips.specs.Held.{Showing, Shows, IsShowing, showing_of, shown_in, job_text, SomeLeft, IsJob, IsTurned}
+use Rattle.vp_strips.specs.Held.{Showing, Shows, IsShowing, showing_of, job_text, SomeLeft, IsJob, IsTurned}
 use Rattle.vp_receipt.specs.Effects.{text_if}
 use Rattle.vp_receipt.specs.Standing.{ShowsLine}
 
@@ -47,14 +44,8 @@ front_none (x ∷ a) b e = cc
 pub is_done : (j : Job) (canvas : Canvas) (lines : Lines) → IsJob j canvas lines → job_text j canvas ≡ [] → j.place ≡ None
 is_done j canvas lines job e = done j canvas j.place job.left (front_none _ _ e)
 
-no_line : (d : Dots) (others : ℕ) → shown_in d None others ≡ None
-no_line d others = grind arith
-
-no_after : (p : Option Place) (after : After) → p ≡ None → IsTurned p after → after ≡ End
-no_after p after e h = grind arith
-
 pub text_done : (j : Job) (canvas : Canvas) → j.place ≡ None → IsTurned j.place j.after → job_text j canvas ≡ []
-text_done j canvas e t = rw (e, no_after j.place j.after e t) refl
+text_done j canvas e t = grind arith
 
 pub job_done : (j : Job) (old canvas : Canvas) (lines : Lines) → IsJob j old lines → job_text j old ≡ [] → IsJob j canvas lines
 job_done j old canvas lines was none =
@@ -75,7 +66,7 @@ text_replaced (Some job) j old canvas lines was turned none = refl
 text_replaced None j old canvas lines was turned none = text_done j canvas (is_done j old lines was none) turned
 
 pub shows_done : (j : Job) (canvas : Canvas) (high others : ℕ) → j.place ≡ None → IsTurned j.place j.after → IsShowing j canvas high others
-shows_done j canvas high others e t = rw (e, no_line, no_after j.place j.after e t) (omega arith)
+shows_done j canvas high others e t = grind arith
 
 pub shows_replaced : (printed : Option Job) (j : Job) (old canvas : Canvas) (lines : Lines) (high others : ℕ) → IfSome printed (λ job. IsShowing job canvas high others)
     → IsJob j old lines → IsTurned j.place j.after → job_text j old ≡ [] → IsShowing (unwrap_or printed j) canvas high others

@@ -1,5 +1,6 @@
 -- Text that doesn't break the line: what it puts into it, and leaves alone, item by item.
-use Rattle.std.proofs.Common.{◌≡◌, ℕ, ◌+◌, ◌-◌, ◌*◌, ◌/◌, ◌<◌, ◌≤◌, suc, true, false, List, [], ◌∷◌, ◌++◌, length, reverse, sym, ap, subst, ◌∙◌, append_assoc, arith}
+use Rattle.std.proofs.lemmas.Grind.{common_steps}
+use Rattle.std.proofs.Common.{◌≡◌, ℕ, ◌+◌, ◌-◌, ◌*◌, ◌/◌, ◌<◌, ◌≤◌, suc, true, false, List, [], ◌∷◌, ◌++◌, length, sym, ap, subst, ◌∙◌, arith}
 use Rattle.std.proofs.lemmas.Bool.Decides.{nat_tests}
 use Rattle.std.specs.List.{AllByRecursion}
 use Rattle.std.proofs.lemmas.Bool.{and_parts, lt-ltb, le-ltb}
@@ -8,7 +9,7 @@ use Rattle.std.proofs.lemmas.List.{append-nil, map-append, reverse-append}
 use Rattle.vp_esc.specs.declared.item.EscItem.{EscItem}
 use Rattle.vp_esc.specs.declared.item.EscItem.TheVariants.{Character}
 use Rattle.vp_esc.specs.Units.{single_item}
-use Rattle.vp_esc.specs.Reader.{is_text, text_items}
+use Rattle.vp_esc.specs.Reader.{is_text}
 use Rattle.vp_glyph.specs.Sheets.{Sheets}
 use Rattle.vp_glyph.specs.Cells.{cell_width}
 use Rattle.vp_receipt_settings.specs.Setup.{Setup}
@@ -27,9 +28,6 @@ use Rattle.vp_receipt.proofs.ItemKinds.{is_ignored, does_nothing}
 -- the newest item comes first
 pub text_more : (text : List ℕ) (b : ℕ) (before : List EscItem) → text_after (text ++ b ∷ []) before ≡ single_item b ∷ text_after text before
 text_more text b before = grind (arith, map-append, reverse-append)
-
-ignored_leaves : (setup : Setup) (item : EscItem) (after before : List EscItem) → is_ignored item ≡ true → LeavesAlone setup after before → LeavesAlone setup (item ∷ after) before
-ignored_leaves setup item after before h l = grind (arith, does_nothing, append-nil)
 
 character_leaves : (setup : Setup) (c : ℕ) (after before : List EscItem) → is_full setup after ≡ false → LeavesAlone setup after before → LeavesAlone setup (Character c ∷ after) before
 character_leaves setup c after before e l = grind (arith, nothing_by, append-nil)
@@ -61,19 +59,7 @@ none_put old sheets bitmap left fit room = grind (arith, mul-le-mul_right, div-m
 -- a control more
 pub control_put : (old : Settings) (sheets : Sheets) (empty : List (List ℕ)) (text : List ℕ) (left : ℕ) (s : Settings) (bitmap : List (List ℕ)) (b : ℕ) → b < 0x20 → is_text b ≡ true
     → Put old sheets empty text (suc left) s bitmap → Put old sheets empty (text ++ b ∷ []) left s bitmap
-control_put old sheets empty text left s bitmap b small text_is p =
-    let none = control_is b small text_is in
-    record {
-      fit = p.fit;
-      same = p.same;
-      room = omega (arith, p.room);
-      settings = λ setup before e. p.settings setup before e ∙ sym ((does_nothing setup (text_after text before) (single_item b) none).settings) ∙ sym (ap (settings_of setup) (text_more text b before));
-      line = λ setup before e k h.
-          subst (λ (placed : List Placed). HasOpen placed bitmap) (sym (does_nothing setup (text_after text before) (single_item b) none).line ∙ sym (ap (line setup) (text_more text b before)))
-          (p.line setup before e k h);
-      others = λ setup before e. subst (λ (after : List EscItem). LeavesAlone setup after before) (sym (text_more text b before))
-          (ignored_leaves setup (single_item b) (text_after text before) before none (p.others setup before e));
-    }
+control_put old sheets empty text left s bitmap b small text_is p = grind (arith, control_is, does_nothing, text_more, append-nil)
 
 -- it doesn't break the line where there is room
 no_break : (s : Settings) (setup : Setup) (before : List EscItem) → s ≡ settings_of setup before → s.position + cell_width s.text.font (style_of s.text) ≤ settings_length s → is_full setup before ≡ false
@@ -121,19 +107,8 @@ character_put old sheets empty text left s t bitmap new b large p after moved fi
           (character_leaves setup b (text_after text before) before (no_break s setup (text_after text before) (p.settings setup before e) one) (p.others setup before e));
     }
 
--- the oldest item first
-text_first : (b : ℕ) (text : List ℕ) (before : List EscItem) → text_after (b ∷ text) before ≡ text_after text (single_item b ∷ before)
-text_first b text before =
-    ap (λ (items : List EscItem). items ++ before) (reverse-append (single_item b ∷ []) (text_items text))
-    ∙ append_assoc (reverse (text_items text)) (single_item b ∷ []) before
-
-one_ends : (r : Raster) (b : ℕ) (before : List EscItem) → is_text b ≡ true → IsGathering r [] → IsGathering r (single_item b ∷ before)
-one_ends r b before t g = grind (arith, control_is, character_is)
-
 -- it ends the raster that came
 pub text_ends : (r : Raster) (text : List ℕ) (before : List EscItem) → AllByRecursion (λ b. is_text b ≡ true) text → 0 < length text → IsGathering r [] → IsGathering r (text_after text before)
 text_ends r [] before t some g = absurd (omega arith)
-text_ends r (b ∷ []) before t some g = one_ends r b before t.0 g
-text_ends r (b ∷ d ∷ text) before t some g =
-    subst (λ (items : List EscItem). IsGathering r items) (sym (text_first b (d ∷ text) before))
-    (text_ends r (d ∷ text) (single_item b ∷ before) t.1 (omega arith) g)
+text_ends r (b ∷ []) before t some g = grind arith
+text_ends r (b ∷ d ∷ text) before t some g = grind (arith, common_steps, text_ends r (d ∷ text) (single_item b ∷ before) t.1 (omega arith) g)

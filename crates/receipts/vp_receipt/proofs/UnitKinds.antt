@@ -42,9 +42,6 @@ none = record { each = tt }
 more : {item : EscItem} {given : List EscItem} → IsOther item → AreOthers given → AreOthers (item ∷ given)
 more first rest = record { each = (first, rest.each) }
 
-one : {item : EscItem} → IsOther item → AreOthers (item ∷ [])
-one first = more first none
-
 columns8 : (bytes : List ℕ) → AreOthers (columns Single8 bytes)
 columns8 [] = none
 columns8 (b ∷ bytes) = more (other refl) (columns8 bytes)
