@@ -76,7 +76,8 @@ pub record AreRuns (begins : List ℕ) (n end : ℕ) : Type 0 where
 
 -- lines are as the one before along 128 dots, from one on, but where one of n different ones begins; the dots
 -- of these stand in the rows of two squares
-pub record AreDifferent (lines : List (List ℕ)) (from v : ℕ) (left right begins : List ℕ) (n : ℕ) : Type 0 where
+pub record AreDifferent (lines : List (List ℕ)) (from v : ℕ) (left right begins : List ℕ) (n : ℕ)
+    : Type 0 where
   pub runs : AreRuns begins n (v + length lines)
   pub first : slice_index begins 0 ≡ v
   pub last : slice_index begins n ≡ v + length lines

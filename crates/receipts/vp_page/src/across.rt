@@ -299,7 +299,8 @@ fn lay_groups<A: Small>(
     }
 }
 
-/// Lays a stretch of lines: along two squares few of them at once, and of many that are alike each different one.
+/// Lays a stretch of lines: along two squares few of them at once, and of many that are alike each different
+/// one.
 #[inline(always)]
 fn lay_squares<A: Small>(
     lines: &[[u8; LINE_BYTES]],

@@ -74,8 +74,8 @@ pub(crate) fn different(
     Some(n)
 }
 
-/// Lays different lines along two squares' dots, each from the depth on at which it begins to that at which the
-/// next one does.
+/// Lays different lines along two squares' dots, each from the depth on at which it begins to that at which
+/// the next one does.
 pub(crate) fn lay_different<A: Small>(
     left: &[u64; SIDE],
     right: &[u64; SIDE],

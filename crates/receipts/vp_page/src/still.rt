@@ -133,8 +133,8 @@ pub(crate) fn still_from(
     Some((shade, APART + more))
 }
 
-/// How many dots from `at` on are turned at once: whole squares, up to the last one of a stretch in which lines
-/// may change.
+/// How many dots from `at` on are turned at once: whole squares, up to the last one of a stretch in which
+/// lines may change.
 pub(crate) fn turned_from(changes: &[u8; LINE_BYTES], at: usize, end: usize) -> usize
     requires some { at < end }
     requires inside { end ≤ LINE_DOTS }
