@@ -92,3 +92,7 @@ along_dots lines at dots n all alike i u g l = elim (cases_lt i n) [
   | inl h ↦ (let place : at + (u - at) ≡ u = omega (arith, g) in rw place at (alike i (u - at) h (omega (arith, g, l))))
   | inr h ↦ no_line lines i u (omega (arith, h, all)) ∙ sym (no_line lines i at (omega (arith, h, all)))
 ]
+
+-- the first of eight dots
+pub first_dot : (lines : List (List ℕ)) (i at : ℕ) (colour : Bool) → ((k : ℕ) → k < 8 → line_dot lines i (at + k) ≡ colour) → line_dot lines i at ≡ colour
+first_dot lines i at colour all = let place : at + 0 ≡ at = omega arith in rw place at (all 0 (omega arith))

@@ -74,9 +74,9 @@ pub record AreRuns (begins : List ℕ) (n end : ℕ) : Type 0 where
   pub deep : (i : ℕ) → i ≤ n → slice_index begins i ≤ end
   pub from_first : (i : ℕ) → i ≤ n → slice_index begins 0 ≤ slice_index begins i
 
--- lines are as the one before along 128 dots, from one on, but where one of n different ones begins; the dots
--- of these stand in the rows of two squares
-pub record AreDifferent (lines : List (List ℕ)) (from v : ℕ) (left right begins : List ℕ) (n : ℕ)
+-- lines are as the one before along two times 64 dots, which begin at two places, but where one of n
+-- different ones begins; the dots of these stand in the rows of two squares
+pub record AreDifferent (lines : List (List ℕ)) (from second v : ℕ) (left right begins : List ℕ) (n : ℕ)
     : Type 0 where
   pub runs : AreRuns begins n (v + length lines)
   pub first : slice_index begins 0 ≡ v
@@ -84,7 +84,7 @@ pub record AreDifferent (lines : List (List ℕ)) (from v : ℕ) (left right beg
   pub near : (i u w : ℕ) → i < n → u < 64 → slice_index begins i ≤ w → w < slice_index begins (i + 1) →
       word_dot (slice_index left i) u ≡ line_dot lines (w - v) (from + u)
   pub far : (i u w : ℕ) → i < n → u < 64 → slice_index begins i ≤ w → w < slice_index begins (i + 1) →
-      word_dot (slice_index right i) u ≡ line_dot lines (w - v) (from + 64 + u)
+      word_dot (slice_index right i) u ≡ line_dot lines (w - v) (second + u)
 
 -- where lines run up, or down
 abbrev pub across : Way → Direction

@@ -265,7 +265,8 @@ fn lay_alike<A: Small>(
 {
     let (mut left, mut right) = ([0; SIDE], [0; SIDE]);
     let mut begins = [0; SIDE + 1];
-    match different(lines, from, v, &mut left, &mut right, &mut begins) {
+    let second = if rows > SIDE { from + SIDE } else { from };
+    match different(lines, from, second, v, &mut left, &mut right, &mut begins) {
         Some(n) => {
             lay_different(&left, &right, &begins, n, from, rows, area, way, band);
             true
@@ -299,7 +300,7 @@ fn lay_groups<A: Small>(
     }
 }
 
-/// Lays a stretch of lines: along two squares few of them at once, and of many that are alike each different
+/// Lays a stretch of lines: few of them along two squares at once, and of many that are alike each different
 /// one.
 #[inline(always)]
 fn lay_squares<A: Small>(
@@ -318,9 +319,7 @@ fn lay_squares<A: Small>(
     requires page { topmost area way from rows + rows ≤ PAGE_ROWS }
     ensures { RowsPainted PAGE_ROWS Black (stretch_dot area way v lines.now from rows) band.old band.new }
 {
-    if rows <= SIDE {
-        lay_groups(lines, from, rows, area, way, v, band);
-    } else if lines.len() <= FEW {
+    if lines.len() <= FEW && rows > SIDE {
         lay_two(lines, from, rows, area, way, v, band);
     } else if lines.len() <= MANY || !lay_alike(lines, from, rows, area, way, v, band) {
         lay_groups(lines, from, rows, area, way, v, band);

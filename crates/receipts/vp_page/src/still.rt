@@ -24,45 +24,6 @@ pub(crate) enum Shade {
     Mixed,
 }
 
-/// The colour of eight dots of a line from one on, black or not, if it is one.
-#[inline(always)]
-fn colour_of(line: &[u8; LINE_BYTES], at: usize) -> Option<bool>
-    requires inside { at + APART ≤ LINE_DOTS }
-    ensures { IfSome result (λ black. (k : ℕ) → k < APART → dot line.now (at + k) ≡ black) }
-{
-    let all = first_dots(APART as u32);
-    let these = dots_from(line, at) & all;
-    if these == 0 {
-        Some(false)
-    } else if these == all {
-        Some(true)
-    } else {
-        None
-    }
-}
-
-/// What lines show along eight dots from one on, if each of them is of one colour there.
-fn shade_along(lines: &[[u8; LINE_BYTES]], at: usize) -> Option<Shade>
-    requires inside { at + APART ≤ LINE_DOTS }
-    ensures { IfSome result (AreStill lines.now at APART) }
-{
-    let (mut some_white, mut some_black) = (false, false);
-    for i in 0..lines.len() {
-        if colour_of(&lines[i], at)? {
-            some_black = true;
-        } else {
-            some_white = true;
-        }
-    }
-    Some(if !some_black {
-        Shade::White
-    } else if !some_white {
-        Shade::Black
-    } else {
-        Shade::Mixed
-    })
-}
-
 /// Whether some dots from one on are white, and lie before the end of the longest line.
 #[inline(always)]
 fn are_white(line: &[u8; LINE_BYTES], from: usize, dots: usize) -> bool
@@ -72,6 +33,78 @@ fn are_white(line: &[u8; LINE_BYTES], from: usize, dots: usize) -> bool
         (from + k < LINE_DOTS) × (dot line.now (from + k) ≡ false) }
 {
     from + dots <= LINE_DOTS && dots_from(line, from) & first_dots(dots as u32) == 0
+}
+
+/// Whether eight dots from one on are black.
+#[inline(always)]
+fn are_black(line: &[u8; LINE_BYTES], from: usize) -> bool
+    requires inside { from + APART ≤ LINE_DOTS }
+    ensures { result ≡ true → (k : ℕ) → k < APART → dot line.now (from + k) ≡ true }
+{
+    let all = first_dots(APART as u32);
+    dots_from(line, from) & all == all
+}
+
+/// Whether all lines are white along eight dots from one on.
+#[inline(always)]
+fn are_all_white(lines: &[[u8; LINE_BYTES]], at: usize) -> bool
+    requires inside { at + APART ≤ LINE_DOTS }
+    ensures { result ≡ true → (i k : ℕ) → i < length lines.now → k < APART →
+        line_dot lines.now i (at + k) ≡ false }
+{
+    for i in 0..lines.len() {
+        if !are_white(&lines[i], at, APART) {
+            return false;
+        }
+    }
+    true
+}
+
+/// Whether all lines are black along eight dots from one on.
+#[inline(always)]
+fn are_all_black(lines: &[[u8; LINE_BYTES]], at: usize) -> bool
+    requires inside { at + APART ≤ LINE_DOTS }
+    ensures { result ≡ true → (i k : ℕ) → i < length lines.now → k < APART →
+        line_dot lines.now i (at + k) ≡ true }
+{
+    for i in 0..lines.len() {
+        if !are_black(&lines[i], at) {
+            return false;
+        }
+    }
+    true
+}
+
+/// Whether each line is white or black along eight dots from one on.
+#[inline(always)]
+fn are_all_plain(lines: &[[u8; LINE_BYTES]], at: usize) -> bool
+    requires inside { at + APART ≤ LINE_DOTS }
+    ensures { result ≡ true → (i k : ℕ) → i < length lines.now → k < APART →
+        line_dot lines.now i (at + k) ≡ line_dot lines.now i at }
+{
+    for i in 0..lines.len() {
+        if !are_white(&lines[i], at, APART) && !are_black(&lines[i], at) {
+            return false;
+        }
+    }
+    true
+}
+
+/// What lines show along eight dots from one on, if each of them is of one colour there. Mostly all are of
+/// the same.
+fn shade_along(lines: &[[u8; LINE_BYTES]], at: usize) -> Option<Shade>
+    requires inside { at + APART ≤ LINE_DOTS }
+    ensures { IfSome result (AreStill lines.now at APART) }
+{
+    if are_all_white(lines, at) {
+        Some(Shade::White)
+    } else if are_all_black(lines, at) {
+        Some(Shade::Black)
+    } else if are_all_plain(lines, at) {
+        Some(Shade::Mixed)
+    } else {
+        None
+    }
 }
 
 /// How many dots from one on are white, of so many: up to one where a square begins, or all.

@@ -184,8 +184,8 @@ fn blacken_block(i: usize, row: &mut [u8])
     u8x64::splat(255).copy_to_slice(&mut row[i..]);
 }
 
-/// Blackens the bytes of a row from one on and before another, of which there are at least 64: four blocks
-/// have room for all of them, and the last ones may lie over each other.
+/// Blackens the bytes of a row from one on and before another, of which there are at least 64, by blocks: the
+/// last one may lie over the one before.
 #[inline(always)]
 fn blacken_bytes(from: usize, to: usize, row: &mut [u8])
     requires many { from + 64 ≤ to }
@@ -193,7 +193,7 @@ fn blacken_bytes(from: usize, to: usize, row: &mut [u8])
     requires row { length row.old ≡ LINE_BYTES }
     ensures { Painted Black (λ d. span from to (d / 8)) row.old row.new }
 {
-    for k in 0..4usize {
+    for k in 0..(to - from).div_ceil(64) {
         blacken_block((from + 64 * k).min(to - 64), row);
     }
 }

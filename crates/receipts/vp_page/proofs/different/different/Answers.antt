@@ -23,5 +23,5 @@ loop-line-preserved c =
       last = newest l.begins n end next i.count few i.last on;
       runs = more_runs l.begins n end next i.count few i.last on i.runs;
       near = more_dots l.begins n end next i.count few i.last on c.args.lines.now l.left v c.args.from l.line m c.dots_from.result i.lefts refl refl c.dots_from.ensures c.same_along-line.ensures.near i.near;
-      far = more_dots l.begins n end next i.count few i.last on c.args.lines.now l.right v (c.args.from + 64) l.line m c.dots_from-in-loop-line.result i.rights refl refl c.dots_from-in-loop-line.ensures c.same_along-line.ensures.far i.far;
+      far = more_dots l.begins n end next i.count few i.last on c.args.lines.now l.right v c.args.second l.line m c.dots_from-in-loop-line.result i.rights refl refl c.dots_from-in-loop-line.ensures c.same_along-line.ensures.far i.far;
     }

@@ -16,7 +16,7 @@ invariant-loop-line l = record {
   last : get_or l.begins l.n 0 ≡ l.v + l.line;
   runs : AreRuns l.begins l.n (l.v + l.line);
   near : (i u w : ℕ) → i < l.n → u < 64 → get_or l.begins i 0 ≤ w → w < get_or l.begins (i + 1) 0 → word_dot (get_or l.left i 0) u ≡ line_dot l.lines (w - l.v) (l.from + u);
-  far : (i u w : ℕ) → i < l.n → u < 64 → get_or l.begins i 0 ≤ w → w < get_or l.begins (i + 1) 0 → word_dot (get_or l.right i 0) u ≡ line_dot l.lines (w - l.v) (l.from + 64 + u);
+  far : (i u w : ℕ) → i < l.n → u < 64 → get_or l.begins i 0 ≤ w → w < get_or l.begins (i + 1) 0 → word_dot (get_or l.right i 0) u ≡ line_dot l.lines (w - l.v) (l.second + u);
 }
 
 abbrev pub decreases-loop-line : goal.decreases-loop-line

@@ -15,7 +15,7 @@ returns-then-rows-gt-SIDE g c = λ ink near far.
     let more : 64 < rows = omega (arith, c.if-rows-gt-SIDE.true) in
     let half : c.min-near.result ≡ 64 = omega (arith, c.min-near.ensures, more) in
     let first = rw half at (c.lay_words.ensures ink (λ i j w h l p q. c.turned_square-square.ensures i j (omega (arith, h, c.requires.runs.few)) (omega (arith, l, half)) ∙ near i j w h (omega (arith, l, half)) p q)) in
-    let second = c.lay_words-then-rows-gt-SIDE.ensures ink (λ i j w h l p q. c.turned_square-square-then-rows-gt-SIDE.ensures i j (omega (arith, h, c.requires.runs.few)) (omega (arith, l, c.requires.few)) ∙ far i j w h (omega (arith, l, c.requires.few)) p q) in
+    let second = c.lay_words-then-rows-gt-SIDE.ensures ink (λ i j w h l p q. c.turned_square-square-then-rows-gt-SIDE.ensures i j (omega (arith, h, c.requires.runs.few)) (omega (arith, l, c.requires.few)) ∙ far more i j w h (omega (arith, l, c.requires.few)) p q) in
     let end : from + 64 + (rows - 64) ≡ from + rows = omega (arith, more) in
     rows_then _ _ _ _ _ _ (λ x y. stretch_more from (from + 64) (from + rows) (along_of a way y) (across_dot a way (get_or begins 0 0) (get_or begins n 0) ink x y) (omega arith) (omega (arith, more))) first (rw end at second)
 

@@ -8,7 +8,7 @@ invariant-loop-n l = record {
   some : 0 < l.n;
   within : l.line + l.n ≤ length l.lines;
   near : (i u : ℕ) → i < l.n → u < 64 → line_dot l.lines (l.line + i) (l.from + u) ≡ line_dot l.lines l.line (l.from + u);
-  far : (i u : ℕ) → i < l.n → u < 64 → line_dot l.lines (l.line + i) (l.from + 64 + u) ≡ line_dot l.lines l.line (l.from + 64 + u);
+  far : (i u : ℕ) → i < l.n → u < 64 → line_dot l.lines (l.line + i) (l.second + u) ≡ line_dot l.lines l.line (l.second + u);
 }
 
 abbrev pub decreases-loop-n : goal.decreases-loop-n

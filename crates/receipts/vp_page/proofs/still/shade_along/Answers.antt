@@ -1,31 +1,39 @@
-use Rattle.std.proofs.Common.{◌≤◌, length, arith}
-use Rattle.vp_page.proofs.Unlike.{along_dots}
+use Rattle.std.proofs.Common.{◌<◌, ◌∙◌, sym, length, ℕ, true, false, arith}
+use Rattle.vp_page.proofs.Unlike.{along_dots, first_dot}
 use Rattle.vp_page.proofs.still.shade_along.Goals as goal
 
-pub returns-then-not-some_black : goal.returns-then-not-some_black
-returns-then-not-some_black c =
-    let all : length c.args.lines.now ≤ c.loop-i.i = c.loop-i-test.false in
+pub returns-then-are_all_white : goal.returns-then-are_all_white
+returns-then-are_all_white c =
+    let lines = c.args.lines.now in
+    let at = c.args.at in
+    let all = c.are_all_white.ensures c.if-are_all_white.true in
+    let here = λ (i : ℕ) (h : i < length lines). first_dot lines i at false (λ k l. all i k h l) in
     record {
-      shade_is = λ i h. c.loop-i.invariant.white c.if-not-some_black.true i (omega (arith, h, all));
-      alike = along_dots c.args.lines.now c.args.at 8 c.loop-i.i all c.loop-i.invariant.alike;
+      shade_is = here;
+      alike = along_dots lines at 8 (length lines) (omega arith) (λ i k h l. all i k h l ∙ sym (here i h));
       some = omega arith;
       inside = omega (arith, c.requires);
     }
 
-pub returns-then-not-some_white : goal.returns-then-not-some_white
-returns-then-not-some_white c =
-    let all : length c.args.lines.now ≤ c.loop-i.i = c.loop-i-test.false in
+pub returns-then-are_all_black : goal.returns-then-are_all_black
+returns-then-are_all_black c =
+    let lines = c.args.lines.now in
+    let at = c.args.at in
+    let all = c.are_all_black.ensures c.if-are_all_black.true in
+    let here = λ (i : ℕ) (h : i < length lines). first_dot lines i at true (λ k l. all i k h l) in
     record {
-      shade_is = λ i h. c.loop-i.invariant.black c.if-not-some_white.true i (omega (arith, h, all));
-      alike = along_dots c.args.lines.now c.args.at 8 c.loop-i.i all c.loop-i.invariant.alike;
+      shade_is = here;
+      alike = along_dots lines at 8 (length lines) (omega arith) (λ i k h l. all i k h l ∙ sym (here i h));
       some = omega arith;
       inside = omega (arith, c.requires);
     }
 
-pub returns-else-not-some_white : goal.returns-else-not-some_white
-returns-else-not-some_white c = record {
-  shade_is = tt;
-  alike = along_dots c.args.lines.now c.args.at 8 c.loop-i.i c.loop-i-test.false c.loop-i.invariant.alike;
-  some = omega arith;
-  inside = omega (arith, c.requires);
-}
+pub returns-then-are_all_plain : goal.returns-then-are_all_plain
+returns-then-are_all_plain c =
+    let lines = c.args.lines.now in
+    record {
+      shade_is = tt;
+      alike = along_dots lines c.args.at 8 (length lines) (omega arith) (c.are_all_plain.ensures c.if-are_all_plain.true);
+      some = omega arith;
+      inside = omega (arith, c.requires);
+    }
