@@ -17,12 +17,13 @@ repeated() {
     printf '%s\n' "$2" | awk -v number="$1" '{ for (i = 0; i < number; i++) printf "%s", $0 }'
 }
 
-# took [LANGUAGE]: the milliseconds for what is in the file, the least of three runs, or nothing if one ends too late
+# took [LANGUAGE]: the milliseconds for what is in the file, the least of three runs, nothing if one ends too late, or that
+# the program refused it
 took() {
     for _ in 1 2 3; do
         start=$(date +%s%N)
         timeout "$limit" "$vp" "${1:-label}" --font-a "$font" "$scratch/format" > "$scratch/paper" \
-            || { [ $? != 124 ] || return 0; echo "refused" >&2; }
+            || { [ $? = 124 ] || echo refused; return 0; }
         end=$(date +%s%N)
         echo $(((end - start) / 1000000))
     done | sort -n | head -1
@@ -37,7 +38,10 @@ measure() {
 # compare NAME [LANGUAGE]: what is in the file, beside the boxes
 compare() {
     now=$(took "${2:-label}")
-    if [ -z "$now" ]; then
+    if [ "$now" = refused ]; then
+        echo "$1: refused" >&2
+        exit 1
+    elif [ -z "$now" ]; then
         echo "$1: more than $limit s"
     else
         echo "$now $boxes" \
@@ -47,7 +51,10 @@ compare() {
 
 { printf '^XA^PW1248^LL8000'; repeated 1024 '^FR^GB1248,8000,8000^FS'; printf '^XZ'; } > "$scratch/format"
 boxes=$(took)
-[ -n "$boxes" ] || { echo "1,024 boxes: more than $limit s" >&2; exit 1; }
+case $boxes in
+    "") echo "1,024 boxes: more than $limit s" >&2; exit 1 ;;
+    refused) echo "1,024 boxes: refused" >&2; exit 1 ;;
+esac
 echo "1,024 boxes of 1,248 by 8,000: $boxes ms"
 
 white='^FT0,8000^GFA,,99999999,1^FS'
@@ -97,8 +104,9 @@ measure 'the same, three lines in turn' '^PW1248' 1024 \
     "^A0B,1500,1500^FB8000,9999,-1495,L^FD$(repeated 17 'AAAAA@@@@@MMMMM')^FS"
 # each line of another character, from ! on without those that mean something to the reader
 lines=$(awk 'BEGIN { for (i = 33; i < 85; i++) { c = sprintf("%c", i); printf "%s%s%s%s%s", c, c, c, c, c } }')
-measure 'the same, each line another' '^PW1248' 1024 "^A0B,1500,1500^FB8000,9999,-1495,L^FD$lines^FS"
-measure 'the same on a label of 32 dots' '^PW32' 1024 "^A0B,1500,1500^FB8000,9999,-1495,L^FD$lines^FS"
+# (of 260 bytes of data no label takes more)
+measure 'the same, each line another' '^PW1248' 1008 "^A0B,1500,1500^FB8000,9999,-1495,L^FD$lines^FS"
+measure 'the same on a label of 32 dots' '^PW32' 1008 "^A0B,1500,1500^FB8000,9999,-1495,L^FD$lines^FS"
 words=$(repeated 200 A)
 measure 'a turned block of lines of three cells over each other' '^PW1248' 1 \
     "^A0R,1500,1500^FB5000,10,0,R^FD$(repeated 1300 "$words ")^FS"
@@ -124,7 +132,10 @@ measure '1,024 QR symbols of 250 bytes' '^PW1248' 1024 "^BQN,2,10^FDLA,$(repeate
 page() {
     "$top/bench/receipts.py" "$2" 1000000 > "$scratch/format"
     now=$(took receipt)
-    if [ -z "$now" ]; then
+    if [ "$now" = refused ]; then
+        echo "$1: refused" >&2
+        exit 1
+    elif [ -z "$now" ]; then
         echo "$1: more than $limit s"
     else
         echo "$1: $now ms for 1,000,000 bytes"

@@ -1,12 +1,12 @@
 -- Bytes with their bits in the other order, and rows of them.
-use Rattle.std.proofs.Common.{inl, inr, ◌≡◌, ℕ, zero, suc, ◌+◌, ◌-◌, ◌*◌, ◌/◌, ◌%◌, ◌<◌, ◌≤◌, true, false, ◌&&◌, eqb, ltb, leb, refl, sym, ap, ◌∙◌, arith, List, length, get_or, bit_and, bit_or}
+use Rattle.std.proofs.Common.{inl, inr, ◌≡◌, ℕ, zero, suc, ◌+◌, ◌-◌, ◌*◌, ◌/◌, ◌%◌, ◌<◌, true, false, ◌&&◌, eqb, ltb, leb, refl, sym, ap, ◌∙◌, arith, List, length, get_or, bit_and, bit_or}
 use Rattle.std.specs.Int.{bit_at, reverse_bits_onto}
 use Rattle.std.proofs.lemmas.Nat.Bits.{bit_at_lowest, bit_at-suc}
 use Rattle.std.proofs.lemmas.Bool.{cases_lt, eqb-true, ltb-true, and_parts, lt-ltb, le-ltb}
 use Rattle.vp_dots.specs.Swaps.{swap_place}
 use Rattle.vp_dots.specs.Dots.{bit, dot}
 use Rattle.vp_dots.specs.Words.{word_dot}
-use Rattle.vp_dots.proofs.Rows.{dot_at, dot_past}
+use Rattle.vp_dots.proofs.Rows.{dot_past}
 use Rattle.vp_dots.proofs.Swaps.{apart_all, every, every_at}
 
 above : (a b i : ℕ) → b < 2 → bit_at (a * 2 + b) (suc i) ≡ bit_at a i
@@ -56,20 +56,6 @@ turned old new e h d = elim (cases_lt d (8 * length old)) [
       let r : 7 - (8 * length old - 1 - d) % 8 ≡ 7 - (7 - d % 8) = omega arith in
       rw (lt-ltb d (8 * length old) l, q, r) (h (d / 8) (7 - d % 8) (omega arith) (omega arith))
   | inr g ↦ rw (le-ltb d (8 * length old) g) (dot_past new d (omega arith))
-]
-
--- eight more bytes of them
-pub eight_turned : (k : ℕ) (row old new : List ℕ) (word : ℕ) → 8 * (k + 1) ≤ length row → ((x : ℕ) → x < 64 → word_dot word x ≡ dot row (8 * (length row - 8 * (k + 1)) + (63 - x)))
-    → ((j b : ℕ) → j < 8 → b < 8 → bit (get_or new (8 * k + j) 0) b ≡ word_dot word (8 * j + (7 - b))) → ((j : ℕ) → j < 8 * k → get_or new j 0 ≡ get_or old j 0)
-    → ((i b : ℕ) → i < 8 * k → b < 8 → bit (get_or old i 0) b ≡ bit (get_or row (length row - 1 - i) 0) (7 - b))
-    → (i b : ℕ) → i < 8 * (k + 1) → b < 8 → bit (get_or new i 0) b ≡ bit (get_or row (length row - 1 - i) 0) (7 - b)
-eight_turned k row old new word room w at below done i b h l = elim (cases_lt i (8 * k)) [
-  | inl m ↦ ap (λ n. bit n b) (below i m) ∙ done i b m l
-  | inr g ↦
-      let place : 8 * k + (i - 8 * k) ≡ i = omega arith in
-      let here : 8 * (length row - 8 * (k + 1)) + (63 - (8 * (i - 8 * k) + (7 - b))) ≡ 8 * (length row - 1 - i) + (7 - (7 - b)) = omega arith in
-      ap (λ n. bit (get_or new n 0) b) (sym place) ∙ at (i - 8 * k) b (omega arith) l ∙ w (8 * (i - 8 * k) + (7 - b)) (omega arith)
-      ∙ ap (dot row) here ∙ dot_at row (length row - 1 - i) (7 - b) (omega arith)
 ]
 
 -- the three exchanges in each byte of a word: the mask of each doesn't meet itself

@@ -1,5 +1,5 @@
 -- The bits of words, and of their bytes.
-use Rattle.std.proofs.Common.{inl, inr, ◌≡◌, ℕ, zero, suc, ◌+◌, ◌-◌, ◌*◌, ◌/◌, ◌%◌, ◌^◌, ◌<◌, ◌≤◌, Bool, true, false, eqb, leb, ◌&&◌, ◌||◌, eq-eqb, refl, sym, ap, ◌∙◌, arith, bit_and, [], ◌∷◌, get_or}
+use Rattle.std.proofs.Common.{inl, inr, ◌≡◌, ℕ, zero, suc, ◌+◌, ◌-◌, ◌*◌, ◌/◌, ◌%◌, ◌^◌, ◌<◌, ◌≤◌, Bool, true, false, eqb, leb, ◌&&◌, ◌||◌, eq-eqb, refl, sym, ap, ◌∙◌, arith, bit_and, get_or}
 use Rattle.std.specs.Int.{bit_at, byte_at, bytes_high_first, to_be_bytes, w64}
 use Rattle.std.proofs.lemmas.Nat.{shr-shr, pow-add, pow_pos}
 use Rattle.std.proofs.lemmas.Nat.Bits.{bit_at-zero, bit_at_cat_low, bit_at_cat_high, bit_at_above}
@@ -48,11 +48,6 @@ high_first (suc m) n (suc j) h = high_first m n j (omega arith) ∙ ap (λ x. by
 -- bit k of byte j of a word
 pub word_byte : (n j k : ℕ) → j < 8 → k < 8 → bit (get_or (to_be_bytes w64 n) j 0) k ≡ bit n (63 - (8 * j + (7 - k)))
 word_byte n j k p h = ap (λ x. bit x k) (high_first 8 n j p ∙ byte_is (7 - j) n) ∙ bit_low (n / 2 ^ (8 * (7 - j))) k h ∙ bit_shr n (8 * (7 - j)) k ∙ ap (bit n) (omega arith)
-
--- the bytes of a word, one by one
-pub eight_bytes : (a b c d e f g h n : ℕ) → a ≡ byte_at 7 n → b ≡ byte_at 6 n → c ≡ byte_at 5 n → d ≡ byte_at 4 n → e ≡ byte_at 3 n → f ≡ byte_at 2 n → g ≡ byte_at 1 n → h ≡ byte_at 0 n
-    → (a ∷ b ∷ c ∷ d ∷ e ∷ f ∷ g ∷ h ∷ []) ≡ to_be_bytes w64 n
-eight_bytes a b c d e f g h n p q r s t u v w = rw (p, q, r, s, t, u, v, w) refl
 
 -- the bytes of a word as a row
 pub word_row : (n x : ℕ) → dot (to_be_bytes w64 n) x ≡ word_dot n x

@@ -5,7 +5,7 @@ ghost use Rattle.vp_dots.specs.Swaps.{swap_place};
 ghost use Rattle.vp_dots.specs.Words.{word_dot};
 
 use crate::word::word_of;
-use std::simd::{u8x8, u64x1};
+use std::simd::u8x8;
 
 /// A byte with its dots in the other order: its halves change places, then their halves, then theirs.
 #[inline(always)]
@@ -40,21 +40,9 @@ pub fn reversed_at(row: &[u8], i: usize) -> u64
     swapped(pairs, 1, 0x5555_5555_5555_5555)
 }
 
-/// Writes eight bytes of the line, from byte i on.
-// By lanes, so that the bytes are written at once.
-#[inline(always)]
-fn write_eight(word: u64, i: usize, line: &mut [u8])
-    requires { i + 8 ≤ length line.old }
-    ensures len { length line.new ≡ length line.old }
-    ensures written { (j k : ℕ) → j < 8 → k < 8 →
-        bit (slice_index line.new (i + j)) k ≡ word_dot word (8 * j + (7 - k)) }
-    ensures below { (j : ℕ) → j < i → slice_index line.new j ≡ slice_index line.old j }
-{
-    let bytes = u64x1::from_array([word]).to_le_bytes().reverse();
-    bytes.copy_to_slice(&mut line[i..]);
-}
-
 /// Copies a row of dots turned end for end: its last dot becomes the first of the line.
+// Byte for byte, so that the compiler takes sixteen of them at once.
+#[inline(never)]
 pub fn copy_reversed(row: &[u8], line: &mut [u8])
     requires { length line.old ≡ length row.now }
     ensures len { length line.new ≡ length row.now }
@@ -62,10 +50,7 @@ pub fn copy_reversed(row: &[u8], line: &mut [u8])
         (nat_lt d (dots row.now) && dot row.now (dots row.now - 1 - d)) }
 {
     let bytes = row.len();
-    for k in 0..bytes / 8 {
-        write_eight(reversed_at(row, bytes - 8 * (k + 1)), 8 * k, line);
-    }
-    for j in 0..bytes % 8 {
+    for j in 0..bytes {
         line[bytes - 1 - j] = mirrored(row[j]);
     }
 }

@@ -219,6 +219,30 @@ blackened_more ink from i old mid l m b = record {
   ];
 }
 
+twice_ink : (a b : Bool) → ((a || b) || b) ≡ (a || b)
+twice_ink true b = refl
+twice_ink false true = refl
+twice_ink false false = refl
+
+-- the halves from one on, of which those up to another were blackened, and then those from before it on
+pub blackened_on : (ink a b c d : ℕ) (old mid new : List ℕ) → a ≤ c → c ≤ b → b ≤ d → Blackened ink a b old mid → Blackened ink c d mid new → Blackened ink a d old new
+blackened_on ink a b c d old mid new l m n p q = record {
+  inside = λ i x g h. elim (cases_lt i c) [
+    | inl y ↦ ap (λ v. half_dot v x) (q.outside i (rw (lt-leb c i y) refl)) ∙ p.inside i x g (omega arith)
+    | inr z ↦ q.inside i x z h ∙ elim (cases_lt i b) [
+      | inl y ↦ ap (λ t. t || half_dot ink x) (p.inside i x g y) ∙ twice_ink (half_dot (get_or old i 0) x) (half_dot ink x)
+      | inr w ↦ ap (λ v. half_dot v x || half_dot ink x) (p.outside i (rw (le-leb a i g, le-ltb i b w) refl))
+    ]
+  ];
+  outside = λ i e. elim (cases_lt i a) [
+    | inl y ↦ q.outside i (rw (lt-leb c i (omega arith)) refl) ∙ p.outside i (rw (lt-leb a i y) refl)
+    | inr z ↦ elim (cases_lt i d) [
+      | inl y ↦ absurd (let t : span a d i ≡ true = rw (le-leb a i z, lt-ltb i d y) refl in cc)
+      | inr w ↦ q.outside i (rw (le-leb c i (omega arith), le-ltb i d w) refl) ∙ p.outside i (rw (le-leb a i z, le-ltb i b (omega arith)) refl)
+    ]
+  ];
+}
+
 -- the fronts before row 16 k with what their groups have
 abbrev pub Settled : List ℕ → ℕ → ℕ → List ℕ → List ℕ → Type 0
 Settled groups n k old new = (i x : ℕ) → i < n → x < 32 → half_dot (get_or new i 0) x ≡ (half_dot (get_or old i 0) x || ltb i (16 * k) && half_dot (get_or groups (i / 16) 0) x)

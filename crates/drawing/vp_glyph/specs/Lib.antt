@@ -13,5 +13,6 @@ pub mod Inked
 pub mod Parts
 pub mod Stretches
 pub mod Halves
+pub mod Kept
 pub mod Memory
 pub mod Runs

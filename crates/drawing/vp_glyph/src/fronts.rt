@@ -3,10 +3,11 @@ ghost use Rattle.std.specs.Prelude.{◌≡◌, ℕ, ◌+◌, ◌-◌, ◌*◌, �
 ghost use Rattle.vp_dots.specs.Dots.{bit, shifted, span};
 ghost use Rattle.vp_glyph.specs.Blocks.{pieces, first, block_pieces, line_dot, block_height, block_dot, line_pieces};
 ghost use Rattle.vp_glyph.specs.Halves.{half_dot, front_dot, AreEdges, AreInked};
-ghost use Rattle.vp_glyph.specs.Layouts.{layout_of, AreRowsOf};
+ghost use Rattle.vp_glyph.specs.Layouts.{layout_of};
 
 use crate::block::Block;
-use crate::lines::{Line, hand_line};
+use crate::kept::Kept;
+use crate::lines::hand_line;
 use vp_dots::{Small, edges, inked};
 
 /// Of so many fronts side by side the dots that all have are kept once.
@@ -14,6 +15,9 @@ const GROUP: usize = 16;
 
 /// So many groups are kept: those of the rows that may fall on a label's columns, and some more.
 const GROUPS: usize = 80;
+
+/// So many groups are blackened at a time.
+const FOUR: usize = 4;
 
 /// From so many fronts on their groups are blackened in place of each.
 const MANY: usize = 48;
@@ -49,18 +53,39 @@ fn blacken<const N: usize>(ink: u32, from: usize, to: usize, halves: &mut [u32; 
     }
 }
 
-/// Makes the dots of as many halves as a group has, from one on, black where a half is.
+/// Makes the dots of M halves, from one on, black where a half is.
 #[inline(always)]
-fn blacken_group<const N: usize>(ink: u32, from: usize, halves: &mut [u32; N])
-    requires { from + GROUP ≤ N }
-    ensures inside { (i x : ℕ) → from ≤ i → i < from + GROUP → half_dot (slice_index halves.new i) x
+fn blacken_next<const M: usize, const N: usize>(ink: u32, from: usize, halves: &mut [u32; N])
+    requires { from + M ≤ N }
+    ensures inside { (i x : ℕ) → from ≤ i → i < from + M → half_dot (slice_index halves.new i) x
         ≡ (half_dot (slice_index halves.old i) x || half_dot ink x) }
-    ensures outside { (i : ℕ) → span from (from + GROUP) i ≡ false
+    ensures outside { (i : ℕ) → span from (from + M) i ≡ false
         → slice_index halves.new i ≡ slice_index halves.old i }
 {
-    for i in 0..GROUP {
+    for i in 0..M {
         halves[from + i] |= ink;
     }
+}
+
+/// What `blacken` does, four halves at a time where there are as many: the last four at once, whether some of
+/// them are black already or not.
+#[inline(always)]
+fn blacken_fours<const N: usize>(ink: u32, from: usize, to: usize, halves: &mut [u32; N])
+    requires order { from ≤ to }
+    requires to { to ≤ N }
+    ensures inside { (i x : ℕ) → from ≤ i → i < to → half_dot (slice_index halves.new i) x
+        ≡ (half_dot (slice_index halves.old i) x || half_dot ink x) }
+    ensures outside { (i : ℕ) → span from to i ≡ false
+        → slice_index halves.new i ≡ slice_index halves.old i }
+{
+    if to - from < FOUR {
+        blacken(ink, from, to, halves);
+        return;
+    }
+    for k in 0..(to - from) / FOUR {
+        blacken_next::<FOUR, N>(ink, from + FOUR * k, halves);
+    }
+    blacken_next::<FOUR, N>(ink, to - FOUR, halves);
 }
 
 /// Makes the dots of the fronts from one to another black where a half is: of groups that are among them as
@@ -84,9 +109,9 @@ fn blacken_run<const N: usize>(
     }
     let first = from / GROUP + 1;
     let last = to / GROUP;
-    blacken_group(ink, from, fronts);
-    blacken(ink, first, last, groups);
-    blacken_group(ink, to - GROUP, fronts);
+    blacken_next::<GROUP, N>(ink, from, fronts);
+    blacken_fours(ink, first, last, groups);
+    blacken_next::<GROUP, N>(ink, to - GROUP, fronts);
 }
 
 /// Gives each front the dots that its group has.
@@ -100,7 +125,7 @@ fn settle<const N: usize>(groups: &[u32; GROUPS], fronts: &mut [u32; N])
         }
         let from = (GROUP * k).min(N);
         if from + GROUP <= N {
-            blacken_group(groups[k], from, fronts);
+            blacken_next::<GROUP, N>(groups[k], from, fronts);
         } else {
             blacken(groups[k], from, N, fronts);
         }
@@ -135,8 +160,8 @@ fn zeros_from(bits: u64, s: u32) -> u32
 
 /// The first dots of the rows of the sheet on which a line stands, and which of them are to be looked at.
 #[derive(Clone, Copy)]
-struct Shown {
-    rows: [u32; 24],
+pub struct Shown {
+    pub rows: [u32; 24],
     edges: u64,
     inked: u64,
     ghost edges_are: { AreEdges rows 23 edges },
@@ -146,7 +171,7 @@ struct Shown {
 impl Shown {
     /// These rows.
     #[inline(always)]
-    fn of(rows: [u32; 24]) -> Shown
+    pub fn of(rows: [u32; 24]) -> Shown
         ensures { result.rows ≡ rows }
     {
         Shown {
@@ -239,58 +264,7 @@ fn spread<const N: usize>(
     }
 }
 
-/// A line, and the rows of the sheet on which it stands.
-#[derive(Clone, Copy)]
-struct Kept<'a> {
-    line: Line<'a>,
-    shown: Shown,
-}
-
 impl<A: Small> Block<'_, A> {
-    /// Keeps a line and the rows of the sheet on which it stands, and behind it the line that was kept: it is
-    /// drawn only if it is like neither of the two that are kept. The cells that are drawn are counted.
-    fn keep<'t>(
-        &self,
-        line: Line<'t>,
-        at: i64,
-        kept: &mut Kept<'t>,
-        other: &mut Kept<'t>,
-        counter: &mut u64,
-    )
-        requires cells { line.cells ≤ length (first (pieces line.text.now)) }
-        requires most { line.cells ≤ self.now.wide / self.now.w }
-        requires kept { AreRowsOf (layout_of self.now) at
-            (take kept.old.line.cells (first (pieces kept.old.line.text.now))) kept.old.shown.rows }
-        requires other { AreRowsOf (layout_of self.now) at
-            (take other.old.line.cells (first (pieces other.old.line.text.now))) other.old.shown.rows }
-        ensures line { AreRowsOf (layout_of self.now) at (take line.entry.cells
-            (first (pieces line.entry.text.now))) kept.new.shown.rows }
-        ensures kept { AreRowsOf (layout_of self.now) at
-            (take kept.new.line.cells (first (pieces kept.new.line.text.now))) kept.new.shown.rows }
-        ensures other { AreRowsOf (layout_of self.now) at
-            (take other.new.line.cells (first (pieces other.new.line.text.now))) other.new.shown.rows }
-        ensures counted { counter.old ≤ counter.new }
-        ensures most { counter.new ≤ counter.old + line.entry.cells }
-    {
-        if line.is_like(kept.line) {
-            return;
-        }
-        let last = *kept;
-        if line.is_like(other.line) {
-            *kept = *other;
-            *other = last;
-            return;
-        }
-        let mut rows = [0; 24];
-        let drawn = self.add_rows(line, at, &mut rows);
-        *counter = counter.saturating_add(u64::from(drawn));
-        *other = last;
-        *kept = Kept {
-            line,
-            shown: Shown::of(rows),
-        };
-    }
-
     /// Adds the lines to the fronts of N rows, the first of which is row `top`, and to those of their groups:
     /// how many pieces are handed out, and how many of the cells drawn.
     fn add_lines<const N: usize>(
@@ -315,11 +289,7 @@ impl<A: Small> Block<'_, A> {
         let (above, text) = self.first_line(top);
         let mut place = above;
         let mut left = Some(text);
-        let mut kept = Kept {
-            line: Line { text, cells: 0 },
-            shown: Shown::of([0; 24]),
-        };
-        let mut other = kept;
+        let mut kept = Kept::new(text);
         let mut counter = 0u64;
         while let Some(text) = left {
             if u64::from(top) + N as u64 <= u64::from(place * self.pitch) {
@@ -331,9 +301,9 @@ impl<A: Small> Block<'_, A> {
                 return counter;
             }
             let (line, rest) = hand_line(text, most, &mut counter);
-            self.keep(line, at, &mut kept, &mut other, &mut counter);
+            self.keep(line, at, &mut kept, &mut counter);
             spread(
-                &kept.shown,
+                kept.latest(),
                 place * self.pitch,
                 &starts,
                 top,

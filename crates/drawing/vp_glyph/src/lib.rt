@@ -11,7 +11,8 @@
 //!   the dots of its rows as a word.
 //! - `text`: characters side by side.
 //! - `lines`, `block`: a text broken into lines, and the lines below each other.
-//! - `fronts`, `joined`: the first dots of many of their rows at once, and lines over each other.
+//! - `fronts`, `joined`, `kept`: the first dots of many of their rows at once, lines over each other, and
+//!   lines that aren't drawn again.
 //! - `rows`, `runs`: all dots of the rows of a band, what many of them have alike kept once.
 #![tactic(auto)]
 
@@ -24,6 +25,7 @@ mod cell;
 mod fronts;
 mod header;
 mod joined;
+mod kept;
 mod lines;
 mod look;
 mod rows;

@@ -98,13 +98,6 @@ fn measure(text: &[u8], most: usize) -> Measured<'_>
         ≡ drop (min result.cells most) (first (pieces text.now)) }
     ensures others { others (pieces result.behind.now) ≡ others (pieces text.now) }
 {
-    if is_plain(text, most) {
-        return Measured {
-            cells: most + 1,
-            blank: 0,
-            behind: &text[most..],
-        };
-    }
     let mut at = text;
     let mut blank = 0;
     for i in 0..most {
@@ -203,8 +196,9 @@ impl Line<'_> {
     }
 }
 
-/// The first line of a text, in lines of at most `most` cells, and the text of the others.
-pub fn next_line(text: &[u8], most: usize) -> (Line<'_>, Option<&[u8]>)
+/// What `next_line` gives, cell by cell.
+#[inline(never)]
+fn measured_line(text: &[u8], most: usize) -> (Line<'_>, Option<&[u8]>)
     requires some { 0 < most }
     requires most { most < 2 ^ 32 }
     ensures text { result.0.text.now ≡ text.now }
@@ -233,6 +227,27 @@ pub fn next_line(text: &[u8], most: usize) -> (Line<'_>, Option<&[u8]>)
         return (line, next_paragraph(behind));
     };
     (line, Some(behind))
+}
+
+/// The first line of a text, in lines of at most `most` cells, and the text of the others: found
+/// at once where it is all plain.
+#[inline(always)]
+pub fn next_line(text: &[u8], most: usize) -> (Line<'_>, Option<&[u8]>)
+    requires some { 0 < most }
+    requires most { most < 2 ^ 32 }
+    ensures text { result.0.text.now ≡ text.now }
+    ensures most { result.0.cells ≤ most }
+    ensures cells { result.0.cells ≤ length (first (pieces text.now)) }
+    ensures lines { let line = take result.0.cells (first (pieces text.now))
+        in MatchOption result.1 (block_lines most text.now ≡ line ∷ []) (λ r. block_lines most text.now
+        ≡ line ∷ block_lines most r.now) }
+    ensures less { MatchOption result.1 (1 + result.0.cells ≤ line_pieces text.now)
+        (λ r. 1 + result.0.cells + line_pieces r.now ≤ line_pieces text.now) }
+{
+    if is_plain(text, most) {
+        return (Line { text, cells: most }, Some(&text[most..]));
+    }
+    measured_line(text, most)
 }
 
 /// The first line of a text, as `next_line` gives it, whose pieces are counted: the line, and each of its

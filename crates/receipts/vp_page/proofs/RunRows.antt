@@ -1,5 +1,5 @@
 -- Lines that are laid across the page many times each.
-use Rattle.std.proofs.Common.{inl, inr, ◌≡◌, ℕ, zero, suc, ◌+◌, ◌-◌, ◌<◌, ◌≤◌, min, Bool, true, false, cond, ltb, leb, ◌&&◌, ◌||◌, sym, ap, ◌∙◌, arith, add-one, List, get_or, replicate}
+use Rattle.std.proofs.Common.{inl, inr, ◌≡◌, ℕ, zero, suc, ◌+◌, ◌-◌, ◌/◌, ◌<◌, ◌≤◌, min, Bool, true, false, cond, ltb, leb, ◌&&◌, ◌||◌, refl, sym, ◌∙◌, arith, add-one, List, get_or, replicate}
 use Rattle.std.proofs.lemmas.Bool.{cases_lt, lt-ltb, le-ltb, lt-leb, le-leb, and_parts, ltb-true, leb-true}
 use Rattle.std.proofs.lemmas.Bool.Decides.{nat_tests}
 use Rattle.std.proofs.lemmas.List.{length-replicate}
@@ -83,35 +83,57 @@ pub run_in : (a : Area) (way : Way) (at t y top : ℕ) → at + t ≤ a.dy → t
 run_in a Up at t y top h e = up_in a.y a.dy at t y h top e
 run_in a Down at t y top h e = down_in a.y a.dy at t y h top e
 
-assoc : (p q r : Bool) → (p && (q && r)) ≡ ((p && q) && r)
-assoc p q r = grind arith
+one_rows : (p q hx hy s v u r : Bool) → (p && q) ≡ (hy && r) → (r ≡ true → s ≡ true → v ≡ u) → (p && (q && (hx && (s && u)))) ≡ (r && (hx && hy && (s && v)))
+one_rows p q hx hy s v u true e same = grind arith
+one_rows p q hx hy s v u false e same = grind arith
 
-more_rows : (hx hy s v u : Bool) (from at t al : ℕ) → from ≤ at → (s ≡ true → at ≤ al → al < at + t → v ≡ u)
-    → (span from (at + t) al && (hx && hy && (s && v))) ≡ ((span from at al && (hx && hy && (s && v))) || ((hy && span at (at + t) al) && (hx && (s && u))))
-more_rows hx hy s v u from at t al f e = grind (arith, nat_tests)
-
--- one more run of rows
-pub run_more : (a : Area) (way : Way) (from at t top b0 bn : ℕ) (ink : ℕ → ℕ → Bool) (x y : ℕ) → from ≤ at → at + t ≤ a.dy → top ≡ topmost a way at t
-    → ((u w : ℕ) → at ≤ u → u < at + t → b0 ≤ w → w < bn → ink u w ≡ ink at w)
-    → (span from (at + t) (along_of a way y) && across_dot a way b0 bn ink x y)
-    ≡ ((span from at (along_of a way y) && across_dot a way b0 bn ink x y)
-    || (leb top y && (ltb (y - top) t && (span a.x (a.x + a.dx) x && (span b0 bn (depth_of a way x) && ink at (depth_of a way x))))))
-run_more a way from at t top b0 bn ink x y f h e same =
+-- a stretch of lines that stay as they are along it
+pub one_run : (a : Area) (way : Way) (at t top b0 bn : ℕ) (ink : ℕ → ℕ → Bool) (one : ℕ → Bool) (x y : ℕ) → at + t ≤ a.dy → top ≡ topmost a way at t
+    → ((u w : ℕ) → at ≤ u → u < at + t → b0 ≤ w → w < bn → ink u w ≡ one w)
+    → (leb top y && (ltb (y - top) t && (span a.x (a.x + a.dx) x && (span b0 bn (depth_of a way x) && one (depth_of a way x)))))
+    ≡ (span at (at + t) (along_of a way y) && across_dot a way b0 bn ink x y)
+one_run a way at t top b0 bn ink one x y h e same =
     let w = depth_of a way x in
     let al = along_of a way y in
-    more_rows (span a.x (a.x + a.dx) x) (leb a.y y && ltb y (a.y + a.dy)) (span b0 bn w) (ink al w) (ink at w) from at t al f
-    (λ i l m. let p = and_parts _ _ i in same al w l m (leb-true _ _ p.0) (ltb-true _ _ p.1))
-    ∙ ap (λ r. (span from at al && across_dot a way b0 bn ink x y) || (r && (span a.x (a.x + a.dx) x && (span b0 bn w && ink at w)))) (sym (run_in a way at t y top h e))
-    ∙ ap (λ r. (span from at al && across_dot a way b0 bn ink x y) || r) (sym (assoc (leb top y) (ltb (y - top) t) _))
+    one_rows (leb top y) (ltb (y - top) t) (span a.x (a.x + a.dx) x) (leb a.y y && ltb y (a.y + a.dy)) (span b0 bn w) (ink al w) (one w) (span at (at + t) al) (run_in a way at t y top h e)
+    (λ i j. let p = and_parts _ _ i in let q = and_parts _ _ j in same al w (leb-true _ _ p.0) (ltb-true _ _ p.1) (leb-true _ _ q.0) (ltb-true _ _ q.1))
+
+and_none : (s h t v : Bool) → (s ≡ true → t ≡ true → v ≡ false) → (s && (h && (t && v))) ≡ false
+and_none true h true v e = grind arith
+and_none true h false v e = grind arith
+and_none false h t v e = grind arith
+
+-- and are white there
+pub none_laid : (a : Area) (way : Way) (at t b0 bn : ℕ) (ink : ℕ → ℕ → Bool) (x y : ℕ) → ((u w : ℕ) → at ≤ u → u < at + t → b0 ≤ w → w < bn → ink u w ≡ false)
+    → (span at (at + t) (along_of a way y) && across_dot a way b0 bn ink x y) ≡ false
+none_laid a way at t b0 bn ink x y white =
+    let w = depth_of a way x in
+    let al = along_of a way y in
+    and_none (span at (at + t) al) (holds a x y) (span b0 bn w) (ink al w)
+    (λ i j. let p = and_parts _ _ i in let q = and_parts _ _ j in white al w (leb-true _ _ p.0) (ltb-true _ _ p.1) (leb-true _ _ q.0) (ltb-true _ _ q.1))
 
 -- one more stretch of the lines
 pub stretch_more : (from to next al : ℕ) (b : Bool) → from ≤ to → to ≤ next → (span from next al && b) ≡ ((span from to al && b) || (span to next al && b))
 stretch_more from to next al b h k = grind (arith, nat_tests)
 
--- after the last one
-pub all_stretches : (a : Area) (way : Way) (long high b0 bn : ℕ) (ink : ℕ → ℕ → Bool) (x y : ℕ) → high ≡ min a.dy long
-    → (span 0 high (along_of a way y) && across_dot a way b0 bn ink x y) ≡ across_dot a way b0 bn (λ u w. ltb u long && ink u w) x y
-all_stretches a way long high b0 bn ink x y e = grind (arith, nat_tests)
+in_runs : (hx hy s t v l : Bool) → (hy ≡ true → s ≡ l) → (s && (hx && hy && (t && v))) ≡ (hx && hy && (t && (l && v)))
+in_runs hx true s t v l e = let f = e refl in grind arith
+in_runs hx false s t v l e = grind arith
+
+up_to_end : (from below at long u : ℕ) → from ≤ u → u < below → min below long ≤ at → (from < at → at ≤ min below long) → span from at u ≡ ltb u long
+up_to_end from below at long u h k end inside = elim (cases_lt from at) [
+  | inl l ↦ (let i = inside l in grind (arith, nat_tests))
+  | inr g ↦ grind (arith, nat_tests)
+]
+
+-- all dots of the lines that fall on the page
+pub all_runs : (a : Area) (way : Way) (long from below at b0 bn : ℕ) (ink : ℕ → ℕ → Bool) (x y : ℕ) → (span a.y (a.y + a.dy) y ≡ true → span from below (along_of a way y) ≡ true)
+    → min below long ≤ at → (from < at → at ≤ min below long)
+    → (span from at (along_of a way y) && across_dot a way b0 bn ink x y) ≡ across_dot a way b0 bn (λ u w. ltb u long && ink u w) x y
+all_runs a way long from below at b0 bn ink x y page end inside =
+    let u = along_of a way y in
+    in_runs (span a.x (a.x + a.dx) x) (leb a.y y && ltb y (a.y + a.dy)) (span from at u) (span b0 bn (depth_of a way x)) (ink u (depth_of a way x)) (ltb u long)
+    (λ e. let p = and_parts _ _ (page e) in up_to_end from below at long u (leb-true _ _ p.0) (ltb-true _ _ p.1) end inside)
 
 -- the line of each depth, where they rise
 pub run_of : List ℕ → ℕ → ℕ → ℕ
@@ -145,3 +167,10 @@ deep_across a way = grind arith
 -- a dot of ink falls on the rows of the area
 pub in_area : (a : Area) (x y : ℕ) (b : Bool) → (holds a x y && b) ≡ true → span a.y (a.y + a.dy) y ≡ true
 in_area a x y b e = (and_parts _ _ (and_parts _ _ e).0).1
+
+-- the bytes of the columns between two depths
+pub bytes_of : (left right x first b0 bn w : ℕ) (hx black : Bool) → first ≡ left / 8 → span left right x ≡ (hx && span b0 bn w) → (hx && (span b0 bn w && black)) ≡ true
+    → span first (first + ((right - left) / 8 + 2)) (x / 8) ≡ true
+bytes_of left right x first b0 bn w true true e d is = grind (arith, nat_tests)
+bytes_of left right x first b0 bn w true false e d is = grind (arith, nat_tests)
+bytes_of left right x first b0 bn w false black e d is = grind (arith, nat_tests)

@@ -1,7 +1,8 @@
 -- Where lines change along themselves.
-use Rattle.std.proofs.Common.{bit_or, bit_and, ◌≡◌, ℕ, ◌+◌, ◌-◌, ◌*◌, ◌/◌, ◌<◌, ◌≤◌, ◌^◌, Bool, inl, inr, true, false, cond, ltb, leb, ◌&&◌, ◌||◌, refl, sym, ap, ◌∙◌, arith, List, [], length, get_or, zero, suc}
+use Rattle.std.proofs.Common.{bit_or, bit_and, ◌≡◌, ℕ, ◌+◌, ◌-◌, ◌*◌, ◌/◌, ◌<◌, ◌≤◌, ◌^◌, Bool, inl, inr, true, false, cond, ltb, leb, ◌&&◌, ◌||◌, refl, sym, ap, ◌∙◌, arith, List, [], length, get_or, take, drop, zero, suc}
 use Rattle.std.specs.Int.RustNames.{bit_xor}
 use lib.Lanes.{zip2, chunk, put_chunk}
+use Rattle.std.proofs.lemmas.List.{get_or-drop, get_or-take, length-drop, length-take}
 use Rattle.std.proofs.lemmas.Simd.{get_or-zip2, get_or-chunk, length-zip2, length-chunk}
 use Rattle.std.proofs.lemmas.Bool.Decides.{nat_tests}
 use Rattle.std.proofs.lemmas.Bool.{and_parts, cases_lt, lt-ltb, le-ltb, le-leb, true≢false}
@@ -11,6 +12,7 @@ use Rattle.vp_dots.specs.Painting.{Painted}
 use Rattle.vp_dots.specs.declared.Op.TheVariants.{Black}
 use Rattle.vp_dots.proofs.Bits.{bit_of_or, bit_of_xor}
 use Rattle.vp_dots.proofs.Blocks.{painted_block}
+use Rattle.vp_dots.proofs.Cuts.{all_bits}
 use Rattle.vp_dots.proofs.Rows.{dot_at}
 use Rattle.vp_dots.proofs.Words.{word_shr}
 use Rattle.vp_page.proofs.Alike.{both_dot}
@@ -85,6 +87,16 @@ pub all_black : (line : List ℕ) (w m dots from k : ℕ) → bit_and w m ≡ m 
     → ((x : ℕ) → x < 64 → word_dot w x ≡ (ltb (from + x) 1664 && dot line (from + x))) → k < 64 → k < dots → from + k < 1664 → dot line (from + k) ≡ true
 all_black line w m dots from k e p q h l r = grind (arith, lt-ltb, both_dot, and_parts)
 
+-- eight more bytes that are black
+pub word_of_black : (line : List ℕ) (k w : ℕ) → w ≡ 2 ^ 64 - 1 → ((x : ℕ) → x < 64 → word_dot w x ≡ dot line (8 * (8 * k) + x)) → ((u : ℕ) → u < 64 * k → dot line u ≡ true)
+    → (u : ℕ) → u < 64 * (k + 1) → dot line u ≡ true
+word_of_black line k w e is before u h = elim (cases_lt u (64 * k)) [
+  | inl l ↦ before u l
+  | inr g ↦ (let place : 8 * (8 * k) + (u - 64 * k) ≡ u = omega (arith, g) in
+      let one : u - 64 * k < 64 = omega (arith, h, g) in
+      rw place at (sym (is (u - 64 * k) one)) ∙ ap (λ m. word_dot m (u - 64 * k)) e ∙ all_bits (u - 64 * k) ∙ lt-ltb (u - 64 * k) 64 one)
+]
+
 -- lines that are alike along some dots, where there is a line
 pub along_dots : (lines : List (List ℕ)) (at dots n : ℕ) → length lines ≤ n → ((i k : ℕ) → i < n → k < dots → line_dot lines i (at + k) ≡ line_dot lines i at)
     → (i u : ℕ) → at ≤ u → u < at + dots → line_dot lines i u ≡ line_dot lines i at
@@ -96,3 +108,17 @@ along_dots lines at dots n all alike i u g l = elim (cases_lt i n) [
 -- the first of eight dots
 pub first_dot : (lines : List (List ℕ)) (i at : ℕ) (colour : Bool) → ((k : ℕ) → k < 8 → line_dot lines i (at + k) ≡ colour) → line_dot lines i at ≡ colour
 first_dot lines i at colour all = let place : at + 0 ≡ at = omega arith in rw place at (all 0 (omega arith))
+
+-- of some lines, and of those behind them
+pub parts_same : (lines : List (List ℕ)) (n i u : ℕ) → n ≤ length lines → i < length lines
+    → ((i : ℕ) → i < length (take n lines) → line_dot (take n lines) i u ≡ line_dot (take n lines) i (u - 8))
+    → ((i : ℕ) → i < length (take (length lines - n) (drop n lines)) → line_dot (take (length lines - n) (drop n lines)) i u ≡ line_dot (take (length lines - n) (drop n lines)) i (u - 8))
+    → line_dot lines i u ≡ line_dot lines i (u - 8)
+parts_same lines n i u few h first rest = elim (cases_lt i n) [
+  | inl l ↦ (let f = first i (omega (arith, l, few, length-take n lines)) in rw (get_or-take n lines i [] l) at f)
+  | inr g ↦
+      let left : i - n < length lines - n = omega (arith, g, h) in
+      let r = rest (i - n) (omega (arith, left, length-drop n lines, length-take (length lines - n) (drop n lines))) in
+      let place : n + (i - n) ≡ i = omega (arith, g) in
+      rw (get_or-take (length lines - n) (drop n lines) (i - n) [] left, get_or-drop n lines (i - n) [], place) at r
+]

@@ -1,5 +1,5 @@
 -- Lines of dots that are laid at once.
-use Rattle.std.specs.Prelude.{◌≡◌, ◌≤◌, ◌%◌, ℕ, ◌+◌, ◌-◌, nat_le, nat_lt, Bool, not, ◌&&◌, if◌then◌else◌, List, [], ℤ, ◌*◌, take, drop, slice_index, slice_index_or}
+use Rattle.std.specs.Prelude.{◌≡◌, ◌≤◌, ◌<◌, ◌%◌, ℕ, ◌+◌, ◌-◌, nat_le, nat_lt, Bool, true, false, not, ◌&&◌, if◌then◌else◌, List, [], ℤ, ◌*◌, take, drop, length, slice_index, slice_index_or}
 use Rattle.vp_dots.specs.Dots.{dot, shifted}
 use Rattle.vp_dots.specs.Words.{word_dot}
 use Rattle.vp_page.specs.declared.line.TheConstants.{LINE_DOTS}
@@ -9,6 +9,11 @@ use Rattle.vp_page.specs.declared.area.Area.{Area}
 -- dot u of line i, none of which is longer than the longest line
 abbrev pub line_dot : List (List ℕ) → ℕ → ℕ → Bool
 line_dot lines i u = nat_lt u LINE_DOTS && dot (slice_index_or lines i []) u
+
+-- a line of which it is told that it is the same as the one before it shows the same
+abbrev pub AreTold : List (List ℕ) → List Bool → Type 0
+AreTold lines same = (i u : ℕ) → i + 1 < length lines → slice_index_or same (i + 1) false ≡ true →
+    dot (slice_index_or lines (i + 1) []) u ≡ dot (slice_index_or lines i []) u
 
 -- whether dot u of a line isn't as it is eight dots before: white stands before the first one
 abbrev pub changes_at : List ℕ → ℕ → Bool

@@ -1,7 +1,6 @@
 -- Lines that are laid across the page.
-use Rattle.std.specs.Prelude.{◌≡◌, ◌≤◌, ◌<◌, ℕ, ◌+◌, ◌-◌, nat_le, nat_lt, Bool, true, false, ◌&&◌, List, length, slice_index, ℤ, pos, ◌+ℤ◌}
-use Rattle.vp_dots.specs.Dots.{span}
-use Rattle.vp_dots.specs.Words.{word_dot}
+use Rattle.std.specs.Prelude.{◌≡◌, ◌≤◌, ◌<◌, ℕ, ◌+◌, ◌-◌, nat_le, nat_lt, Bool, true, false, ◌&&◌, List, [], length, slice_index, slice_index_or, ℤ, pos, ◌+ℤ◌}
+use Rattle.vp_dots.specs.Dots.{dot, span}
 use Rattle.vp_page.specs.declared.area.Area.{Area}
 use Rattle.vp_page.specs.declared.area.Direction.{Direction}
 use Rattle.vp_page.specs.declared.area.Direction.TheVariants.{BottomToTop, TopToBottom}
@@ -74,17 +73,15 @@ pub record AreRuns (begins : List ℕ) (n end : ℕ) : Type 0 where
   pub deep : (i : ℕ) → i ≤ n → slice_index begins i ≤ end
   pub from_first : (i : ℕ) → i ≤ n → slice_index begins 0 ≤ slice_index begins i
 
--- lines are as the one before along two times 64 dots, which begin at two places, but where one of n
--- different ones begins; the dots of these stand in the rows of two squares
-pub record AreDifferent (lines : List (List ℕ)) (from second v : ℕ) (left right begins : List ℕ) (n : ℕ)
+-- lines are as the one before but where one of n different ones begins
+pub record AreDifferent (lines : List (List ℕ)) (v : ℕ) (these : List (List ℕ)) (begins : List ℕ) (n : ℕ)
     : Type 0 where
+  pub few : n ≤ length these
   pub runs : AreRuns begins n (v + length lines)
   pub first : slice_index begins 0 ≡ v
   pub last : slice_index begins n ≡ v + length lines
-  pub near : (i u w : ℕ) → i < n → u < 64 → slice_index begins i ≤ w → w < slice_index begins (i + 1) →
-      word_dot (slice_index left i) u ≡ line_dot lines (w - v) (from + u)
-  pub far : (i u w : ℕ) → i < n → u < 64 → slice_index begins i ≤ w → w < slice_index begins (i + 1) →
-      word_dot (slice_index right i) u ≡ line_dot lines (w - v) (second + u)
+  pub same : (i u w : ℕ) → i < n → slice_index begins i ≤ w → w < slice_index begins (i + 1) →
+      dot (slice_index_or these i []) u ≡ dot (slice_index_or lines (w - v) []) u
 
 -- where lines run up, or down
 abbrev pub across : Way → Direction

@@ -8,21 +8,22 @@ ghost use Rattle.vp_dots.specs.Words.{word_dot};
 ghost use Rattle.vp_dots.specs.Places.{RowsPainted};
 ghost use Rattle.vp_dots.specs.declared.Op.TheVariants.{Black, White};
 ghost use Rattle.vp_dots.specs.declared.square.TheConstants.{SIDE};
-ghost use Rattle.vp_page.specs.Lines.{line_dot};
+ghost use Rattle.vp_page.specs.Lines.{line_dot, AreTold};
 ghost use Rattle.vp_page.specs.Runs.{AreStill, IsLeft, IsShade, along_of, depth_of, lines_across, placed, stretch_dot, topmost};
 ghost use Rattle.vp_page.specs.declared.across.TheConstants.{AT_ONCE, FEW};
 ghost use Rattle.vp_page.specs.declared.still.TheConstants.{STRETCH};
 ghost use Rattle.vp_page.specs.declared.line.TheConstants.{LINE_BYTES, LINE_DOTS};
 ghost use Rattle.vp_page.specs.declared.page.TheConstants.{PAGE_ROWS, PAPER_DOTS};
 
+use crate::along::lay_bytes;
 use crate::area::{Area, Way};
 use crate::changes::changes_of;
-use crate::different::{different, lay_different};
+use crate::different::{MOST, different};
 use crate::line::{LINE_BYTES, LINE_DOTS, dots_from, start_of};
 use crate::page::{PAGE_ROWS, PAPER_BYTES, PageBand};
-use crate::runs::{blacken, columns, top_of};
+use crate::runs::{blacken, columns, lay_runs, on_page, top_of};
 use crate::still::{Shade, still_from, turned_from};
-use crate::words::{lay_halves, lay_same, lay_words};
+use crate::words::{lay_halves, lay_words};
 use vp_dots::{Op, SIDE, Small, dot_of, fill_dots, turned_square};
 
 /// How many lines are laid at once.
@@ -246,35 +247,6 @@ fn lay_group<A: Small>(
     }
 }
 
-/// Lays a stretch of lines if many of them are as the one before.
-fn lay_alike<A: Small>(
-    lines: &[[u8; LINE_BYTES]],
-    from: usize,
-    rows: usize,
-    area: Area,
-    way: Way,
-    v: u32,
-    band: &mut PageBand<A>,
-) -> bool
-    requires few { rows ≤ STRETCH }
-    requires wide { v + length lines.now ≤ area.dx }
-    requires long { from + rows ≤ area.dy }
-    ensures laid { result ≡ true →
-        RowsPainted PAGE_ROWS Black (stretch_dot area way v lines.now from rows) band.old band.new }
-    ensures not { result ≡ false → band.new ≡ band.old }
-{
-    let (mut left, mut right) = ([0; SIDE], [0; SIDE]);
-    let mut begins = [0; SIDE + 1];
-    let second = if rows > SIDE { from + SIDE } else { from };
-    match different(lines, from, second, v, &mut left, &mut right, &mut begins) {
-        Some(n) => {
-            lay_different(&left, &right, &begins, n, from, rows, area, way, band);
-            true
-        }
-        None => false,
-    }
-}
-
 /// Lays a stretch of lines, group by group.
 #[inline(always)]
 fn lay_groups<A: Small>(
@@ -300,8 +272,7 @@ fn lay_groups<A: Small>(
     }
 }
 
-/// Lays a stretch of lines: few of them along two squares at once, and of many that are alike each different
-/// one.
+/// Lays a stretch of lines: few of them along two squares at once.
 #[inline(always)]
 fn lay_squares<A: Small>(
     lines: &[[u8; LINE_BYTES]],
@@ -321,23 +292,8 @@ fn lay_squares<A: Small>(
 {
     if lines.len() <= FEW && rows > SIDE {
         lay_two(lines, from, rows, area, way, v, band);
-    } else if lines.len() <= MANY || !lay_alike(lines, from, rows, area, way, v, band) {
+    } else {
         lay_groups(lines, from, rows, area, way, v, band);
-    }
-}
-
-/// The dots of an area's lines that fall on the page: from one on and before another.
-fn on_page(area: Area, way: Way) -> (usize, usize)
-    ensures inside { result.1 ≤ area.dy }
-    ensures all { (y : ℕ) → y < PAGE_ROWS → span area.y (area.y + area.dy) y ≡ true →
-        span result.0 result.1 (along_of area way y) ≡ true }
-    ensures page { (u n : ℕ) → 0 < n → result.0 ≤ u → u + n ≤ result.1 →
-        topmost area way u n + n ≤ PAGE_ROWS }
-{
-    let (top, high) = (area.y as usize, area.dy as usize);
-    match way {
-        Way::Up => ((top + high).saturating_sub(PAGE_ROWS), high),
-        Way::Down => (0, PAGE_ROWS.saturating_sub(top).min(high)),
     }
 }
 
@@ -366,13 +322,40 @@ fn lay_still<A: Small>(
     let (left, _) = columns(area, way, v, v + lines.len() as u32);
     let (first, bytes) = (left as usize / 8, lines.len() / 8 + 2);
     let top = top_of(area, way, from, rows);
-    lay_same(&row, first, bytes, rows, top, band);
+    lay_bytes(&row, first, bytes, rows, top, band);
 }
 
-/// Lays lines upward or downward, the first at a depth of an area and each one deeper than the one before it.
-/// They are white from dot `long` on.
-#[inline(always)]
-pub(crate) fn lay_lines<A: Small>(
+/// Lays lines if many of them are as the one before.
+fn lay_alike<A: Small>(
+    lines: &[[u8; LINE_BYTES]],
+    same: &[bool],
+    long: usize,
+    area: Area,
+    way: Way,
+    v: u32,
+    band: &mut PageBand<A>,
+) -> bool
+    requires told { AreTold lines.now same.now }
+    requires wide { v + length lines.now ≤ area.dx }
+    requires white { (i u : ℕ) → long ≤ u → line_dot lines.now i u ≡ false }
+    ensures laid { result ≡ true →
+        RowsPainted PAGE_ROWS Black (lines_across area way v lines.now) band.old band.new }
+    ensures not { result ≡ false → band.new ≡ band.old }
+{
+    let mut these = [[0; LINE_BYTES]; MOST];
+    let mut begins = [0; SIDE + 1];
+    match different(lines, same, v, &mut these, &mut begins) {
+        Some(n) => {
+            let long = long.min(LINE_DOTS);
+            lay_runs(&these[..n], &begins, long, area, way, band);
+            true
+        }
+        None => false,
+    }
+}
+
+/// Lays lines stretch by stretch, whether or not some are the same.
+fn lay_stretches<A: Small>(
     lines: &[[u8; LINE_BYTES]],
     long: usize,
     area: Area,
@@ -399,4 +382,28 @@ pub(crate) fn lay_lines<A: Small>(
             at += rows;
         }
     }
+}
+
+/// Lays lines upward or downward, the first at a depth of an area and each one deeper than the one before it.
+/// They are white from dot `long` on.
+#[inline(always)]
+pub(crate) fn lay_lines<A: Small>(
+    lines: &[[u8; LINE_BYTES]],
+    same: &[bool],
+    long: usize,
+    area: Area,
+    way: Way,
+    v: u32,
+    band: &mut PageBand<A>,
+)
+    requires few { length lines.now ≤ AT_ONCE }
+    requires told { AreTold lines.now same.now }
+    requires wide { v + length lines.now ≤ area.dx }
+    requires white { (i u : ℕ) → long ≤ u → line_dot lines.now i u ≡ false }
+    ensures { RowsPainted PAGE_ROWS Black (lines_across area way v lines.now) band.old band.new }
+{
+    if lines.len() > MANY && lay_alike(lines, same, long, area, way, v, band) {
+        return;
+    }
+    lay_stretches(lines, long, area, way, v, band);
 }

@@ -1,16 +1,17 @@
 //! Rows of dots as rows of the page along which they are laid: each is moved, turned and clipped once, and
 //! laid on as many rows as show it.
-ghost use Rattle.std.specs.Prelude.{◌≡◌, ℕ, Bool, true, ◌+◌, ◌-◌, ◌*◌, ◌%◌, ◌<◌, ◌≤◌, ◌^◌, ◌&&◌, nat_lt, nat_le, [], length, slice_index_or};
-ghost use Rattle.vp_dots.specs.Dots.{dot};
+ghost use Rattle.std.specs.Prelude.{◌≡◌, ℕ, Bool, true, ◌+◌, ◌-◌, ◌*◌, ◌/◌, ◌%◌, ◌<◌, ◌≤◌, ◌^◌, ◌&&◌, min, nat_lt, nat_le, [], length, slice_index_or};
+ghost use Rattle.vp_dots.specs.Dots.{dot, span};
 ghost use Rattle.vp_dots.specs.Painting.{Painted};
 ghost use Rattle.vp_dots.specs.Places.{RowsPainted};
 ghost use Rattle.vp_dots.specs.Words.{word_dot};
 ghost use Rattle.vp_dots.specs.declared.Op.TheVariants.{Black};
+ghost use Rattle.vp_page.specs.Lines.{AreTold};
 ghost use Rattle.vp_page.specs.declared.line.TheConstants.{LINE_BYTES, LINE_DOTS};
 ghost use Rattle.vp_page.specs.declared.page.TheConstants.{PAGE_ROWS, PAPER_BYTES, PAPER_DOTS};
 
 use crate::Area;
-use crate::line::{LINE_BYTES, lengthened, same_lines};
+use crate::line::{LINE_BYTES, lengthened, run_from};
 use crate::page::{PAGE_ROWS, PAPER_BYTES, PageBand};
 use crate::words::{or_bytes, or_eight, or_reversed, or_sixteens, or_words};
 use vp_dots::{Op, Small, eight_at, fill_dots, reversed_at, word_at};
@@ -149,6 +150,14 @@ fn or_row(these: &[u8; PAPER_BYTES], row: &mut [u8])
     or_bytes(these, PAPER_BYTES - 8, PAPER_BYTES - 8, row);
 }
 
+/// How many of so many rows, from one on, the page has.
+#[inline(always)]
+fn shown(top: usize, times: usize) -> usize
+    ensures { result ≡ min times (PAGE_ROWS - top) }
+{
+    times.min(PAGE_ROWS.saturating_sub(top))
+}
+
 /// Blackens `times` rows of the page, from one on, where a row is black.
 pub(crate) fn lay_times<A: Small>(
     row: &[u8; PAPER_BYTES],
@@ -160,9 +169,52 @@ pub(crate) fn lay_times<A: Small>(
         RowsPainted PAGE_ROWS Black (λ x y. nat_le top y && (nat_lt (y - top) times && ink x))
         band.old band.new }
 {
-    let shown = times.min(PAGE_ROWS.saturating_sub(top));
-    for i in 0..shown {
+    for i in 0..shown(top, times) {
         or_row(row, band.row_mut(top + i));
+    }
+}
+
+/// Blackens `times` rows of the page, from one on, where a row is black, whose black dots are those of few
+/// bytes.
+fn lay_few<A: Small>(
+    row: &[u8; PAPER_BYTES],
+    first: usize,
+    bytes: usize,
+    times: usize,
+    top: usize,
+    band: &mut PageBand<A>,
+)
+    requires few { bytes ≤ 32 }
+    requires black { (x : ℕ) → dot row.now x ≡ true → span first (first + bytes) (x / 8) ≡ true }
+    ensures { (ink : ℕ → Bool) → ((x : ℕ) → x < PAPER_DOTS → dot row.now x ≡ ink x) →
+        RowsPainted PAGE_ROWS Black (λ x y. nat_le top y && (nat_lt (y - top) times && ink x))
+        band.old band.new }
+{
+    let at = first.min(PAPER_BYTES - 32);
+    for i in 0..shown(top, times) {
+        or_sixteens(row, at, 2, band.row_mut(top + i));
+    }
+}
+
+/// Blackens `times` rows of the page, from one on, where a row is black, whose black dots are those of some
+/// bytes: of few, these alone.
+pub(crate) fn lay_bytes<A: Small>(
+    row: &[u8; PAPER_BYTES],
+    first: usize,
+    bytes: usize,
+    times: usize,
+    top: usize,
+    band: &mut PageBand<A>,
+)
+    requires { (x : ℕ) → dot row.now x ≡ true → span first (first + bytes) (x / 8) ≡ true }
+    ensures { (ink : ℕ → Bool) → ((x : ℕ) → x < PAPER_DOTS → dot row.now x ≡ ink x) →
+        RowsPainted PAGE_ROWS Black (λ x y. nat_le top y && (nat_lt (y - top) times && ink x))
+        band.old band.new }
+{
+    if bytes <= 32 {
+        lay_few(row, first, bytes, times, top, band);
+    } else {
+        lay_times(row, times, top, band);
     }
 }
 
@@ -239,18 +291,20 @@ pub(crate) fn lay_row_left<A: Small>(row: &[u8], area: Area, top: usize, band: &
 /// same are laid at once.
 pub(crate) fn lay_lines_right<A: Small>(
     lines: &[[u8; LINE_BYTES]],
+    same: &[bool],
     area: Area,
     top: usize,
     band: &mut PageBand<A>,
 )
-    requires { top + length lines.now < 2 ^ 32 }
+    requires room { top + length lines.now < 2 ^ 32 }
+    requires told { AreTold lines.now same.now }
     ensures { RowsPainted PAGE_ROWS Black (λ x y. nat_le top y && (nat_lt (y - top) (length lines.now)
         && (nat_le area.x x && (nat_lt (x - area.x) area.dx
         && dot (slice_index_or lines.now (y - top) []) (x - area.x))))) band.old band.new }
 {
     let mut i = 0;
     while i < lines.len() {
-        let times = same_lines(lines, i);
+        let times = run_from(lines, same, i);
         lay_right(&lines[i], times, area, top + i, band);
         i += times;
     }
@@ -260,11 +314,13 @@ pub(crate) fn lay_lines_right<A: Small>(
 /// last one comes first, and those that are the same are laid at once.
 pub(crate) fn lay_lines_left<A: Small>(
     lines: &[[u8; LINE_BYTES]],
+    same: &[bool],
     area: Area,
     top: usize,
     band: &mut PageBand<A>,
 )
-    requires { top + length lines.now < 2 ^ 32 }
+    requires room { top + length lines.now < 2 ^ 32 }
+    requires told { AreTold lines.now same.now }
     ensures { RowsPainted PAGE_ROWS Black (λ x y. nat_le top y && (nat_lt (y - top) (length lines.now)
         && (nat_lt x (area.x + area.dx) && (nat_lt (area.x + area.dx - 1 - x) area.dx
         && dot (slice_index_or lines.now (length lines.now - 1 - (y - top)) [])
@@ -272,7 +328,7 @@ pub(crate) fn lay_lines_left<A: Small>(
 {
     let mut i = 0;
     while i < lines.len() {
-        let times = same_lines(lines, i);
+        let times = run_from(lines, same, i);
         lay_left(
             &lines[i],
             times,

@@ -1,5 +1,5 @@
 //! Where lines change along themselves: at which dots some line isn't as it is eight dots before.
-ghost use Rattle.std.specs.Prelude.{◌≡◌, ℕ, ◌+◌, ◌-◌, ◌*◌, ◌/◌, ◌<◌, ◌≤◌, nat_lt, nat_le, ◌&&◌, false, length, List};
+ghost use Rattle.std.specs.Prelude.{◌≡◌, ℕ, ◌+◌, ◌-◌, ◌*◌, ◌/◌, ◌<◌, ◌≤◌, nat_lt, nat_le, ◌&&◌, false, true, length, List};
 ghost use Rattle.vp_dots.specs.Dots.{dot, span};
 ghost use Rattle.vp_dots.specs.Painting.{Painted};
 ghost use Rattle.vp_dots.specs.declared.Op.TheVariants.{Black};
@@ -10,6 +10,9 @@ use crate::line::LINE_BYTES;
 use crate::words::or_eight;
 use std::simd::Simd;
 use vp_dots::eight_at;
+
+/// So many lines mostly change everywhere, if more of them do.
+const SOME: usize = 16;
 
 /// Blackens the dots of the first eight bytes at which a line isn't as it is eight dots before.
 #[inline(always)]
@@ -50,17 +53,44 @@ fn or_changes(line: &[u8; LINE_BYTES], changes: &mut [u8])
     }
 }
 
-/// A row that is black where some line isn't as it is eight dots before. The last line comes first: mostly it
-/// was written last.
-pub(crate) fn changes_of(lines: &[[u8; LINE_BYTES]]) -> [u8; LINE_BYTES]
-    ensures { (i u : ℕ) → i < length lines.now → 8 ≤ u → u < LINE_DOTS → dot result u ≡ false →
-        line_dot lines.now i u ≡ line_dot lines.now i (u - 8) }
+/// Whether all dots of a row are black.
+fn is_all_black(row: &[u8; LINE_BYTES]) -> bool
+    ensures { result ≡ true → (u : ℕ) → u < LINE_DOTS → dot row.now u ≡ true }
 {
-    let mut changes = [0; LINE_BYTES];
+    for k in 0..LINE_BYTES / 8 {
+        if eight_at(row, 8 * k) != u64::MAX {
+            return false;
+        }
+    }
+    true
+}
+
+/// Blackens the dots of a row at which some line isn't as it is eight dots before. The last line comes first:
+/// mostly it was written last.
+fn with_changes(lines: &[[u8; LINE_BYTES]], before: [u8; LINE_BYTES]) -> [u8; LINE_BYTES]
+    ensures these { (i u : ℕ) → i < length lines.now → 8 ≤ u → u < LINE_DOTS → dot result u ≡ false →
+        line_dot lines.now i u ≡ line_dot lines.now i (u - 8) }
+    ensures before { (u : ℕ) → u < LINE_DOTS → dot result u ≡ false → dot before u ≡ false }
+{
+    let mut changes = before;
     let mut n = lines.len();
     while n > 0 {
         n -= 1;
         or_changes(&lines[n], &mut changes);
     }
     changes
+}
+
+/// A row that is black where some line isn't as it is eight dots before. If some lines change everywhere, no
+/// other is looked at.
+pub(crate) fn changes_of(lines: &[[u8; LINE_BYTES]]) -> [u8; LINE_BYTES]
+    ensures { (i u : ℕ) → i < length lines.now → 8 ≤ u → u < LINE_DOTS → dot result u ≡ false →
+        line_dot lines.now i u ≡ line_dot lines.now i (u - 8) }
+{
+    let some = lines.len().min(SOME);
+    let changes = with_changes(&lines[..some], [0; LINE_BYTES]);
+    if is_all_black(&changes) {
+        return changes;
+    }
+    with_changes(&lines[some..], changes)
 }

@@ -9,6 +9,7 @@ ghost use Rattle.vp_dots.specs.Painting.{Painted};
 ghost use Rattle.vp_dots.specs.Places.{RowsPainted};
 ghost use Rattle.vp_dots.specs.declared.Op.TheVariants.{Black, White};
 ghost use Rattle.vp_page.specs.Areas.{holds};
+ghost use Rattle.vp_page.specs.Lines.{AreTold};
 ghost use Rattle.vp_page.specs.Runs.{along_of};
 
 use crate::across::AT_ONCE;
@@ -60,7 +61,7 @@ pub(crate) fn lengthened(row: &[u8]) -> [u8; LINE_BYTES]
 }
 
 /// How many lines from one on are as the first of them.
-pub(crate) fn same_lines(lines: &[[u8; LINE_BYTES]], from: usize) -> usize
+fn same_lines(lines: &[[u8; LINE_BYTES]], from: usize) -> usize
     requires { from < length lines.now }
     ensures some { 0 < result }
     ensures within { from + result ≤ length lines.now }
@@ -69,6 +70,26 @@ pub(crate) fn same_lines(lines: &[[u8; LINE_BYTES]], from: usize) -> usize
 {
     let mut n = 1;
     while from + n < lines.len() && lines[from + n] == lines[from] {
+        n += 1;
+    }
+    n
+}
+
+/// How many lines from one on show the same: those of which it is told that they are the same as the one
+/// before or, where nothing is told of any, those that are.
+pub(crate) fn run_from(lines: &[[u8; LINE_BYTES]], same: &[bool], from: usize) -> usize
+    requires inside { from < length lines.now }
+    requires told { AreTold lines.now same.now }
+    ensures some { 0 < result }
+    ensures within { from + result ≤ length lines.now }
+    ensures same { (i u : ℕ) → i < result →
+        dot (slice_index_or lines.now (from + i) []) u ≡ dot (slice_index_or lines.now from []) u }
+{
+    if same.is_empty() {
+        return same_lines(lines, from);
+    }
+    let mut n = 1;
+    while from + n < lines.len().min(same.len()) && same[from + n] {
         n += 1;
     }
     n

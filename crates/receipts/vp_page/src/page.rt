@@ -97,7 +97,7 @@ impl<A: Small> Model for Page<A> {
 
 impl<A: Small> Page<A> {
     ghost use Rattle.vp_page.specs.Layers.{Layer, Laid, Wiped, CountedAnew, lines_mark, page_dot};
-    ghost use Rattle.vp_page.specs.Lines.{line_dot};
+    ghost use Rattle.vp_page.specs.Lines.{line_dot, AreTold};
     ghost use Rattle.vp_page.specs.Pages.{HasPage};
     ghost use Rattle.vp_page.specs.Runs.{AreRuns, across, between};
     ghost use Rattle.vp_dots.specs.declared.square.TheConstants.{SIDE};
@@ -315,19 +315,22 @@ impl<A: Small> Page<A> {
     }
 
     /// Lays at most as many rows of dots as are laid at once, one below the other, the first at the depth v
-    /// of an area, as `lay_row` lays each.
+    /// of an area, as `lay_row` lays each. `same` tells of rows that they show what the one above does; where
+    /// it is empty, the rows are compared.
     pub fn lay_lines(
         &mut self,
         area: Area,
         direction: Direction,
         v: u32,
         lines: &[[u8; LINE_BYTES]],
+        same: &[bool],
     )
-        requires { length lines.now ≤ AT_ONCE }
+        requires few { length lines.now ≤ AT_ONCE }
+        requires told { AreTold lines.now same.now }
         ensures { (layers : List Layer) → HasPage layers self.old →
             HasPage (Laid (lines_mark area direction v lines.now) ∷ layers) self.new }
     {
-        self.lay_long(area, direction, v, lines, LINE_DOTS);
+        self.lay_long(area, direction, v, lines, same, LINE_DOTS);
     }
 
     /// Lays rows as `lay_lines` does, which are white from dot `long` on.
@@ -337,9 +340,11 @@ impl<A: Small> Page<A> {
         direction: Direction,
         v: u32,
         lines: &[[u8; LINE_BYTES]],
+        same: &[bool],
         long: usize,
     )
         requires few { length lines.now ≤ AT_ONCE }
+        requires told { AreTold lines.now same.now }
         requires white { (i u : ℕ) → long ≤ u → line_dot lines.now i u ≡ false }
         ensures { (layers : List Layer) → HasPage layers self.old →
             HasPage (Laid (lines_mark area direction v lines.now) ∷ layers) self.new }
@@ -355,21 +360,38 @@ impl<A: Small> Page<A> {
             Direction::BottomToTop => {
                 self.laid = self.laid.with(Rows::of(area));
                 self.rows_laid = count;
-                lay_lines(&lines[..shown], long, area, Way::Up, v, &mut self.band)
+                lay_lines(
+                    &lines[..shown],
+                    same,
+                    long,
+                    area,
+                    Way::Up,
+                    v,
+                    &mut self.band,
+                )
             }
             Direction::TopToBottom => {
                 self.laid = self.laid.with(Rows::of(area));
                 self.rows_laid = count;
-                lay_lines(&lines[..shown], long, area, Way::Down, v, &mut self.band)
+                lay_lines(
+                    &lines[..shown],
+                    same,
+                    long,
+                    area,
+                    Way::Down,
+                    v,
+                    &mut self.band,
+                )
             }
-            Direction::LeftToRight => self.lay_lines_right(area, v, lines),
-            Direction::RightToLeft => self.lay_lines_left(area, v, lines),
+            Direction::LeftToRight => self.lay_lines_right(area, v, lines, same),
+            Direction::RightToLeft => self.lay_lines_left(area, v, lines, same),
         }
     }
 
     /// Lays rows as `lay_lines` does, which run to the right.
-    fn lay_lines_right(&mut self, area: Area, v: u32, lines: &[[u8; LINE_BYTES]])
+    fn lay_lines_right(&mut self, area: Area, v: u32, lines: &[[u8; LINE_BYTES]], same: &[bool])
         requires few { length lines.now ≤ AT_ONCE }
+        requires told { AreTold lines.now same.now }
         requires deep { v < area.dy }
         ensures { (layers : List Layer) → HasPage layers self.old →
             HasPage (Laid (lines_mark area LeftToRight v lines.now) ∷ layers) self.new }
@@ -381,12 +403,13 @@ impl<A: Small> Page<A> {
             to: top + shown,
         });
         self.rows_laid = self.rows_laid.saturating_add(shown as u64);
-        lay_lines_right(&lines[..shown], area, top, &mut self.band);
+        lay_lines_right(&lines[..shown], same, area, top, &mut self.band);
     }
 
     /// Lays rows as `lay_lines` does, which run to the left.
-    fn lay_lines_left(&mut self, area: Area, v: u32, lines: &[[u8; LINE_BYTES]])
+    fn lay_lines_left(&mut self, area: Area, v: u32, lines: &[[u8; LINE_BYTES]], same: &[bool])
         requires few { length lines.now ≤ AT_ONCE }
+        requires told { AreTold lines.now same.now }
         requires deep { v < area.dy }
         ensures { (layers : List Layer) → HasPage layers self.old →
             HasPage (Laid (lines_mark area RightToLeft v lines.now) ∷ layers) self.new }
@@ -398,7 +421,7 @@ impl<A: Small> Page<A> {
             to: top + shown,
         });
         self.rows_laid = self.rows_laid.saturating_add(shown as u64);
-        lay_lines_left(&lines[..shown], area, top, &mut self.band);
+        lay_lines_left(&lines[..shown], same, area, top, &mut self.band);
     }
 
     /// Lays an image no wider than the longest line, with its top at a depth of an area. Dots past the line
@@ -454,9 +477,10 @@ impl<A: Small> Page<A> {
         way: Way,
         lines: &[[u8; LINE_BYTES]],
         begins: &Begins,
-        long: u32,
+        long: usize,
     )
         requires few { length lines.now ≤ SIDE }
+        requires long { long ≤ LINE_DOTS }
         requires runs { AreRuns begins.now (length lines.now) area.dx }
         ensures { (ink : ℕ → ℕ → Bool) → ((i u w : ℕ) → i < length lines.now →
             slice_index begins.now i ≤ w → w < slice_index begins.now (i + 1) →
@@ -493,13 +517,13 @@ impl<A: Small> Page<A> {
         while line < high {
             let n = draw_runs(ink, line, high, top, &mut room, &mut begins);
             if n > 0 {
-                self.lay_runs(area, way, &room[..n], &begins, width);
+                self.lay_runs(area, way, &room[..n], &begins, width as usize);
                 line = begins[n] - top;
             } else {
                 let few = alone(ink, line, high);
                 let lines = &mut room[..few as usize];
                 draw_lines(ink, line, lines);
-                self.lay_long(area, direction, top + line, lines, width as usize);
+                self.lay_long(area, direction, top + line, lines, &[], width as usize);
                 line += few;
             }
         }

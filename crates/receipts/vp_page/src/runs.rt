@@ -9,15 +9,17 @@ ghost use Rattle.vp_dots.specs.Places.{RowsPainted};
 ghost use Rattle.vp_dots.specs.declared.Op.TheVariants.{Black};
 ghost use Rattle.vp_dots.specs.declared.square.TheConstants.{SIDE};
 ghost use Rattle.vp_page.specs.Lines.{line_dot};
-ghost use Rattle.vp_page.specs.Runs.{AreRuns, across_dot, along_of, depth_of, topmost};
+ghost use Rattle.vp_page.specs.Runs.{AreRuns, IsShade, across_dot, along_of, depth_of, topmost};
 ghost use Rattle.vp_page.specs.declared.line.TheConstants.{LINE_DOTS};
 ghost use Rattle.vp_page.specs.declared.page.TheConstants.{PAGE_ROWS, PAPER_DOTS};
 
 use crate::across::square_of;
-use crate::along::lay_times;
+use crate::along::lay_bytes;
 use crate::area::{Area, Way};
+use crate::changes::changes_of;
 use crate::line::{LINE_BYTES, drawn};
-use crate::page::{PAPER_BYTES, PageBand};
+use crate::page::{PAGE_ROWS, PAPER_BYTES, PageBand};
+use crate::still::{Shade, still_from};
 use vp_dots::{Ink, NARROW, Op, SIDE, Small, fill_dots, first_dots, paint_narrow, turned_square};
 
 /// The depths at which lines begin, and behind them that at which the last one ends.
@@ -162,12 +164,41 @@ pub(crate) fn top_of(area: Area, way: Way, first: usize, dots: usize) -> usize
     }
 }
 
+/// Lays a stretch of lines along which each shows its dot of a word: the rows of the page there are one row.
+fn lay_word<A: Small>(
+    word: u64,
+    at: usize,
+    rows: usize,
+    begins: &Begins,
+    n: usize,
+    area: Area,
+    way: Way,
+    band: &mut PageBand<A>,
+)
+    requires runs { AreRuns begins.now n area.dx }
+    requires long { at + rows ≤ area.dy }
+    ensures { (ink : ℕ → ℕ → Bool) → ((i u w : ℕ) → i < n → at ≤ u → u < at + rows →
+        slice_index begins.now i ≤ w → w < slice_index begins.now (i + 1) → word_dot word i ≡ ink u w) →
+        RowsPainted PAGE_ROWS Black (λ x y. span at (at + rows) (along_of area way y)
+        && across_dot area way (slice_index begins.now 0) (slice_index begins.now n) ink x y)
+        band.old band.new }
+{
+    if word == 0 {
+        return;
+    }
+    let row = spread(word, begins, n, area, way);
+    let (left, right) = columns(area, way, begins[0], begins[n]);
+    let (first, bytes) = (left as usize / 8, (right - left) as usize / 8 + 2);
+    let top = top_of(area, way, at, rows);
+    lay_bytes(&row, first, bytes, rows, top, band);
+}
+
 /// Lays the first words of a square, each along the rows of the page at one place of the lines: the first at
 /// place `at`.
-pub(crate) fn lay_words<A: Small>(
+fn lay_words<A: Small>(
     words: &[u64; SIDE],
-    at: u32,
-    rows: u32,
+    at: usize,
+    rows: usize,
     begins: &Begins,
     n: usize,
     area: Area,
@@ -183,14 +214,40 @@ pub(crate) fn lay_words<A: Small>(
         && across_dot area way (slice_index begins.now 0) (slice_index begins.now n) ink x y)
         band.old band.new }
 {
-    let rows = rows as usize;
     let mut j = 0;
     while j < rows {
         let times = alike(words, j, rows);
-        let row = spread(words[j], begins, n, area, way);
-        let top = top_of(area, way, at as usize + j, times);
-        lay_times(&row, times, top, band);
+        lay_word(words[j], at + j, times, begins, n, area, way, band);
         j += times;
+    }
+}
+
+/// The dots of an area's lines that fall on the page: from one on and before another.
+pub(crate) fn on_page(area: Area, way: Way) -> (usize, usize)
+    ensures inside { result.1 ≤ area.dy }
+    ensures all { (y : ℕ) → y < PAGE_ROWS → span area.y (area.y + area.dy) y ≡ true →
+        span result.0 result.1 (along_of area way y) ≡ true }
+    ensures page { (u n : ℕ) → 0 < n → result.0 ≤ u → u + n ≤ result.1 →
+        topmost area way u n + n ≤ PAGE_ROWS }
+{
+    let (top, high) = (area.y as usize, area.dy as usize);
+    match way {
+        Way::Up => ((top + high).saturating_sub(PAGE_ROWS), high),
+        Way::Down => (0, PAGE_ROWS.saturating_sub(top).min(high)),
+    }
+}
+
+/// A word of what lines show at one place, where their shade is known.
+fn word_of(lines: &[[u8; LINE_BYTES]], at: usize, shade: Shade) -> u64
+    requires few { length lines.now ≤ SIDE }
+    requires near { at < 2 ^ 62 }
+    requires shade { IsShade lines.now at shade }
+    ensures { (i : ℕ) → i < length lines.now → word_dot result i ≡ line_dot lines.now i at }
+{
+    match shade {
+        Shade::White => 0,
+        Shade::Black => u64::MAX,
+        Shade::Mixed => turned_square(&square_of(lines, at, Way::Up))[0],
     }
 }
 
@@ -199,31 +256,34 @@ pub(crate) fn lay_words<A: Small>(
 pub(crate) fn lay_runs<A: Small>(
     lines: &[[u8; LINE_BYTES]],
     begins: &Begins,
-    long: u32,
+    long: usize,
     area: Area,
     way: Way,
     band: &mut PageBand<A>,
 )
     requires few { length lines.now ≤ SIDE }
+    requires long { long ≤ LINE_DOTS }
     requires runs { AreRuns begins.now (length lines.now) area.dx }
     ensures { (ink : ℕ → ℕ → Bool) → ((i u w : ℕ) → i < length lines.now → slice_index begins.now i ≤ w →
         w < slice_index begins.now (i + 1) → line_dot lines.now i u ≡ ink u w) →
         RowsPainted PAGE_ROWS Black (across_dot area way (slice_index begins.now 0)
         (slice_index begins.now (length lines.now)) (λ u w. nat_lt u long && ink u w)) band.old band.new }
 {
-    let high = u32::from(area.dy).min(long);
-    for k in 0..high.div_ceil(64) {
-        let at = 64 * k;
-        let square = turned_square(&square_of(lines, at as usize, Way::Up));
-        lay_words(
-            &square,
-            at,
-            (high - at).min(64),
-            begins,
-            lines.len(),
-            area,
-            way,
-            band,
-        );
+    let n = lines.len();
+    let (from, below) = on_page(area, way);
+    let end = below.min(long);
+    let changes = changes_of(lines);
+    let mut at = from;
+    while at < end {
+        if let Some((shade, rows)) = still_from(lines, &changes, at, end) {
+            let word = word_of(lines, at, shade);
+            lay_word(word, at, rows, begins, n, area, way, band);
+            at += rows;
+        } else {
+            let rows = (end - at).min(SIDE);
+            let square = turned_square(&square_of(lines, at, Way::Up));
+            lay_words(&square, at, rows, begins, n, area, way, band);
+            at += rows;
+        }
     }
 }

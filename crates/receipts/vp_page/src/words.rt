@@ -158,27 +158,6 @@ pub(crate) fn or_sixteens(bytes: &[u8], i: usize, n: usize, row: &mut [u8])
     }
 }
 
-/// Blackens rows of the page, from one on, where one row is black, whose black dots are those of few bytes.
-pub(crate) fn lay_same<A: Small>(
-    row: &[u8; PAPER_BYTES],
-    first: usize,
-    bytes: usize,
-    h: usize,
-    top: usize,
-    band: &mut PageBand<A>,
-)
-    requires few { bytes ≤ 32 }
-    requires black { (x : ℕ) → dot row.now x ≡ true → span first (first + bytes) (x / 8) ≡ true }
-    requires room { top + h ≤ PAGE_ROWS }
-    ensures { (ink : ℕ → Bool) → ((x : ℕ) → x < PAPER_DOTS → dot row.now x ≡ ink x) →
-        RowsPainted PAGE_ROWS Black (λ x y. nat_le top y && (nat_lt (y - top) h && ink x)) band.old band.new }
-{
-    let at = first.min(PAPER_BYTES - 32);
-    for i in 0..h {
-        or_sixteens(row, at, 2, band.row_mut(top + i));
-    }
-}
-
 /// The dots of a word from one on that half a word has room for.
 #[inline(always)]
 fn half_from(word: u64, skip: u32) -> u64

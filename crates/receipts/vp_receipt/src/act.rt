@@ -220,9 +220,10 @@ fn lay_line<A: Small>(s: &Settings, bitmap: &Bitmap<A>, page: &mut Page<A>)
     ensures { (dots : ℕ → ℕ → Bool) (layers : List Layer) → HasRows s.now bitmap.now dots →
         HasPage layers page.old → HasPage (Laid (mark_of s.now.page s.now.height dots) ∷ layers) page.new }
 {
-    let rows = bitmap.lowest_rows(usize::from(s.height));
+    let high = usize::from(s.height);
+    let (rows, same) = (bitmap.lowest_rows(high), bitmap.same_rows(high));
     let top = s.page.vertical as u32;
-    page.lay_lines(s.page.area, s.page.direction, top, rows);
+    page.lay_lines(s.page.area, s.page.direction, top, rows, same);
 }
 
 /// Lays the line if it is open. The rows that this item lays and wipes are counted anew.

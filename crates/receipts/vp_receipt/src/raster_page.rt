@@ -145,7 +145,7 @@ fn lay_many<A: Small>(
         let from = AT_ONCE * k;
         let lines = lines_from(raster.scale, bytes, wide, from, rows);
         let few = (high - from).min(AT_ONCE);
-        page.lay_lines(p.area, p.direction, top + from as u32, &lines[..few]);
+        page.lay_lines(p.area, p.direction, top + from as u32, &lines[..few], &[]);
     }
 }
 

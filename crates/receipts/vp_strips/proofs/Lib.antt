@@ -8,3 +8,4 @@ pub mod QrImages
 pub mod Doubling
 pub mod Magnified
 pub mod Blackening
+pub mod SameRows

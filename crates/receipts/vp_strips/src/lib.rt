@@ -1,8 +1,9 @@
 //! What a receipt printer puts out: strips of rows across the paper, byte by byte.
 //!
-//! `paint` knows the bitmap of a line, `barcode`, `qr` and `symbol` a symbol, `raster_row` a row of a raster,
-//! and `canvas` all that strips are painted from. `strip` knows the rows of one, `many_rows` many of them at
-//! a call, `lines` the bytes of the line that is put out, and `job` what is still to come.
+//! `paint` knows the bitmap of a line, `same` which of its rows are alike, `barcode`, `qr` and `symbol` a
+//! symbol, `raster_row` a row of a raster, and `canvas` all that strips are painted from. `strip` knows the
+//! rows of one, `many_rows` many of them at a call, `lines` the bytes of the line that is put out, and `job`
+//! what is still to come.
 #![tactic(auto, using(vp_dots::proofs::Handles::list_small))]
 
 mod barcode;
@@ -13,6 +14,7 @@ mod many_rows;
 mod paint;
 mod qr;
 mod raster_row;
+mod same;
 mod strip;
 mod symbol;
 

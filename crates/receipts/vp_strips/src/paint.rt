@@ -6,15 +6,17 @@ ghost use Rattle.vp_dots.specs.Words.{word_dot};
 ghost use Rattle.vp_dots.specs.Painting.{Painted};
 ghost use Rattle.vp_dots.specs.Places.{placed, words_dot, RowsPainted};
 ghost use Rattle.vp_dots.specs.declared.Op.TheVariants.{Black};
+ghost use Rattle.vp_page.specs.Lines.{AreTold};
 ghost use Rattle.vp_page.specs.declared.line.TheConstants.{LINE_BYTES, LINE_DOTS};
 ghost use Rattle.vp_receipt_settings.specs.declared.text.TheConstants.{LINE_ROWS};
 ghost use Rattle.vp_dots.specs.declared.word.TheConstants.{NARROW};
 ghost use Rattle.vp_receipt_settings.specs.Line.{Placed};
 ghost use Rattle.vp_strips.specs.LineDots.{HasDots, ink_placed};
 
+use crate::same::{Same, part_rows};
 use std::alloc::{AllocError, Global};
 use std::marker::Model;
-use std::simd::u8x64;
+use std::simd::Simd;
 use vp_dots::{
     Band, Ink, NARROW, Op, Ready, Small, WORDS, fill_dots, first_dots, paint_at, paint_narrow,
 };
@@ -28,17 +30,23 @@ pub struct Bitmap<A: Small = Global> {
     band: Band<LINE_BYTES, LINE_ROWS, A>,
     /// How many of the lowest rows may have a black dot.
     used: usize,
+    /// Which rows are the same as the one above, while it is known: of characters that are all magnified
+    /// upward.
+    same: Same,
+    known: bool,
+    /// Whether some row isn't.
+    parted: bool,
 }
 
 impl<A: Small> Model for Bitmap<A> {
-    ghost use Rattle.std.specs.Prelude.{ℕ, List};
-    ghost use Rattle.vp_strips.specs.LineDots.{IsWhiteAbove};
+    ghost use Rattle.std.specs.Prelude.{◌≡◌, ℕ, List, true};
+    ghost use Rattle.vp_strips.specs.LineDots.{AreSame, IsWhiteAbove};
 
     ghost Value = { List (List ℕ) };
 
     ghost view = { λ s. s.band };
 
-    ghost invariant = { λ s. IsWhiteAbove s.used s.band };
+    ghost invariant = { λ s. IsWhiteAbove s.used s.band × (s.known ≡ true → AreSame s.same s.band) };
 }
 
 /// Paints the first `high` words, each of few dots, one on each row from `top` on.
@@ -175,26 +183,57 @@ fn paint_dots<A: Small>(
     paint_part::<6, A>(words, 6, wm, high, times, at + 6 * wm as usize, top, band);
 }
 
-/// Blackens 64 bytes of a row, from byte i on.
+/// Blackens `M` bytes of a row, from byte i on.
 #[inline(always)]
-fn blacken_block(i: usize, row: &mut [u8])
-    requires { i + 64 ≤ length row.old }
-    ensures { Painted Black (λ d. span i (i + 64) (d / 8)) row.old row.new }
+fn blacken_block<const M: usize>(i: usize, row: &mut [u8])
+    requires lanes { M ≤ 64 }
+    requires room { i + M ≤ length row.old }
+    ensures { Painted Black (λ d. span i (i + M) (d / 8)) row.old row.new }
 {
-    u8x64::splat(255).copy_to_slice(&mut row[i..]);
+    Simd::<u8, M>::splat(255).copy_to_slice(&mut row[i..]);
 }
 
-/// Blackens the bytes of a row from one on and before another, of which there are at least 64, by blocks: the
-/// last one may lie over the one before.
+/// Blackens the bytes of a row from one on and before another, as many as `N` blocks have and fewer than one
+/// more: the last sixteen may lie over some before.
 #[inline(always)]
-fn blacken_bytes(from: usize, to: usize, row: &mut [u8])
-    requires many { from + 64 ≤ to }
+fn blacken_bytes<const N: usize>(from: usize, to: usize, row: &mut [u8])
+    requires blocks { N ≤ 3 }
+    requires some { 0 < N }
+    requires many { from + 64 * N ≤ to }
     requires room { to ≤ LINE_BYTES }
     requires row { length row.old ≡ LINE_BYTES }
     ensures { Painted Black (λ d. span from to (d / 8)) row.old row.new }
 {
-    for k in 0..(to - from).div_ceil(64) {
-        blacken_block((from + 64 * k).min(to - 64), row);
+    for k in 0..N {
+        blacken_block::<64>(from + 64 * k, row);
+    }
+    let rest = from + 64 * N;
+    for k in 0..(to - rest).div_ceil(16) {
+        blacken_block::<16>((rest + 16 * k).min(to - 16), row);
+    }
+}
+
+/// Blackens the dots before `end` of each of `high` rows, from byte `first` and row `top` on, where they are
+/// whole bytes, and many: of `N` blocks or more.
+#[inline(always)]
+fn blacken_blocks<const N: usize, A: Small>(
+    first: usize,
+    end: usize,
+    high: usize,
+    top: usize,
+    band: &mut Band<LINE_BYTES, LINE_ROWS, A>,
+)
+    requires room { top + high ≤ LINE_ROWS }
+    requires whole { min end LINE_DOTS % 8 ≡ 0 }
+    requires blocks { N ≤ 3 }
+    requires some { 0 < N }
+    requires many { first + 64 * N ≤ min end LINE_DOTS / 8 }
+    ensures { RowsPainted LINE_ROWS Black (λ x k. span top (top + high) k && span (8 * first) end x)
+        band.old band.new }
+{
+    let last = end.min(LINE_DOTS) / 8;
+    for i in 0..high {
+        blacken_bytes::<N>(first, last, band.row_mut(top + i));
     }
 }
 
@@ -214,8 +253,10 @@ fn blacken_whole<A: Small>(
         band.old band.new }
 {
     let last = end.min(LINE_DOTS) / 8;
-    for i in 0..high {
-        blacken_bytes(first, last, band.row_mut(top + i));
+    match (last - first) / 64 {
+        1 => blacken_blocks::<1, A>(first, end, high, top, band),
+        2 => blacken_blocks::<2, A>(first, end, high, top, band),
+        _ => blacken_blocks::<3, A>(first, end, high, top, band),
     }
 }
 
@@ -264,6 +305,20 @@ fn blacken<A: Small>(
     blacken_whole(first, end, high, top, band);
     paint_alike(first_dots((8 * first - at) as u32), high, at, top, band);
     paint_alike(first_dots((to - end) as u32), high, end, top, band);
+}
+
+/// Paints ink at a place.
+#[inline(always)]
+fn paint_ink<I: Ink, A: Small>(
+    ink: &I,
+    at: u16,
+    top: usize,
+    band: &mut Band<LINE_BYTES, LINE_ROWS, A>,
+)
+    requires { top ≤ LINE_ROWS }
+    ensures { RowsPainted LINE_ROWS Black (placed (pos at) (pos top) (I.ink_at ink.now)) band.old band.new }
+{
+    paint_at(ink, Op::Black, i64::from(at), top as i64, band);
 }
 
 /// Paints a character at a place: its rows, each drawn once however often it is printed, and what is black
@@ -319,7 +374,13 @@ impl<A: Small> Bitmap<A> {
         ensures { IfOk result (λ bitmap. HasDots [] bitmap) }
     {
         let band = Band::new(alloc)?;
-        Ok(Bitmap { band, used: 0 })
+        Ok(Bitmap {
+            band,
+            used: 0,
+            same: [true; LINE_ROWS],
+            known: true,
+            parted: false,
+        })
     }
 
     /// Begins a line.
@@ -328,6 +389,11 @@ impl<A: Small> Bitmap<A> {
     {
         self.band.clear_rows(LINE_ROWS - self.used, LINE_ROWS);
         self.used = 0;
+        self.known = true;
+        if self.parted {
+            self.same = [true; LINE_ROWS];
+            self.parted = false;
+        }
     }
 
     /// Puts ink into the line at a position, on its lowest rows.
@@ -338,8 +404,9 @@ impl<A: Small> Bitmap<A> {
     {
         let (_, high) = ink.size();
         let top = LINE_ROWS - high as usize;
-        paint_at(ink, Op::Black, i64::from(at), top as i64, &mut self.band);
+        paint_ink(ink, at, top, &mut self.band);
         self.used = self.used.max(high as usize);
+        self.known = false;
     }
 
     /// Puts a character into the line at a position, on its lowest rows.
@@ -353,8 +420,15 @@ impl<A: Small> Bitmap<A> {
     {
         let (_, high) = cell.size();
         let high = high as usize;
-        paint_cell(cell, at, LINE_ROWS - high, &mut self.band);
+        let top = LINE_ROWS - high;
+        paint_cell(cell, at, top, &mut self.band);
         self.used = self.used.max(high);
+        if cell.style.hm > 1 {
+            part_rows(cell.font, cell.style, top, &mut self.same);
+            self.parted = true;
+        } else {
+            self.known = false;
+        }
     }
 
     /// The bytes of a row.
@@ -374,6 +448,20 @@ impl<A: Small> Bitmap<A> {
             slice_index_or result.now i [] ≡ slice_index_or self.now (LINE_ROWS - high + i) [] }
     {
         self.band.rows(LINE_ROWS - high, LINE_ROWS)
+    }
+
+    /// Which of the lowest rows are known to be the same as the one above, if that is known of any.
+    pub fn same_rows(&self, high: usize) -> &[bool]
+        requires { high ≤ LINE_ROWS }
+        ensures { (rows : List (List ℕ)) → length rows ≡ high → ((i : ℕ) → i < high →
+            slice_index_or rows i [] ≡ slice_index_or self.now (LINE_ROWS - high + i) []) →
+            AreTold rows result.now }
+    {
+        if self.known {
+            &self.same[LINE_ROWS - high..]
+        } else {
+            &[]
+        }
     }
 
     /// The bytes of memory that it holds, on the heap.

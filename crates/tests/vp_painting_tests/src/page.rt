@@ -206,6 +206,16 @@ fn many_rows() -> [[u8; LINE_BYTES]; AT_ONCE] {
     rows
 }
 
+/// Rows of which each of 24 stands eight times, as those of a large character do.
+fn large_rows() -> [[u8; LINE_BYTES]; AT_ONCE] {
+    let few = many_rows();
+    let mut rows = [[0; LINE_BYTES]; AT_ONCE];
+    for i in 0..AT_ONCE {
+        rows[i] = few[i / 8];
+    }
+    rows
+}
+
 /// How many dots a line of an area has, and how many lines there are.
 fn extent(area: Area, direction: Direction) -> (u32, u32) {
     let (wide, high) = (u32::from(area.dx), u32::from(area.dy));
@@ -293,20 +303,19 @@ fn lay_each(page: &mut Page, area: Area, direction: Direction, v: u32, lines: &[
     }
 }
 
-/// So many lines are laid as dot by dot, at once and one by one.
+/// Lines are laid as dot by dot, at once and one by one.
 fn lays_lines(
     rt: &impl Abort,
     alloc: Global,
     area: Area,
     direction: Direction,
     v: u32,
-    count: usize,
+    lines: &[[u8; LINE_BYTES]],
 ) -> Result<(), Fail> {
-    let rows = many_rows();
-    let lines = &rows[..count.min(AT_ONCE)];
+    let lines = &lines[..lines.len().min(AT_ONCE)];
     let want = painted(alloc, area, direction, v, lines)?;
     let mut at_once = Page::new(alloc)?;
-    at_once.lay_lines(area, direction, v, lines);
+    at_once.lay_lines(area, direction, v, lines, &[]);
     let mut one_by_one = Page::new(alloc)?;
     lay_each(&mut one_by_one, area, direction, v, lines);
     let found = [
@@ -317,12 +326,12 @@ fn lays_lines(
     Ok(())
 }
 
-/// So many rows at once in all places and directions.
-fn lays_everywhere(rt: &impl Abort, alloc: Global, count: usize) -> Result<(), Fail> {
+/// Lines at once in all places and directions.
+fn lays_everywhere(rt: &impl Abort, alloc: Global, lines: &[[u8; LINE_BYTES]]) -> Result<(), Fail> {
     for area in &AREAS {
         for direction in &DIRECTIONS {
             for v in &DEPTHS {
-                lays_lines(rt, alloc, *area, *direction, *v, count)?;
+                lays_lines(rt, alloc, *area, *direction, *v, lines)?;
             }
         }
     }
@@ -331,27 +340,37 @@ fn lays_everywhere(rt: &impl Abort, alloc: Global, count: usize) -> Result<(), F
 
 #[test]
 fn one_line(rt: HostRuntime) -> Result<(), Fail> {
-    lays_everywhere(&rt, rt.alloc(), 1)
+    lays_everywhere(&rt, rt.alloc(), &many_rows()[..1])
 }
 
 #[test]
 fn few_lines(rt: HostRuntime) -> Result<(), Fail> {
-    lays_everywhere(&rt, rt.alloc(), 32)
+    lays_everywhere(&rt, rt.alloc(), &many_rows()[..32])
 }
 
 #[test]
 fn more_lines_than_few(rt: HostRuntime) -> Result<(), Fail> {
-    lays_everywhere(&rt, rt.alloc(), 33)
+    lays_everywhere(&rt, rt.alloc(), &many_rows()[..33])
 }
 
 #[test]
 fn more_lines_than_two_squares(rt: HostRuntime) -> Result<(), Fail> {
-    lays_everywhere(&rt, rt.alloc(), 136)
+    lays_everywhere(&rt, rt.alloc(), &many_rows()[..136])
 }
 
 #[test]
 fn as_many_lines_as_go(rt: HostRuntime) -> Result<(), Fail> {
-    lays_everywhere(&rt, rt.alloc(), AT_ONCE)
+    lays_everywhere(&rt, rt.alloc(), &many_rows())
+}
+
+#[test]
+fn lines_that_are_the_same_in_runs(rt: HostRuntime) -> Result<(), Fail> {
+    lays_everywhere(&rt, rt.alloc(), &large_rows())
+}
+
+#[test]
+fn some_of_them(rt: HostRuntime) -> Result<(), Fail> {
+    lays_everywhere(&rt, rt.alloc(), &large_rows()[3..149])
 }
 
 /// A line of so many bytes is laid as dot by dot, from column `x` on.

@@ -1,8 +1,6 @@
-use Rattle.std.proofs.Common.{arith, sym, take, drop, length-drop, length, ◌≡◌, ◌+◌, ◌-◌, refl, ap, ◌∙◌, eq-eqb}
+use Rattle.std.proofs.Common.{arith, length, ◌≡◌, ◌+◌, ◌-◌, ap, ◌∙◌, eq-eqb}
 use Rattle.std.proofs.lemmas.Bool.{ne_eqb}
-use Rattle.std.proofs.lemmas.List.{take_all}
-use Rattle.vp_glyph.specs.Blocks.{pieces, first, others, last_blank}
-use Rattle.vp_glyph.proofs.Plain.{AreCells, cells_enough, no_blank, first_behind, others_behind}
+use Rattle.vp_glyph.specs.Blocks.{pieces, first, last_blank}
 use Rattle.vp_glyph.proofs.Pieces.{scan_more, behind_all, blank_more, cell_is}
 use Rattle.vp_glyph.proofs.lines.measure.Goals as goal
 use Rattle.vp_glyph.proofs.lines.measure.Goals.{then-b-eq32, else-b-eq32, then-b-eq32-2, else-b-eq32-2}
@@ -33,18 +31,3 @@ returns-clause-blank c =
       | else-b-eq32-2 w ↦ rw (ne_eqb c.in-Some-next_cell.b 32 w.if-b-eq32-2.false) w.blank-is
     ])
     ∙ ap (λ n. last_blank n (first (pieces c.args.text.now))) same
-
-pub returns-then-is_plain : goal.returns-then-is_plain
-returns-then-is_plain c =
-    let plain = c.if-is_plain.ensures refl in
-    let cells : AreCells (c.args.most + 1) c.args.text.now = (omega (arith, plain.0), λ j l. (plain.1 j (omega arith)).1) in
-    let fewer : AreCells c.args.most c.args.text.now = (omega (arith, plain.0), λ j l. (plain.1 j (omega arith)).1) in
-    let far = length-drop c.args.most c.args.text.now in
-    let whole : take (length c.args.text.now - c.args.most) (drop c.args.most c.args.text.now) ≡ drop c.args.most c.args.text.now = take_all _ (drop c.args.most c.args.text.now) (omega (arith, far)) in
-    record {
-      cells = (let enough = cells_enough (c.args.most + 1) c.args.text.now cells in omega (arith, enough));
-      blank = sym (no_blank c.args.most c.args.text.now cells (λ j l. (plain.1 j l).0)) ∙ ap (λ n. last_blank n (first (pieces c.args.text.now))) (omega arith);
-      within = omega arith;
-      first = ap (λ t. first (pieces t)) whole ∙ first_behind c.args.most c.args.text.now fewer ∙ ap (λ n. drop n (first (pieces c.args.text.now))) (omega arith);
-      others = ap (λ t. others (pieces t)) whole ∙ others_behind c.args.most c.args.text.now fewer;
-    }

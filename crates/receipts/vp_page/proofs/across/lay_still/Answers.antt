@@ -8,8 +8,8 @@ use Rattle.vp_page.proofs.Squares.{nothing_painted}
 use Rattle.vp_page.proofs.Stretches.{narrow}
 use Rattle.vp_page.proofs.across.lay_still.Goals as goal
 
-pub lay_same-requires-clause-black : goal.lay_same-requires-clause-black
-lay_same-requires-clause-black g c = λ x e.
+pub lay_bytes-requires : goal.lay_bytes-requires
+lay_bytes-requires g c = λ x e.
     let a = c.args.area in
     let lines = c.args.lines.now in
     let v = c.args.v in
@@ -25,4 +25,4 @@ returns-then-is_white g c = nothing_painted _ _ (λ x y _. white_stretch c.args.
 pub returns : goal.returns
 returns g c = rows_same Black _ _ _ _ (λ x y _. alike_laid c.args.area c.args.way c.args.v c.args.lines.now c.args.from c.args.rows c.top_of-top.result c.args.from x y (omega (arith, c.requires.long)) c.top_of-top.ensures
     (λ i u p q. sym (c.requires.still.alike i u p q)))
-    (c.lay_same.ensures _ c.row_at-row.ensures)
+    (c.lay_bytes.ensures _ c.row_at-row.ensures)

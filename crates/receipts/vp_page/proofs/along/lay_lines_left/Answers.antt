@@ -1,4 +1,4 @@
-use Rattle.std.proofs.Common.{◌+◌, ◌-◌, ◌&&◌, ltb, ap, List, ℕ, [], get_or, length, arith}
+use Rattle.std.proofs.Common.{◌+◌, ◌-◌, ◌&&◌, ltb, ap, [], get_or, length, arith}
 use Rattle.vp_dots.specs.Dots.{dot}
 use Rattle.vp_dots.specs.declared.Op.TheVariants.{Black}
 use Rattle.vp_page.proofs.Lines.{nothing}
@@ -14,10 +14,10 @@ loop-i-preserved g c =
     let a = c.args.area in
     let lines = c.args.lines.now in
     record {
-      within = c.same_lines-times.ensures.within;
-      laid = rows_then _ _ _ _ _ _ (λ x y. lines_back c.args.top (length lines) c.loop-i.i c.same_lines-times.result y (λ n. ltb x (a.x + a.dx) && (ltb (a.x + a.dx - 1 - x) a.dx && dot (get_or lines n []) (a.x + a.dx - 1 - x)))
-          c.same_lines-times.ensures.within
-          (λ j l. ap (λ (r : List ℕ). ltb x (a.x + a.dx) && (ltb (a.x + a.dx - 1 - x) a.dx && dot r (a.x + a.dx - 1 - x))) (c.same_lines-times.ensures.same j l))) c.loop-i.invariant.laid c.lay_left.ensures;
+      within = c.run_from-times.ensures.within;
+      laid = rows_then _ _ _ _ _ _ (λ x y. lines_back c.args.top (length lines) c.loop-i.i c.run_from-times.result y (λ n. ltb x (a.x + a.dx) && (ltb (a.x + a.dx - 1 - x) a.dx && dot (get_or lines n []) (a.x + a.dx - 1 - x)))
+          c.run_from-times.ensures.within
+          (λ j l. ap (λ b. ltb x (a.x + a.dx) && (ltb (a.x + a.dx - 1 - x) a.dx && b)) (c.run_from-times.ensures.same j (a.x + a.dx - 1 - x) l))) c.loop-i.invariant.laid c.lay_left.ensures;
     }
 
 pub returns : goal.returns

@@ -1,4 +1,4 @@
-use Rattle.std.proofs.Common.{◌-◌, ◌&&◌, leb, ltb, ap, List, ℕ, [], get_or, arith}
+use Rattle.std.proofs.Common.{◌-◌, ◌&&◌, leb, ltb, ap, [], get_or, arith}
 use Rattle.vp_dots.specs.Dots.{dot}
 use Rattle.vp_dots.specs.declared.Op.TheVariants.{Black}
 use Rattle.vp_page.proofs.Lines.{nothing}
@@ -15,9 +15,9 @@ loop-i-preserved g c =
     let a = c.args.area in
     let lines = c.args.lines.now in
     record {
-      within = c.same_lines-times.ensures.within;
-      laid = rows_then _ _ _ _ _ _ (λ x y. lines_more c.args.top c.loop-i.i c.same_lines-times.result y (λ n. leb a.x x && (ltb (x - a.x) a.dx && dot (get_or lines n []) (x - a.x)))
-          (λ j l. ap (λ (r : List ℕ). leb a.x x && (ltb (x - a.x) a.dx && dot r (x - a.x))) (c.same_lines-times.ensures.same j l))) c.loop-i.invariant.laid c.lay_right.ensures;
+      within = c.run_from-times.ensures.within;
+      laid = rows_then _ _ _ _ _ _ (λ x y. lines_more c.args.top c.loop-i.i c.run_from-times.result y (λ n. leb a.x x && (ltb (x - a.x) a.dx && dot (get_or lines n []) (x - a.x)))
+          (λ j l. ap (λ b. leb a.x x && (ltb (x - a.x) a.dx && b)) (c.run_from-times.ensures.same j (x - a.x) l))) c.loop-i.invariant.laid c.lay_right.ensures;
     }
 
 pub returns : goal.returns

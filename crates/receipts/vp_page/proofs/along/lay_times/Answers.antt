@@ -12,9 +12,9 @@ loop-i-preserved g c = λ ink same.
     let y = c.args.top + c.loop-i.i in
     let long : length (get_or c.loop-i.band y []) ≡ 72 = ap length (sym c.row_mut.ensures.value) ∙ c.row_mut.ensures.len in
     let next : c.args.top + (c.loop-i.i + 1) ≡ y + 1 = omega arith in
-    rw next (rows_more 1664 Black (λ x k. leb c.args.top k && ink x) y _ _ _ (omega (arith, c.row_mut.ensures.rows, c.min-shown.ensures)) (omega (arith, c.min-shown.ensures)) (c.loop-i.invariant ink same)
+    rw next (rows_more 1664 Black (λ x k. leb c.args.top k && ink x) y _ _ _ (omega (arith, c.row_mut.ensures.rows, c.shown-i-end.ensures)) (omega (arith, c.shown-i-end.ensures)) (c.loop-i.invariant ink same)
     (painted_same Black _ _ _ _ (λ d l. below_top c.args.top y (dot c.args.row.now d) (ink d) (omega arith) (same d (omega (arith, l, long))))
     (rw (sym c.row_mut.ensures.value) c.or_row.ensures)))
 
 pub returns : goal.returns
-returns g c = λ ink same. rows_same Black _ _ _ _ (λ x k h. as_many c.args.top c.loop-i.i c.args.times k (ink x) h (omega (arith, c.min-shown.ensures))) (c.loop-i.invariant ink same)
+returns g c = λ ink same. rows_same Black _ _ _ _ (λ x k h. as_many c.args.top c.loop-i.i c.args.times k (ink x) h (omega (arith, c.shown-i-end.ensures))) (c.loop-i.invariant ink same)

@@ -1,25 +1,12 @@
-use Rattle.std.proofs.Common.{inl, inr, ◌≡◌, ◌∙◌, ◌-◌, refl, sym, arith}
-use Rattle.std.proofs.lemmas.Bool.{cases_lt}
-use Rattle.vp_page.proofs.Alike.{black_none}
-use Rattle.vp_page.proofs.Unlike.{same_eight}
+use Rattle.std.proofs.Common.{◌∙◌, sym, arith}
+use Rattle.std.proofs.lemmas.Bool.{true≢false}
+use Rattle.vp_page.proofs.Unlike.{parts_same}
 use Rattle.vp_page.proofs.changes.changes_of.Goals as goal
 
-pub loop-n-init : goal.loop-n-init
-loop-n-init c = record { within = omega arith; count = refl; same = λ i u h g p l e. absurd (omega (arith, h, g)) }
-
-pub loop-n-preserved : goal.loop-n-preserved
-loop-n-preserved c =
-    let p = c.or_changes.ensures in
-    record {
-      within = omega (arith, c.loop-n.invariant.within);
-      count = p.length_is ∙ c.loop-n.invariant.count;
-      same = λ i u h g q l e.
-          let none = black_none _ _ (sym (p.dots_are u (omega (arith, c.loop-n.invariant.count))) ∙ e) in
-          elim (cases_lt i c.loop-n.n) [
-            | inl m ↦ (let this : i ≡ c.loop-n.n - 1 = omega (arith, m, h) in rw this (same_eight c.args.lines.now (c.loop-n.n - 1) u q l none.0))
-            | inr n ↦ c.loop-n.invariant.same i u n g q l none.1
-          ];
-    }
+pub returns-then-is_all_black : goal.returns-then-is_all_black
+returns-then-is_all_black c = λ i u h g l e. absurd (true≢false (sym (c.is_all_black.ensures c.if-is_all_black.true u l) ∙ e))
 
 pub returns : goal.returns
-returns c = λ i u h g l e. c.loop-n.invariant.same i u (omega arith) h g l e
+returns c = λ i u h g l e. parts_same c.args.lines.now c.min-some.result i u (omega (arith, c.min-some.ensures)) h
+    (λ j k. c.with_changes-changes.ensures.these j u k g l (c.with_changes.ensures.before u l e))
+    (λ j k. c.with_changes.ensures.these j u k g l e)

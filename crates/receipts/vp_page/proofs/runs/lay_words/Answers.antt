@@ -1,7 +1,8 @@
-use Rattle.std.proofs.Common.{◌≡◌, ℕ, ◌+◌, ◌-◌, ◌<◌, ◌≤◌, ◌∙◌, get_or, sym, ap, arith}
-use Rattle.vp_page.proofs.Rows.{rows_then}
+use Rattle.std.proofs.Common.{◌≡◌, ◌+◌, ◌-◌, ◌<◌, ◌∙◌, get_or, sym, ap, arith}
 use Rattle.vp_dots.specs.Words.{word_dot}
-use Rattle.vp_page.proofs.RunRows.{line_at, run_more}
+use Rattle.vp_page.specs.Runs.{across_dot, along_of}
+use Rattle.vp_page.proofs.Rows.{rows_then}
+use Rattle.vp_page.proofs.RunRows.{stretch_more}
 use Rattle.vp_page.proofs.runs.lay_words.Goals as goal
 
 pub loop-j-preserved : goal.loop-j-preserved
@@ -9,7 +10,6 @@ loop-j-preserved g c =
     let a = c.args.area in
     let way = c.args.way in
     let begins = c.args.begins.now in
-    let words = c.args.words.now in
     let n = c.args.n in
     let at = c.args.at in
     let j = c.loop-j.j in
@@ -18,17 +18,14 @@ loop-j-preserved g c =
     record {
       within = c.alike-times.ensures.within;
       laid = λ ink same.
-          let one : (u w : ℕ) → at + j ≤ u → u < at + j + t → get_or begins 0 0 ≤ w → w < get_or begins n 0 → ink u w ≡ ink (at + j) w = λ u w p q r s.
-          (let f = line_at begins n w r s in
+          rw next (rows_then _ _ _ _ _ _
+          (λ x y. stretch_more at (at + j) (at + j + t) (along_of a way y) (across_dot a way (get_or begins 0 0) (get_or begins n 0) ink x y) (omega arith) (omega arith))
+          (c.loop-j.invariant.laid ink same)
+          (c.lay_word.ensures ink (λ i u w h p l q r.
           let s = u - (at + j) in
           let here : at + (j + s) ≡ u = omega (arith, p) in
-          ap (λ v. ink v w) (sym here) ∙ sym (same f.0 (j + s) w f.1 (omega (arith, p, q, c.alike-times.ensures.within)) f.2 f.3)
-          ∙ ap (λ v. word_dot v f.0) (c.alike-times.ensures.same s (omega (arith, p, q)))
-          ∙ same f.0 j w f.1 c.loop-j-test.true f.2 f.3) in
-          rw next (rows_then _ _ _ _ _ _
-          (λ x y. run_more a way at (at + j) t c.top_of-top.result (get_or begins 0 0) (get_or begins n 0) ink x y (omega arith) (omega (arith, c.alike-times.ensures.within, c.requires.long)) c.top_of-top.ensures one)
-          (c.loop-j.invariant.laid ink same)
-          (c.lay_times.ensures _ (c.spread-row.ensures (ink (at + j)) (λ i w h p q. same i j w h c.loop-j-test.true p q))));
+          let few : s < t = omega (arith, p, l) in
+          ap (λ m. word_dot m i) (sym (c.alike-times.ensures.same s few)) ∙ same i (j + s) w h (omega (arith, few, c.alike-times.ensures.within)) q r ∙ ap (λ v. ink v w) here)));
     }
 
 pub returns : goal.returns

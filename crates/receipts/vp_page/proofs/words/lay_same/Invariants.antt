@@ -1,9 +1,0 @@
-use Rattle.std.proofs.Common.{◌≡◌, ℕ, Bool, ◌<◌, ◌+◌, ◌&&◌, leb, ltb}
-use Rattle.vp_dots.specs.Dots.{dot}
-use Rattle.vp_dots.specs.Places.{RowsPainted}
-use Rattle.vp_dots.specs.declared.Op.TheVariants.{Black}
-use Rattle.vp_page.proofs.words.lay_same.Given as goal
-
--- the rows above top + i are done
-abbrev pub invariant-loop-i : goal.invariant-loop-i
-invariant-loop-i g l = (ink : ℕ → Bool) → ((x : ℕ) → x < 576 → dot l.row x ≡ ink x) → RowsPainted 1664 Black (λ x k. ltb k (l.top + l.i) && (leb l.top k && ink x)) l.fn.band l.band
