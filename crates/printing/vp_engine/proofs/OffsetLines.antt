@@ -39,7 +39,7 @@ module _ (digits : List ℕ) (count tens : ℕ) (some : 0 < tens) (small : tens 
 
 -- a line whose digits are written with some bytes behind them, over which its rest is written
 pub written_over : (digits output line : List ℕ) (n last : ℕ) → n ≤ length digits → length digits ≤ n + 10 → n + 10 ≤ length output →
-    put_mid (n + 2) (n + 10 - (n + 2)) (slice_set (slice_set (digits ++ drop (length digits) output) n last) (n + 1) 0x20) line ≡
+    put_mid (n + 2) 8 (slice_set (slice_set (digits ++ drop (length digits) output) n last) (n + 1) 0x20) line ≡
     (take n digits ++ last ∷ 0x20 ∷ line) ++ drop (n + 10) output
 written_over digits output line n last l m room =
     let d = length digits in
@@ -49,12 +49,12 @@ written_over digits output line n last l m room =
     let long : n + 10 ≤ length old = omega (arith, m, room, length-append digits (drop d output), length-drop d output) in
     let front : take (n + 2) new ≡ take n digits ++ last ∷ 0x20 ∷ [] =
     take-two_writes old n last 0x20 (omega (arith, long)) ∙ ap (λ x. x ++ last ∷ 0x20 ∷ []) (take-append-le n digits (drop d output) l) in
-    let behind : drop (n + 10 - (n + 2)) (drop (n + 2) new) ≡ drop (n + 10) output =
-    ap (drop (n + 10 - (n + 2))) (drop-set-lt (n + 2) set_once (n + 1) 0x20 (omega arith) ∙ drop-set-lt (n + 2) old n last (omega arith)) ∙ drop-drop (n + 10 - (n + 2)) (n + 2) old
-    ∙ ap (λ k. drop k old) (let e : n + 2 + (n + 10 - (n + 2)) ≡ d + (n + 10 - d) = omega (arith, m) in e)
+    let behind : drop 8 (drop (n + 2) new) ≡ drop (n + 10) output =
+    ap (drop 8) (drop-set-lt (n + 2) set_once (n + 1) 0x20 (omega arith) ∙ drop-set-lt (n + 2) old n last (omega arith)) ∙ drop-drop 8 (n + 2) old
+    ∙ ap (λ k. drop k old) (let e : n + 2 + 8 ≡ d + (n + 10 - d) = omega (arith, m) in e)
     ∙ drop-append-add digits (drop d output) (n + 10 - d) ∙ drop-drop (n + 10 - d) d output
     ∙ ap (λ k. drop k output) (let e : d + (n + 10 - d) ≡ n + 10 = omega (arith, m) in e) in
-    ap (λ x. x ++ (line ++ drop (n + 10 - (n + 2)) (drop (n + 2) new))) front
+    ap (λ x. x ++ (line ++ drop 8 (drop (n + 2) new))) front
     ∙ ap (λ x. (take n digits ++ last ∷ 0x20 ∷ []) ++ (line ++ x)) behind ∙ sym (append_assoc (take n digits ++ last ∷ 0x20 ∷ []) line (drop (n + 10) output))
     ∙ ap (λ x. x ++ drop (n + 10) output) (append_assoc (take n digits) (last ∷ 0x20 ∷ []) line)
 

@@ -11,6 +11,7 @@ use crate::lines::byte_line;
 use arrayvec::ArrayVec;
 use itoa::Buffer;
 use std::marker::Model;
+use std::simd::u8x8;
 
 /// The most digits of a place but its last.
 const MOST_LEADING: usize = 19;
@@ -120,6 +121,30 @@ fn put_lines_behind(digits: &[u8], n: usize, last: u8, bytes: &[u8], output: &mu
     long * bytes.len()
 }
 
+/// Writes eight bytes over those of the output from one on.
+// As one number: for bytes it would be asked each time whether the two overlap.
+#[inline(always)]
+fn write_eight(bytes: &[u8], at: usize, output: &mut [u8])
+    requires bytes { length bytes.now ≡ 8 }
+    requires room { at + 8 ≤ length output.old }
+    ensures { output.new ≡ take at output.old ++ (bytes.now ++ drop 8 (drop at output.old)) }
+{
+    u8x8::from_slice(bytes).copy_to_slice(&mut output[at..]);
+}
+
+/// Writes digits to the front of the output, which mostly are eight.
+#[inline(always)]
+fn write_digits(digits: &[u8], output: &mut [u8])
+    requires { length digits.now ≤ length output.old }
+    ensures { output.new ≡ digits.now ++ drop (length digits.now) output.old }
+{
+    if digits.len() == 8 {
+        write_eight(digits, 0, output);
+    } else {
+        output[..digits.len()].copy_from_slice(digits);
+    }
+}
+
 /// Writes one of them. All the digits are written, so that their number is known, and the line's rest over
 /// those behind the first n.
 #[inline(always)]
@@ -130,10 +155,10 @@ fn put_line_behind(digits: &[u8], n: usize, last: u8, byte: u8, output: &mut [u8
     requires room { n + 10 ≤ length output.old }
     ensures { output.new ≡ line_behind (take n digits.now) last byte ++ drop (n + 10) output.old }
 {
-    output[..digits.len()].copy_from_slice(digits);
+    write_digits(digits, output);
     output[n] = b'0' + last;
     output[n + 1] = b' ';
-    output[n + 2..n + 10].copy_from_slice(byte_line(byte));
+    write_eight(byte_line(byte), n + 2, output);
 }
 
 /// How many places from this one on have the same digits but the last. After the greatest comes none.

@@ -1,8 +1,8 @@
 -- Lines laid across the page, upward or downward.
-use Rattle.std.proofs.Common.{inl, inr, ◌≡◌, ℕ, ◌+◌, ◌-◌, ◌*◌, ◌/◌, ◌%◌, ◌<◌, ◌≤◌, min, not, Bool, true, false, ltb, leb, ◌&&◌, refl, sym, ap, ◌∙◌, arith, List, length, take, get_or, ℤ}
+use Rattle.std.proofs.Common.{inl, inr, ◌≡◌, ℕ, ◌+◌, ◌-◌, ◌*◌, ◌/◌, ◌%◌, ◌<◌, ◌≤◌, min, not, Bool, true, false, ltb, leb, ◌&&◌, refl, sym, ap, ◌∙◌, arith, List, length, take, get_or, set, get_or-set_same, get_or-set_other, ℤ}
 use Rattle.vp_page.proofs.Rows.{met}
 use Rattle.std.proofs.lemmas.Int.{ints}
-use Rattle.std.proofs.lemmas.Bool.{cases_lt, lt-ltb, le-ltb, lt-leb, le-leb, and_parts, ltb-true, leb-true, true≢false}
+use Rattle.std.proofs.lemmas.Bool.{cases_eq, cases_lt, lt-ltb, le-ltb, lt-leb, le-leb, and_parts, ltb-true, leb-true, true≢false}
 use Rattle.std.proofs.lemmas.Bool.Decides.{nat_tests}
 use Rattle.std.proofs.Math.Bool.{beq}
 use Rattle.vp_dots.specs.Dots.{shifted, span}
@@ -10,13 +10,13 @@ use Rattle.vp_dots.specs.Words.{word_dot}
 use Rattle.vp_page.specs.Areas.{holds}
 use Rattle.vp_page.specs.Layers.{mark_dot, lines_mark}
 use Rattle.vp_page.specs.Lines.{line_dot}
-use Rattle.vp_page.specs.Runs.{across, along_of, depth_of, lines_across, placed, stretch_dot, topmost, IsLeft}
+use Rattle.vp_page.specs.Runs.{across, along_of, depth_of, lines_across, ordered, placed, stretch_dot, topmost, IsLeft}
 use Rattle.vp_page.specs.declared.area.Area.{Area}
 use Rattle.vp_page.specs.declared.area.Way.{Way}
 use Rattle.vp_page.specs.declared.area.Way.TheVariants.{Up, Down}
 use Rattle.vp_page.proofs.Marks.{shown_line}
 use Rattle.vp_page.proofs.RunRows.{run_in}
-use Rattle.vp_page.proofs.Squares.{and_false, no_line}
+use Rattle.vp_page.proofs.Squares.{and_false, no_line, other_rows}
 
 -- and back
 pub placed_back : (way : Way) (n i k : ℕ) → k < n → i ≡ placed way n k → placed way n i ≡ k
@@ -28,10 +28,21 @@ placed_in way n k h = grind arith
 pub placed_there : (way : Way) (n i k : ℕ) → i < n → placed way n i ≡ k → i ≡ placed way n k
 placed_there way n i k h e = grind arith
 
--- which row of n is k dots along the lines
-abbrev pub ordered : Way → ℕ → ℕ → ℕ
-ordered Up n k = n - 1 - k
-ordered Down n k = k
+-- one line more of a square of so many words
+pub line_placed : (way : Way) (n : ℕ) (square : List ℕ) (lines : List (List ℕ)) (from p k word : ℕ) → length square ≡ n → p ≡ placed way n k → k < n
+    → ((x : ℕ) → x < 64 → word_dot word x ≡ line_dot lines k (from + x))
+    → ((x y : ℕ) → x < 64 → y < n → word_dot (get_or square y 0) x ≡ (ltb (placed way n y) k && line_dot lines (placed way n y) (from + x)))
+    → (x y : ℕ) → x < 64 → y < n → word_dot (get_or (set square p word) y 0) x ≡ (ltb (placed way n y) (k + 1) && line_dot lines (placed way n y) (from + x))
+line_placed way n square lines from p k word whole is small this before x y h l = elim (cases_eq y p) [
+  | inl e ↦ (let line : placed way n y ≡ k = placed_back way n y k small (e ∙ is) in
+      let here : placed way n k < n = placed_in way n k small in
+      rw (line, e, get_or-set_same square p word 0 (omega (arith, whole, is, here)), lt-ltb k (k + 1) (omega arith)) (this x h))
+  | inr m ↦ rw (get_or-set_other square p y word 0 m) (before x y h l ∙ other_rows (placed way n y) k _ (λ e. m (placed_there way n y k l e ∙ sym is)))
+]
+
+-- a dot is on the row that shows it
+pub ordered_back : (way : Way) (n k : ℕ) → k < n → ordered way n (ordered way n k) ≡ k
+ordered_back way n k h = grind arith
 
 not_held : (p b : Bool) → (p && false && b) ≡ false
 not_held p b = ap (λ t. t && b) (and_false p)

@@ -13,7 +13,7 @@ use Rattle.vp_dots.proofs.Bits.{bit_of_or}
 use Rattle.vp_dots.proofs.Blocks.{painted_block}
 use Rattle.vp_dots.proofs.Paints.{painted_same, painted_byte_at}
 use Rattle.vp_dots.proofs.Words.{or_false, and_false, and_true, bit_shl, word_shr, word_row}
-use Rattle.vp_dots.proofs.Spans.{bit_of_and}
+use Rattle.vp_dots.proofs.Spans.{bit_of_all, bit_of_and}
 use Rattle.vp_dots.proofs.Cuts.{bit_low64}
 use Rattle.vp_dots.proofs.Rows.{dot_at}
 use Rattle.vp_page.proofs.Rows.{dot_past}
@@ -25,6 +25,12 @@ spanned i d b = grind (arith, nat_tests)
 pub byte_painted : (mask i : ℕ) (row : List ℕ) → i < length row → Painted Black (λ d. eqb (d / 8) i && bit mask (7 - d % 8)) row (set row i (bit_or (get_or row i 0) mask))
 byte_painted mask i row h = painted_byte_at Black (λ d. bit mask (7 - d % 8)) i _ row h
     (λ k l. bit_of_or (get_or row i 0) mask k ∙ ap (λ n. cond (bit mask n) true (bit (get_or row i 0) k)) (let e : k ≡ 7 - (8 * i + (7 - k)) % 8 = omega arith in e))
+
+-- what a word loses on the right
+pub lost_bit : (word s k : ℕ) → s < 8 → k < 8 → bit (bit_and (word * 2 ^ (8 - s) % 2 ^ 64) 255) k ≡ (leb (8 - s) k && bit word (k - (8 - s)))
+lost_bit word s k p h =
+    bit_of_and _ 255 k ∙ ap (λ b. bit (word * 2 ^ (8 - s) % 2 ^ 64) k && b) (bit_of_all k h) ∙ and_true _
+    ∙ bit_low64 _ k (omega arith) ∙ bit_shl word (8 - s) k
 
 -- a word that begins in the last eight bytes of a row
 pub last_eight : (word at far d : ℕ) → word < 2 ^ 64 → at ≤ far → d < at + 64

@@ -1,7 +1,6 @@
 -- Lines of dots that are laid at once.
-use Rattle.std.specs.Prelude.{◌≡◌, ◌≤◌, ◌<◌, ◌%◌, ℕ, ◌+◌, ◌-◌, nat_le, nat_lt, Bool, true, false, not, ◌&&◌, if◌then◌else◌, List, [], ℤ, ◌*◌, take, drop, length, slice_index, slice_index_or}
-use Rattle.vp_dots.specs.Dots.{dot, shifted}
-use Rattle.vp_dots.specs.Words.{word_dot}
+use Rattle.std.specs.Prelude.{◌≡◌, ◌≤◌, ◌<◌, ◌%◌, ℕ, ◌+◌, ◌-◌, nat_le, nat_lt, Bool, true, false, not, ◌&&◌, if◌then◌else◌, List, [], ◌*◌, take, drop, length, slice_index_or}
+use Rattle.vp_dots.specs.Dots.{dot}
 use Rattle.vp_page.specs.declared.line.TheConstants.{LINE_DOTS}
 use Rattle.vp_page.specs.declared.page.TheConstants.{PAGE_ROWS, PAPER_BYTES}
 use Rattle.vp_page.specs.declared.area.Area.{Area}
@@ -22,13 +21,6 @@ changes_at line u = if nat_le 8 u && dot line (u - 8) then not (dot line u) else
 -- row i of bytes of which `wide` make a row
 abbrev pub row_in : List ℕ → ℕ → ℕ → List ℕ
 row_in bytes wide i = take wide (drop (i * wide) bytes)
-
--- dot (x, y) of 32 dots of the first h words, from dot `skip` on, one word on each row from `top` on, each
--- moved by an offset
-abbrev pub halves_dot : List ℕ → ℕ → ℤ → ℕ → ℕ → ℕ → ℕ → Bool
-halves_dot words skip left top h x y =
-    nat_le top y && (nat_lt (y - top) h
-    && shifted left (λ s. nat_lt s 32 && word_dot (slice_index words (y - top)) (s + skip)) x)
 
 -- rows of so many bytes stand on whole words of the page, their lines beginning at a place, and are no longer
 -- than these, which end on the page

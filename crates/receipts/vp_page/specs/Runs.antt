@@ -1,6 +1,7 @@
 -- Lines that are laid across the page.
 use Rattle.std.specs.Prelude.{◌≡◌, ◌≤◌, ◌<◌, ℕ, ◌+◌, ◌-◌, nat_le, nat_lt, Bool, true, false, ◌&&◌, List, [], length, slice_index, slice_index_or, ℤ, pos, ◌+ℤ◌}
-use Rattle.vp_dots.specs.Dots.{dot, span}
+use Rattle.vp_dots.specs.Dots.{dot, shifted, span}
+use Rattle.vp_dots.specs.Words.{word_dot}
 use Rattle.vp_page.specs.declared.area.Area.{Area}
 use Rattle.vp_page.specs.declared.area.Direction.{Direction}
 use Rattle.vp_page.specs.declared.area.Direction.TheVariants.{BottomToTop, TopToBottom}
@@ -47,6 +48,23 @@ stretch_dot a way v lines from n x y =
 abbrev pub placed : Way → ℕ → ℕ → ℕ
 placed Up n i = i
 placed Down n i = n - 1 - i
+
+-- which of n dots of a line, which stand on a row each, is that on row i from the top on
+abbrev pub ordered : Way → ℕ → ℕ → ℕ
+ordered Up n i = n - 1 - i
+ordered Down n i = i
+
+-- dot (x, y) of the first h words, one on each row from `top` on in that order, each moved by an offset
+abbrev pub words_along : List ℕ → Way → ℤ → ℕ → ℕ → ℕ → ℕ → Bool
+words_along words way left top h x y =
+    nat_le top y && (nat_lt (y - top) h
+    && shifted left (word_dot (slice_index words (ordered way h (y - top)))) x)
+
+-- and of 32 of their dots, from dot `skip` on
+abbrev pub halves_along : List ℕ → Way → ℕ → ℤ → ℕ → ℕ → ℕ → ℕ → Bool
+halves_along words way skip left top h x y =
+    nat_le top y && (nat_lt (y - top) h
+    && shifted left (λ s. nat_lt s 32 && word_dot (slice_index words (ordered way h (y - top))) (s + skip)) x)
 
 -- where the left one falls of `wide` columns, of which that of the first line lies at a depth of an area
 abbrev pub IsLeft : Area → Way → ℕ → ℕ → ℤ → Type 0

@@ -18,7 +18,7 @@ ghost use Rattle.vp_page.specs.declared.page.TheConstants.{PAGE_ROWS, PAPER_DOTS
 use crate::along::lay_bytes;
 use crate::area::{Area, Way};
 use crate::changes::changes_of;
-use crate::different::{MOST, different};
+use crate::different::{MOST, begin_alike, different};
 use crate::line::{LINE_BYTES, LINE_DOTS, dots_from, start_of};
 use crate::page::{PAGE_ROWS, PAPER_BYTES, PageBand};
 use crate::runs::{blacken, columns, lay_runs, on_page, top_of};
@@ -57,8 +57,17 @@ pub(crate) fn square_of(lines: &[[u8; LINE_BYTES]], from: usize, way: Way) -> [u
         word_dot (slice_index result y) x ≡ line_dot lines.now (placed way 64 y) (from + x) }
 {
     let mut square = [0; SIDE];
-    for i in 0..lines.len() {
-        square[place(way, SIDE, i)] = dots_from(&lines[i], from);
+    match way {
+        Way::Up => {
+            for i in 0..lines.len() {
+                square[i] = dots_from(&lines[i], from);
+            }
+        }
+        Way::Down => {
+            for i in 0..lines.len() {
+                square[SIDE - 1 - i] = dots_from(&lines[i], from);
+            }
+        }
     }
     square
 }
@@ -172,14 +181,8 @@ fn lay_square<A: Small>(
 {
     let left = left_of(area, way, v, 8);
     let top = top_of(area, way, from, rows);
-    let mut square = turned_square(&square_of(lines, from, way));
-    match way {
-        Way::Up => {
-            square.reverse();
-            lay_words(&square[SIDE - rows..], rows, left, top, band);
-        }
-        Way::Down => lay_words(&square, rows, left, top, band),
-    }
+    let square = turned_square(&square_of(lines, from, way));
+    lay_words(&square, way, rows, left, top, band);
 }
 
 /// Lays two squares of few lines as `lay_square` lays one. Mostly both are white.
@@ -207,20 +210,11 @@ fn lay_two<A: Small>(
     let left = left_of(area, way, v, 4);
     let first = rows.min(SIDE);
     let second = rows - first;
-    let mut turned = turned_square(&squares);
+    let turned = turned_square(&squares);
     let top = top_of(area, way, from, first);
     let next = top_of(area, way, from + first, second);
-    match way {
-        Way::Up => {
-            turned.reverse();
-            lay_halves(&turned[SIDE - first..], 0, first, left, top, band);
-            lay_halves(&turned[SIDE - second..], 32, second, left, next, band);
-        }
-        Way::Down => {
-            lay_halves(&turned, 0, first, left, top, band);
-            lay_halves(&turned, 32, second, left, next, band);
-        }
-    }
+    lay_halves(&turned, way, 0, first, left, top, band);
+    lay_halves(&turned, way, 32, second, left, next, band);
 }
 
 /// Lays a stretch of as many lines as a word has dots, square by square.
@@ -402,7 +396,8 @@ pub(crate) fn lay_lines<A: Small>(
     requires white { (i u : ℕ) → long ≤ u → line_dot lines.now i u ≡ false }
     ensures { RowsPainted PAGE_ROWS Black (lines_across area way v lines.now) band.old band.new }
 {
-    if lines.len() > MANY && lay_alike(lines, same, long, area, way, v, band) {
+    let some = lines.len() > MANY && begin_alike(lines, same);
+    if some && lay_alike(lines, same, long, area, way, v, band) {
         return;
     }
     lay_stretches(lines, long, area, way, v, band);

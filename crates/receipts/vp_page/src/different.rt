@@ -14,6 +14,18 @@ pub(crate) const MOST: usize = SIDE / 2;
 /// Behind so many lines, at most half of those that were looked at are different.
 const FIRST: usize = 8;
 
+/// Whether some of the first lines are as the one before: where none is, `different` finds too many.
+pub(crate) fn begin_alike(lines: &[[u8; LINE_BYTES]], same: &[bool]) -> bool
+    requires { AreTold lines.now same.now }
+{
+    for i in 0..lines.len().min(2 * FIRST) {
+        if run_from(lines, same, i) > 1 {
+            return true;
+        }
+    }
+    false
+}
+
 /// Looks for lines that are as the one before: how many different ones there are, if they are few. It writes
 /// these, and the depths at which they begin where the first line lies at depth v.
 pub(crate) fn different(

@@ -4,11 +4,13 @@ ghost use Rattle.std.specs.Prelude.{◌≡◌, ℕ, Bool, true, ◌+◌, ◌-◌
 ghost use Rattle.vp_dots.specs.Dots.{bit, dot, dots, shifted, span};
 ghost use Rattle.vp_dots.specs.Words.{word_dot};
 ghost use Rattle.vp_dots.specs.Painting.{Painted};
-ghost use Rattle.vp_dots.specs.Places.{words_dot, RowsPainted};
-ghost use Rattle.vp_page.specs.Lines.{halves_dot, row_in};
+ghost use Rattle.vp_dots.specs.Places.{RowsPainted};
+ghost use Rattle.vp_page.specs.Lines.{row_in};
+ghost use Rattle.vp_page.specs.Runs.{halves_along, words_along};
 ghost use Rattle.vp_dots.specs.declared.Op.TheVariants.{Black};
 ghost use Rattle.vp_page.specs.declared.page.TheConstants.{PAPER_BYTES, PAPER_DOTS, PAGE_ROWS};
 
+use crate::area::Way;
 use crate::page::{PAPER_BYTES, PageBand};
 use std::simd::{u8x8, u8x16};
 use vp_dots::{Small, eight_at, first_dots, reversed_at};
@@ -52,7 +54,7 @@ fn lost(word: u64, s: u32) -> u8
     requires { s < 8 }
     ensures { (k : ℕ) → k < 8 → bit result k ≡ (nat_le (8 - s) k && bit word (k - (8 - s))) }
 {
-    (((word & 255) * 256) >> s & 255) as u8
+    (word << (8 - s) & 255) as u8
 }
 
 /// Blackens the dots d of the row where dot d - far of the word is black: the row has room for nine bytes.
@@ -118,9 +120,12 @@ fn or_word(word: u64, left: i64, row: &mut [u8])
     }
 }
 
-/// Blackens rows of the page, from one on, where the first h words, moved by an offset, are black.
+/// Blackens rows of the page, from one on, where the first h words, moved by an offset, are black: the first
+/// word stands on the last of the rows for lines that run up, and on the first for lines that run down.
+#[inline(always)]
 pub(crate) fn lay_words<A: Small>(
     words: &[u64],
+    way: Way,
     h: usize,
     left: i64,
     top: usize,
@@ -128,10 +133,19 @@ pub(crate) fn lay_words<A: Small>(
 )
     requires few { h ≤ length words.now }
     requires room { top + h ≤ PAGE_ROWS }
-    ensures { RowsPainted PAGE_ROWS Black (words_dot words.now left top h) band.old band.new }
+    ensures { RowsPainted PAGE_ROWS Black (words_along words.now way left top h) band.old band.new }
 {
-    for i in 0..h {
-        or_word(words[i], left, band.row_mut(top + i));
+    match way {
+        Way::Up => {
+            for i in 0..h {
+                or_word(words[h - 1 - i], left, band.row_mut(top + i));
+            }
+        }
+        Way::Down => {
+            for i in 0..h {
+                or_word(words[i], left, band.row_mut(top + i));
+            }
+        }
     }
 }
 
@@ -209,9 +223,11 @@ fn or_half_from(word: u64, skip: u32, left: i64, row: &mut [u8])
 }
 
 /// Blackens rows of the page, from one on, where 32 dots of the first h words, from one on and moved by an
-/// offset, are black.
+/// offset, are black, in the order of `lay_words`.
+#[inline(always)]
 pub(crate) fn lay_halves<A: Small>(
     words: &[u64],
+    way: Way,
     skip: u32,
     h: usize,
     left: i64,
@@ -221,10 +237,19 @@ pub(crate) fn lay_halves<A: Small>(
     requires skip { skip < 64 }
     requires few { h ≤ length words.now }
     requires room { top + h ≤ PAGE_ROWS }
-    ensures { RowsPainted PAGE_ROWS Black (halves_dot words.now skip left top h) band.old band.new }
+    ensures { RowsPainted PAGE_ROWS Black (halves_along words.now way skip left top h) band.old band.new }
 {
-    for i in 0..h {
-        or_half_from(words[i], skip, left, band.row_mut(top + i));
+    match way {
+        Way::Up => {
+            for i in 0..h {
+                or_half_from(words[h - 1 - i], skip, left, band.row_mut(top + i));
+            }
+        }
+        Way::Down => {
+            for i in 0..h {
+                or_half_from(words[i], skip, left, band.row_mut(top + i));
+            }
+        }
     }
 }
 

@@ -1,9 +1,7 @@
 -- Rows of a raster, laid on the page as many at once as go.
-use Rattle.std.proofs.Common.{◌≡◌, ℕ, ◌+◌, ◌-◌, ◌/◌, ◌%◌, ◌*◌, ◌<◌, ◌≤◌, Bool, false, ltb, ◌&&◌, ◌++◌, take, drop, min, replicate, List, length, arith, [], get_or, set, get_or-set_same, get_or-set_other}
+use Rattle.std.proofs.Common.{◌≡◌, ℕ, ◌+◌, ◌-◌, ◌/◌, ◌%◌, ◌*◌, ◌<◌, ◌≤◌, Bool, ltb, ◌&&◌, ◌++◌, take, drop, min, replicate, List, length, arith, [], get_or, set, get_or-set_same, get_or-set_other}
 use Rattle.std.proofs.lemmas.Bool.{lt-ltb, le-ltb}
-use Rattle.std.proofs.lemmas.List.{length-replicate, length-take-le, get_or-replicate, get_or_past, get_or-take, get_or-drop, get_or_append_left, get_or-append_right}
-use Rattle.vp_page.proofs.Blank.{dot_white}
-use Rattle.vp_page.proofs.Rows.{dot_past}
+use Rattle.std.proofs.lemmas.List.{length-take-le, get_or-replicate, get_or_past, get_or-take, get_or-drop, get_or_append_left, get_or-append_right}
 use Rattle.vp_dots.specs.Dots.{dot}
 use Rattle.vp_esc.specs.declared.item.RasterScale.{RasterScale}
 use Rattle.vp_esc.specs.declared.item.RasterScale.TheVariants.{Normal}
@@ -12,10 +10,6 @@ use Rattle.vp_receipt.specs.PageMarks.{rows_dot}
 use Rattle.vp_receipt.proofs.PageRows.{row_is}
 use Rattle.vp_page.specs.declared.across.TheConstants.{AT_ONCE}
 use Rattle.vp_page.specs.declared.line.TheConstants.{LINE_BYTES, LINE_DOTS}
-
--- white lines
-pub white_lines : (n m k d : ℕ) → dot (get_or (replicate n (replicate {A = ℕ} m 0)) k []) d ≡ false
-white_lines n m k d = grind (arith, get_or-replicate, dot_white, dot_past, length-replicate, get_or_past)
 
 -- a row, and white bytes behind it
 pub lengthened : (row : List ℕ) (m n u : ℕ) → m ≡ LINE_BYTES → n ≡ min (length row) m → u < LINE_DOTS → dot (take n row ++ drop n (replicate m 0)) u ≡ dot row u
@@ -29,13 +23,13 @@ once_dots scale wide n bytes y u once = grind (arith, lt-ltb, row_is, le-ltb)
 -- one more of the lines
 pub line_set : (f : ℕ → ℕ → Bool) (lines : List (List ℕ)) (i : ℕ) (line : List ℕ) → i < length lines
     → ((u : ℕ) → u < LINE_DOTS → dot line u ≡ f i u)
-    → ((k u : ℕ) → k < AT_ONCE → u < LINE_DOTS → dot (get_or lines k []) u ≡ (ltb k i && f k u))
-    → (k u : ℕ) → k < AT_ONCE → u < LINE_DOTS → dot (get_or (set lines i line) k []) u ≡ (ltb k (i + 1) && f k u)
-line_set f lines i line within here above k u h l = grind (arith, get_or-set_same, lt-ltb, get_or-set_other, le-ltb)
+    → ((k u : ℕ) → k < i → u < LINE_DOTS → dot (get_or lines k []) u ≡ f k u)
+    → (k u : ℕ) → k < i + 1 → u < LINE_DOTS → dot (get_or (set lines i line) k []) u ≡ f k u
+line_set f lines i line within here above k u h l = grind (arith, get_or-set_same, get_or-set_other)
 
--- all that there are
-pub lines_there : (i k from high : ℕ) → i ≡ min (high - from) AT_ONCE → k < AT_ONCE → ltb k i ≡ ltb (from + k) high
-lines_there i k from high e h = grind (arith, lt-ltb, le-ltb)
+-- one of those that there are
+pub line_there : (dot : Bool) (w high : ℕ) → w < high → dot ≡ (ltb w high && dot)
+line_there dot w high h = grind (arith, lt-ltb)
 
 -- a line that isn't the first of its row stands below another
 pub not_first : (from i times : ℕ) → from % times ≡ 0 → 0 < (from + i) % times → 0 < i

@@ -1,11 +1,12 @@
 -- Text that doesn't break the line: what it puts into it, and leaves alone, item by item.
 use Rattle.std.proofs.lemmas.Grind.{common_steps}
-use Rattle.std.proofs.Common.{◌≡◌, ℕ, ◌+◌, ◌-◌, ◌*◌, ◌/◌, ◌<◌, ◌≤◌, suc, true, false, List, [], ◌∷◌, ◌++◌, length, sym, ap, subst, ◌∙◌, arith}
+use Rattle.std.proofs.Common.{◌≡◌, ℕ, ◌+◌, ◌-◌, ◌*◌, ◌/◌, ◌<◌, ◌≤◌, zero, suc, take, get_or, true, false, List, [], ◌∷◌, ◌++◌, length, sym, ap, subst, ◌∙◌, arith}
 use Rattle.std.proofs.lemmas.Bool.Decides.{nat_tests}
 use Rattle.std.specs.List.{AllByRecursion}
 use Rattle.std.proofs.lemmas.Bool.{and_parts, lt-ltb, le-ltb}
 use Rattle.std.proofs.Math.Nat.{div-mul-le_self, mul-le-mul_right, mul-pos, suc-mul}
-use Rattle.std.proofs.lemmas.List.{append-nil, map-append, reverse-append}
+use Rattle.std.proofs.lemmas.List.{append-nil, map-append, reverse-append, take_more}
+use Rattle.std.proofs.lemmas.List.Elements.{All-from_recursion}
 use Rattle.vp_esc.specs.declared.item.EscItem.{EscItem}
 use Rattle.vp_esc.specs.declared.item.EscItem.TheVariants.{Character}
 use Rattle.vp_esc.specs.Units.{single_item}
@@ -60,6 +61,20 @@ none_put old sheets bitmap left fit room = grind (arith, mul-le-mul_right, div-m
 pub control_put : (old : Settings) (sheets : Sheets) (empty : List (List ℕ)) (text : List ℕ) (left : ℕ) (s : Settings) (bitmap : List (List ℕ)) (b : ℕ) → b < 0x20 → is_text b ≡ true
     → Put old sheets empty text (suc left) s bitmap → Put old sheets empty (text ++ b ∷ []) left s bitmap
 control_put old sheets empty text left s bitmap b small text_is p = grind (arith, control_is, does_nothing, text_more, append-nil)
+
+-- controls alone leave it as it is
+pub controls_put : (old : Settings) (sheets : Sheets) (bitmap : List (List ℕ)) (text : List ℕ) (k : ℕ) → k ≤ length text → ((i : ℕ) → i < length text → get_or text i 0 < 0x20)
+    → AllByRecursion (λ b. is_text b ≡ true) text → Put old sheets bitmap [] (length text) old bitmap → Put old sheets bitmap (take k text) (length text - k) old bitmap
+controls_put old sheets bitmap text zero h small t none =
+    let all : length text ≡ length text - 0 = omega arith in
+    subst (λ n. Put old sheets bitmap [] n old bitmap) all none
+controls_put old sheets bitmap text (suc k) h small t none =
+    let there : k < length text = omega arith in
+    let some : length text - k ≡ suc (length text - suc k) = omega arith in
+    let next : suc k ≡ k + 1 = omega arith in
+    subst (λ xs. Put old sheets bitmap xs (length text - suc k) old bitmap) (sym (ap (λ n. take n text) next ∙ take_more text k 0 there))
+    (control_put old sheets bitmap (take k text) (length text - suc k) old bitmap (get_or text k 0) (small k there) (All-from_recursion (λ b. is_text b ≡ true) text t k 0 there)
+    (subst (λ n. Put old sheets bitmap (take k text) n old bitmap) some (controls_put old sheets bitmap text k (omega arith) small t none)))
 
 -- it doesn't break the line where there is room
 no_break : (s : Settings) (setup : Setup) (before : List EscItem) → s ≡ settings_of setup before → s.position + cell_width s.text.font (style_of s.text) ≤ settings_length s → is_full setup before ≡ false

@@ -2,7 +2,7 @@
 ghost use Rattle.std.specs.List.{AllByRecursion};
 ghost use Rattle.vp_esc.specs.Reader.{is_text};
 ghost use Rattle.vp_receipt_settings.specs.Runs.{text_room, text_after};
-ghost use Rattle.std.specs.Prelude.{◌≡◌, ◌≤◌, ◌<◌, ◌+◌, ◌-◌, ◌*◌, ◌∷◌, ◌++◌, List, ℕ, Bool, ◌&&◌, length, true, None, Some, IfSome, take};
+ghost use Rattle.std.specs.Prelude.{◌≡◌, ◌≤◌, ◌<◌, ◌+◌, ◌-◌, ◌*◌, ◌∷◌, ◌++◌, List, ℕ, Bool, ◌&&◌, length, true, None, Some, IfSome, take, slice_index};
 ghost use Rattle.vp_esc.specs.declared.item.EscItem.{EscItem};
 ghost use Rattle.vp_glyph.specs.Cells.{cell_width, cell_height, cell_dot};
 ghost use Rattle.vp_glyph.specs.Sheets.{Sheets};
@@ -105,6 +105,18 @@ fn put<A: Small>(s: &Settings, piece: Piece, canvas: &mut Canvas<A>)
     }
 }
 
+/// Whether a text has no character, but controls alone.
+fn are_controls(text: &[u8]) -> bool
+    ensures { result ≡ true → (i : ℕ) → i < length text.now → slice_index text.now i < 0x20 }
+{
+    for code in text {
+        if *code >= 0x20 {
+            return false;
+        }
+    }
+    true
+}
+
 /// Puts text into the line, which none of it breaks.
 pub fn put_text<A: Small>(s: &mut Settings, text: &[u8], sheets: &Sheets<A>, bitmap: &mut Bitmap<A>)
     requires fit { IsFit s.old }
@@ -119,6 +131,9 @@ pub fn put_text<A: Small>(s: &mut Settings, text: &[u8], sheets: &Sheets<A>, bit
     ensures others { (setup : Setup) (before : List EscItem) → s.old ≡ settings_of setup before →
         LeavesAlone setup (text_after text.now before) before }
 {
+    if are_controls(text) {
+        return;
+    }
     let mut now = *s;
     for code in text {
         if *code >= 0x20 {

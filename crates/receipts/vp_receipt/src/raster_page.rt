@@ -1,5 +1,5 @@
 //! Rows of a raster, laid on the page: one, or a run of them.
-ghost use Rattle.std.specs.Prelude.{◌≡◌, ◌≤◌, ◌<◌, ◌+◌, ◌-◌, ◌*◌, ◌/◌, ◌%◌, ◌∷◌, List, [], ℕ, Bool, length, take, slice_index_or};
+ghost use Rattle.std.specs.Prelude.{◌≡◌, ◌≤◌, ◌<◌, ◌+◌, ◌-◌, ◌*◌, ◌/◌, ◌%◌, ◌∷◌, List, [], ℕ, Bool, length, min, take, slice_index_or};
 ghost use Rattle.vp_dots.specs.Dots.{dot};
 ghost use Rattle.vp_esc.specs.declared.item.EscItem.{EscItem};
 ghost use Rattle.vp_esc.specs.declared.item.RasterScale.{RasterScale};
@@ -93,26 +93,28 @@ fn widened(row: &[u8], scale: RasterScale) -> [u8; LINE_BYTES]
     }
 }
 
-/// As many lines as are laid at once, from line `from` on, of those that rows of `wide` bytes are as a scale
-/// draws them: white ones past the last. The second line of a row is the one above it again.
-fn lines_from(
+/// Writes as many lines as are laid at once, from line `from` on, of those that rows of `wide` bytes are as a
+/// scale draws them, and tells how many. The second line of a row is the one above it again.
+fn write_lines(
     scale: RasterScale,
     bytes: &[u8],
     wide: usize,
     from: usize,
     rows: usize,
-) -> [[u8; LINE_BYTES]; AT_ONCE]
+    lines: &mut [[u8; LINE_BYTES]; AT_ONCE],
+) -> usize
     requires begins { from ≤ rows * times_down scale }
     requires row_begins { from % times_down scale ≡ 0 }
     requires few { rows ≤ 65535 }
     requires long { rows * wide ≤ length bytes.now }
-    ensures { (i u : ℕ) → i < AT_ONCE → u < LINE_DOTS →
-        dot (slice_index_or result i []) u ≡ rows_dot scale wide rows bytes.now u (from + i) }
+    ensures few { result ≡ min (rows * times_down scale - from) AT_ONCE }
+    ensures dots { (i u : ℕ) → i < result → u < LINE_DOTS →
+        dot (slice_index_or lines.new i []) u ≡ rows_dot scale wide rows bytes.now u (from + i) }
 {
     let shown = wide.min(LINE_BYTES);
     let times = times_down(scale) as usize;
-    let mut lines = [[0; LINE_BYTES]; AT_ONCE];
-    for i in 0..(rows * times - from).min(AT_ONCE) {
+    let few = (rows * times - from).min(AT_ONCE);
+    for i in 0..few {
         if (from + i) % times > 0 {
             lines[i] = lines[i - 1];
         } else {
@@ -120,10 +122,12 @@ fn lines_from(
             lines[i] = widened(&bytes[at..at + shown], scale);
         }
     }
-    lines
+    few
 }
 
 /// Lays whole rows of a raster as many at once as go.
+// Apart, since so many lines take much room.
+#[inline(never)]
 fn lay_many<A: Small>(
     p: PageSettings,
     raster: &Raster,
@@ -141,10 +145,10 @@ fn lay_many<A: Small>(
     let wide = usize::from(raster.bytes);
     let high = rows * times_down(raster.scale) as usize;
     let top = p.vertical as u32;
+    let mut lines = [[0; LINE_BYTES]; AT_ONCE];
     for k in 0..high.div_ceil(AT_ONCE) {
         let from = AT_ONCE * k;
-        let lines = lines_from(raster.scale, bytes, wide, from, rows);
-        let few = (high - from).min(AT_ONCE);
+        let few = write_lines(raster.scale, bytes, wide, from, rows, &mut lines);
         page.lay_lines(p.area, p.direction, top + from as u32, &lines[..few], &[]);
     }
 }

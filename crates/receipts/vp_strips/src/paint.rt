@@ -32,21 +32,18 @@ pub struct Bitmap<A: Small = Global> {
     used: usize,
     /// Which rows are the same as the one above, while it is known: of characters that are all magnified
     /// upward.
-    same: Same,
-    known: bool,
-    /// Whether some row isn't.
-    parted: bool,
+    same: Option<Same>,
 }
 
 impl<A: Small> Model for Bitmap<A> {
-    ghost use Rattle.std.specs.Prelude.{◌≡◌, ℕ, List, true};
+    ghost use Rattle.std.specs.Prelude.{ℕ, List, IfSome};
     ghost use Rattle.vp_strips.specs.LineDots.{AreSame, IsWhiteAbove};
 
     ghost Value = { List (List ℕ) };
 
     ghost view = { λ s. s.band };
 
-    ghost invariant = { λ s. IsWhiteAbove s.used s.band × (s.known ≡ true → AreSame s.same s.band) };
+    ghost invariant = { λ s. IsWhiteAbove s.used s.band × IfSome s.same (λ same. AreSame same s.band) };
 }
 
 /// Paints the first `high` words, each of few dots, one on each row from `top` on.
@@ -377,9 +374,7 @@ impl<A: Small> Bitmap<A> {
         Ok(Bitmap {
             band,
             used: 0,
-            same: [true; LINE_ROWS],
-            known: true,
-            parted: false,
+            same: Some([true; LINE_ROWS]),
         })
     }
 
@@ -389,11 +384,7 @@ impl<A: Small> Bitmap<A> {
     {
         self.band.clear_rows(LINE_ROWS - self.used, LINE_ROWS);
         self.used = 0;
-        self.known = true;
-        if self.parted {
-            self.same = [true; LINE_ROWS];
-            self.parted = false;
-        }
+        self.same = Some([true; LINE_ROWS]);
     }
 
     /// Puts ink into the line at a position, on its lowest rows.
@@ -406,7 +397,7 @@ impl<A: Small> Bitmap<A> {
         let top = LINE_ROWS - high as usize;
         paint_ink(ink, at, top, &mut self.band);
         self.used = self.used.max(high as usize);
-        self.known = false;
+        self.same = None;
     }
 
     /// Puts a character into the line at a position, on its lowest rows.
@@ -423,11 +414,10 @@ impl<A: Small> Bitmap<A> {
         let top = LINE_ROWS - high;
         paint_cell(cell, at, top, &mut self.band);
         self.used = self.used.max(high);
-        if cell.style.hm > 1 {
-            part_rows(cell.font, cell.style, top, &mut self.same);
-            self.parted = true;
-        } else {
-            self.known = false;
+        if cell.style.hm <= 1 {
+            self.same = None;
+        } else if let Some(same) = &mut self.same {
+            part_rows(cell.font, cell.style, top, same);
         }
     }
 
@@ -457,10 +447,9 @@ impl<A: Small> Bitmap<A> {
             slice_index_or rows i [] ≡ slice_index_or self.now (LINE_ROWS - high + i) []) →
             AreTold rows result.now }
     {
-        if self.known {
-            &self.same[LINE_ROWS - high..]
-        } else {
-            &[]
+        match &self.same {
+            Some(same) => &same[LINE_ROWS - high..],
+            None => &[],
         }
     }
 

@@ -1,4 +1,4 @@
-use Rattle.std.proofs.Common.{◌≡◌, ℕ, ◌<◌, ◌≤◌, ◌-◌, ◌+◌, ◌*◌, ◌/◌, ◌%◌, ◌∙◌, ◌&&◌, ap, sym, refl, length, get_or, take, drop, w64, to_z, of_z, arith, rules, ltb}
+use Rattle.std.proofs.Common.{◌≡◌, ℕ, ◌<◌, ◌-◌, ◌+◌, ◌*◌, ◌/◌, ◌%◌, ◌∙◌, ◌&&◌, ap, sym, refl, get_or, w64, to_z, of_z, arith, rules, ltb}
 use mir.Val.{SFits}
 use Rattle.std.proofs.lemmas.Int.{to_z-of_z}
 use Rattle.std.proofs.lemmas.Bool.{lt-ltb, le-ltb}
@@ -6,10 +6,11 @@ use Rattle.vp_dots.specs.Dots.{span}
 use Rattle.vp_dots.specs.Words.{word_dot}
 use Rattle.vp_dots.specs.declared.Op.TheVariants.{Black}
 use Rattle.vp_page.specs.Runs.{along_of, lines_across}
-use Rattle.vp_page.proofs.Columns.{ordered, stretch_laid, two_white, white_stretch}
+use Rattle.vp_page.specs.Runs.{ordered}
+use Rattle.vp_page.proofs.Columns.{ordered_back, stretch_laid, two_white, white_stretch}
 use Rattle.vp_page.proofs.Rows.{rows_same, rows_then}
 use Rattle.vp_page.proofs.RunRows.{stretch_more}
-use Rattle.vp_page.proofs.Squares.{last_words, nothing_painted}
+use Rattle.vp_page.proofs.Squares.{nothing_painted}
 use Rattle.vp_page.proofs.across.lay_two.Goals as goal
 
 pub returns-then-is_white_square : goal.returns-then-is_white_square
@@ -17,73 +18,36 @@ returns-then-is_white_square g c = nothing_painted _ c.args.band.now (λ x y _. 
     let place : c.args.from + (u - c.args.from) ≡ u = omega (arith, p) in
     rw place at (two_white c.args.way c.args.lines.now c.two_of-squares.result c.args.from i (u - c.args.from) c.requires.lines (omega (arith, p, q, c.requires.few)) c.two_of-squares.ensures (c.is_white_square.ensures c.if-is_white_square.true))))
 
-pub returns-in-Up : goal.returns-in-Up
-returns-in-Up g c =
+pub returns : goal.returns
+returns g c =
     let a = c.args.area in
+    let way = c.args.way in
     let lines = c.args.lines.now in
     let from = c.args.from in
     let first = c.min-first.result in
     let second = c.args.rows - first in
     let turned = c.turned_square-turned.result in
-    let words = λ (n : ℕ). take (64 - (64 - n)) (drop (64 - n) c.reverse.new.self) in
     let left = to_z w64 (of_z w64 c.left_of-left.result) in
-    let whole : length turned ≡ 64 = search rules in
     let fits : SFits w64 c.left_of-left.result = search rules in
     let all : from + c.args.rows ≡ from + first + second = omega arith in
-    let few : second ≤ 64 = omega (arith, c.requires.few) in
-    let half = λ (words : ℕ → ℕ) (skip i s : ℕ). ltb s 32 && word_dot (words i) (s + skip) in
-    let word : (skip n k s : ℕ) → n ≤ 64 → k < n → s < 32 → (ltb s 32 && word_dot (get_or (words n) (ordered c.args.way n k) 0) (s + skip)) ≡ word_dot (get_or turned k 0) (s + skip) = λ skip n k s small h l.
-    let at : n - 1 - (n - 1 - k) ≡ k = omega (arith, h) in
-    let there : n - 1 - k < n = omega (arith, h) in
-    rw (lt-ltb s 32 l) (ap (λ way. word_dot (get_or (words n) (ordered way n k) 0) (s + skip)) c.in-Up.is
-    ∙ ap (λ word. word_dot word (s + skip)) (last_words turned c.reverse.new.self n (n - 1 - k) c.reverse.ensures.after whole small there ∙ ap (λ i. get_or turned i 0) at)) in
-    rows_same Black _ _ _ _ (λ x y _. ap (λ n. span from n (along_of a c.args.way y) && lines_across a c.args.way c.args.v lines x y) (sym all))
-    (rows_then _ _ _ _ _ _ (λ x y. stretch_more from (from + first) (from + first + second) (along_of a c.args.way y) (lines_across a c.args.way c.args.v lines x y) (omega arith) (omega arith))
-    (rows_same Black _ _ _ _ (λ x y _. stretch_laid a c.args.way c.args.v lines from first c.top_of-top.result 32 (half (λ i. get_or (words first) i 0) 0) left
+    let half = λ (skip n i s : ℕ). ltb s 32 && word_dot (get_or turned (ordered way n i) 0) (s + skip) in
+    let word : (skip n k s : ℕ) → k < n → s < 32 → half skip n (ordered way n k) s ≡ word_dot (get_or turned k 0) (s + skip) =
+    λ skip n k s h l. rw (lt-ltb s 32 l) (ap (λ i. word_dot (get_or turned i 0) (s + skip)) (ordered_back way n k h)) in
+    rows_same Black _ _ _ _ (λ x y _. ap (λ n. span from n (along_of a way y) && lines_across a way c.args.v lines x y) (sym all))
+    (rows_then _ _ _ _ _ _ (λ x y. stretch_more from (from + first) (from + first + second) (along_of a way y) (lines_across a way c.args.v lines x y) (omega arith) (omega arith))
+    (rows_same Black _ _ _ _ (λ x y _. stretch_laid a way c.args.v lines from first c.top_of-top.result 32 (half 0 first) left
     c.requires.wide c.requires.lines (omega (arith, c.requires.long)) c.top_of-top.ensures (rw (to_z-of_z w64 c.left_of-left.result fits) c.left_of-left.ensures)
     (λ k s h l.
     let line : (s + 0) % 32 ≡ s = omega (arith, l) in
     let place : from + 64 * ((s + 0) / 32) + k ≡ from + k = omega (arith, l) in
     let near : k < 64 = omega (arith, h) in
-    word 0 first k s (omega arith) h l ∙ c.turned_square-turned.ensures (s + 0) k (omega (arith, l)) near ∙ (rw (line, place) at (c.two_of-squares.ensures k (s + 0) near (omega (arith, l)))))
+    word 0 first k s h l ∙ c.turned_square-turned.ensures (s + 0) k (omega (arith, l)) near ∙ (rw (line, place) at (c.two_of-squares.ensures k (s + 0) near (omega (arith, l)))))
     (λ i s g. rw (le-ltb s 32 g) refl) x y) c.lay_halves.ensures)
-    (rows_same Black _ _ _ _ (λ x y _. stretch_laid a c.args.way c.args.v lines (from + first) second c.top_of-next.result 32 (half (λ i. get_or (words second) i 0) 32) left
-    c.requires.wide c.requires.lines (omega (arith, c.requires.long)) c.top_of-next.ensures (rw (to_z-of_z w64 c.left_of-left.result fits) c.left_of-left.ensures)
-    (λ k s h l.
-    let line : (s + 32) % 32 ≡ s = omega (arith, l) in
-    let place : from + 64 * ((s + 32) / 32) + k ≡ from + first + k = omega (arith, l, h) in
-    let near : k < 64 = omega (arith, h, few) in
-    word 32 second k s few h l ∙ c.turned_square-turned.ensures (s + 32) k (omega (arith, l)) near ∙ (rw (line, place) at (c.two_of-squares.ensures k (s + 32) near (omega (arith, l)))))
-    (λ i s g. rw (le-ltb s 32 g) refl) x y) c.lay_halves-in-Up.ensures))
-
-pub returns-in-Down : goal.returns-in-Down
-returns-in-Down g c =
-    let a = c.args.area in
-    let lines = c.args.lines.now in
-    let from = c.args.from in
-    let first = c.min-first.result in
-    let second = c.args.rows - first in
-    let turned = c.turned_square-turned.result in
-    let left = to_z w64 (of_z w64 c.left_of-left.result) in
-    let fits : SFits w64 c.left_of-left.result = search rules in
-    let all : from + c.args.rows ≡ from + first + second = omega arith in
-    let half = λ (skip i s : ℕ). ltb s 32 && word_dot (get_or turned i 0) (s + skip) in
-    let word : (skip n k s : ℕ) → s < 32 → (ltb s 32 && word_dot (get_or turned (ordered c.args.way n k) 0) (s + skip)) ≡ word_dot (get_or turned k 0) (s + skip) = λ skip n k s l. rw (lt-ltb s 32 l) (ap (λ way. word_dot (get_or turned (ordered way n k) 0) (s + skip)) c.in-Down.is) in
-    rows_same Black _ _ _ _ (λ x y _. ap (λ n. span from n (along_of a c.args.way y) && lines_across a c.args.way c.args.v lines x y) (sym all))
-    (rows_then _ _ _ _ _ _ (λ x y. stretch_more from (from + first) (from + first + second) (along_of a c.args.way y) (lines_across a c.args.way c.args.v lines x y) (omega arith) (omega arith))
-    (rows_same Black _ _ _ _ (λ x y _. stretch_laid a c.args.way c.args.v lines from first c.top_of-top.result 32 (half 0) left
-    c.requires.wide c.requires.lines (omega (arith, c.requires.long)) c.top_of-top.ensures (rw (to_z-of_z w64 c.left_of-left.result fits) c.left_of-left.ensures)
-    (λ k s h l.
-    let line : (s + 0) % 32 ≡ s = omega (arith, l) in
-    let place : from + 64 * ((s + 0) / 32) + k ≡ from + k = omega (arith, l) in
-    let near : k < 64 = omega (arith, h) in
-    word 0 first k s l ∙ c.turned_square-turned.ensures (s + 0) k (omega (arith, l)) near ∙ (rw (line, place) at (c.two_of-squares.ensures k (s + 0) near (omega (arith, l)))))
-    (λ i s g. rw (le-ltb s 32 g) refl) x y) c.lay_halves-in-Down.ensures)
-    (rows_same Black _ _ _ _ (λ x y _. stretch_laid a c.args.way c.args.v lines (from + first) second c.top_of-next.result 32 (half 32) left
+    (rows_same Black _ _ _ _ (λ x y _. stretch_laid a way c.args.v lines (from + first) second c.top_of-next.result 32 (half 32 second) left
     c.requires.wide c.requires.lines (omega (arith, c.requires.long)) c.top_of-next.ensures (rw (to_z-of_z w64 c.left_of-left.result fits) c.left_of-left.ensures)
     (λ k s h l.
     let line : (s + 32) % 32 ≡ s = omega (arith, l) in
     let place : from + 64 * ((s + 32) / 32) + k ≡ from + first + k = omega (arith, l, h) in
     let near : k < 64 = omega (arith, h, c.requires.few) in
-    word 32 second k s l ∙ c.turned_square-turned.ensures (s + 32) k (omega (arith, l)) near ∙ (rw (line, place) at (c.two_of-squares.ensures k (s + 32) near (omega (arith, l)))))
-    (λ i s g. rw (le-ltb s 32 g) refl) x y) c.lay_halves-in-Down-2.ensures))
+    word 32 second k s h l ∙ c.turned_square-turned.ensures (s + 32) k (omega (arith, l)) near ∙ (rw (line, place) at (c.two_of-squares.ensures k (s + 32) near (omega (arith, l)))))
+    (λ i s g. rw (le-ltb s 32 g) refl) x y) c.lay_halves-2.ensures))

@@ -8,5 +8,11 @@ use Rattle.vp_page.proofs.across.square_of.Given as goal
 abbrev pub invariant-loop-i : goal.invariant-loop-i
 invariant-loop-i l = record {
   count : length l.square ≡ 64;
-  dots : (x y : ℕ) → x < 64 → y < 64 → word_dot (get_or l.square y 0) x ≡ (ltb (placed l.way 64 y) l.i && line_dot l.lines (placed l.way 64 y) (l.from + x));
+  dots : (x y : ℕ) → x < 64 → y < 64 → word_dot (get_or l.square y 0) x ≡ (ltb (placed l.fn.way 64 y) l.i && line_dot l.lines (placed l.fn.way 64 y) (l.from + x));
+}
+
+abbrev pub invariant-loop-i-2 : goal.invariant-loop-i-2
+invariant-loop-i-2 l = record {
+  count : length l.square ≡ 64;
+  dots : (x y : ℕ) → x < 64 → y < 64 → word_dot (get_or l.square y 0) x ≡ (ltb (placed l.fn.way 64 y) l.i && line_dot l.lines (placed l.fn.way 64 y) (l.from + x));
 }

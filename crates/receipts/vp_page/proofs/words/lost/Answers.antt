@@ -1,4 +1,4 @@
-use Rattle.vp_dots.proofs.Words.{lost_bit}
+use Rattle.vp_page.proofs.WordsOnRows.{lost_bit}
 use Rattle.vp_page.proofs.words.lost.Goals as goal
 
 pub returns : goal.returns

@@ -2,9 +2,21 @@ use Rattle.std.proofs.Common.{◌≡◌, ◌+◌, ◌-◌, ◌++◌, ◌∷◌, 
 use Rattle.std.proofs.lemmas.List.{take_more, take_all}
 use Rattle.std.proofs.lemmas.List.Elements.{All-from_recursion}
 use Rattle.vp_esc.specs.Reader.{is_text}
-use Rattle.vp_receipt.proofs.Texts.{Put, none_put, has_room, control_put, character_put}
+use Rattle.vp_receipt.proofs.Texts.{Put, none_put, has_room, control_put, controls_put, character_put}
 use Rattle.vp_receipt.proofs.act.put_text.Goals.{then-code-ge32, else-code-ge32}
 use Rattle.vp_receipt.proofs.act.put_text.Goals as goal
+
+pub returns-then-are_controls : goal.returns-then-are_controls
+returns-then-are_controls g c =
+    let text = c.args.text.now in
+    let old = c.args.s.now in
+    let sheets = c.args.sheets.now in
+    let bitmap = c.args.bitmap.now in
+    let all : take (length text) text ≡ text = take_all (length text) text (omega arith) in
+    let done = controls_put old sheets bitmap text (length text) (omega arith) (c.are_controls.ensures c.if-are_controls.true) c.requires.text
+    (none_put old sheets bitmap (length text) c.requires.fit (omega (arith, c.requires.room))) in
+    let put : Put old sheets bitmap text (length text - length text) old bitmap = subst (λ xs. Put old sheets bitmap xs (length text - length text) old bitmap) all done in
+    record { fit = put.fit; settings = put.settings; line = put.line; others = put.others }
 
 pub loop-code-init : goal.loop-code-init
 loop-code-init g c = none_put c.args.s.now c.args.sheets.now c.args.bitmap.now (length c.args.text.now - 0) c.requires.fit (omega (arith, c.requires.room))

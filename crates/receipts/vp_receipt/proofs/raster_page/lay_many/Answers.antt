@@ -21,8 +21,8 @@ loop-k-init g c = λ layers page.
     let none : 0 ≡ min (AT_ONCE * 0) high = omega arith in
     subst (λ n. HasPage (Laid (first_rows n m) ∷ layers) c.args.page.now) none (rows_make_an_image.none m layers _ page)
 
-pub lines_from-lines-requires-clause-row_begins : goal.lines_from-lines-requires-clause-row_begins
-lines_from-lines-requires-clause-row_begins g c = ap (λ t. AT_ONCE * c.loop-k.k % t) (sym c.times_down.ensures.value) ∙ row_begins c.loop-k.k c.times_down.result c.times_down.ensures.some c.times_down.ensures.few
+pub write_lines-few-requires-clause-row_begins : goal.write_lines-few-requires-clause-row_begins
+write_lines-few-requires-clause-row_begins g c = ap (λ t. AT_ONCE * c.loop-k.k % t) (sym c.times_down.ensures.value) ∙ row_begins c.loop-k.k c.times_down.result c.times_down.ensures.some c.times_down.ensures.few
 
 pub loop-k-preserved : goal.loop-k-preserved
 loop-k-preserved g c = λ layers page.
@@ -32,8 +32,8 @@ loop-k-preserved g c = λ layers page.
     let high = c.args.rows * times_down r.scale in
     let m = mark_of p high (rows_dot r.scale r.bytes c.args.rows bytes) in
     let k = c.loop-k.k in
-    let n = c.min-few.result in
-    let lines = c.lines_from-lines.result in
+    let n = c.write_lines-few.result in
+    let lines = c.write_lines-few.new.lines in
     let all : c.args.rows * c.times_down.result ≡ high = ap (λ t. c.args.rows * t) c.times_down.ensures.value in
     let short = length_small p.area p.direction c.requires.fit.across c.requires.fit.down in
     let whole : length lines ≡ AT_ONCE = search rules in
@@ -42,7 +42,7 @@ loop-k-preserved g c = λ layers page.
     let next : AT_ONCE * k + n ≡ min (AT_ONCE * (k + 1)) high = omega (arith, all) in
     subst (λ n. HasPage (Laid (first_rows n m) ∷ layers) c.lay_lines.new.self) next
     (lines_more m (AT_ONCE * k) n (take n lines) layers c.lay_lines.new.self (omega arith) long
-    (λ u w h l. let shown : u < LINE_DOTS = omega (arith, h, short) in shown_line lines n w u ∙ rw (lt-ltb w n l, lt-ltb u LINE_DOTS shown) (c.lines_from-lines.ensures w u (omega (arith, l)) shown
+    (λ u w h l. let shown : u < LINE_DOTS = omega (arith, h, short) in shown_line lines n w u ∙ rw (lt-ltb w n l, lt-ltb u LINE_DOTS shown) (c.write_lines-few.ensures.dots w u l shown
     ∙ ap (λ x. rows_dot r.scale x c.args.rows bytes u (AT_ONCE * k + w)) c.from-wide.ensures))
     (c.lay_lines.ensures _ (subst (λ n. HasPage (Laid (first_rows n m) ∷ layers) c.loop-k.page) here (c.loop-k.invariant layers page))))
 
