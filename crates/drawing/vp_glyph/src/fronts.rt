@@ -31,11 +31,12 @@ pub fn first_row(s: u32, high: u32) -> u32
     ((u64::from(s) * u64::from(high) + 23) / 24) as u32
 }
 
-/// How many of N rows from one on stand above another.
-pub fn rows_above<const N: usize>(row: u32, first: u32) -> usize
-    ensures { result ≡ min (row - first) N }
+/// How many of so many rows from one on stand above another.
+#[inline(always)]
+pub fn rows_above(row: u32, first: u32, rows: usize) -> usize
+    ensures { result ≡ min (row - first) rows }
 {
-    (row.saturating_sub(first) as usize).min(N)
+    (row.saturating_sub(first) as usize).min(rows)
 }
 
 /// Makes the dots of the halves from one to another black where a half is.
@@ -238,18 +239,20 @@ impl Starts {
     }
 }
 
-/// Adds to the fronts of `N` rows, the first of which is row `top`, the rows of the sheet that are drawn
-/// as high as a cell from row `above` on: those that are alike at once.
+/// Adds to the fronts of the first `seen` of N rows, the first of which is row `top`, the rows of the sheet
+/// that are drawn as high as a cell from row `above` on: those that are alike at once.
 fn spread<const N: usize>(
     shown: &Shown,
     above: u32,
     starts: &Starts,
     top: u32,
+    seen: usize,
     groups: &mut [u32; GROUPS],
     fronts: &mut [u32; N],
 )
-    requires { above + starts.now.high < 2 ^ 32 }
-    ensures { (i x : ℕ) → i < N → x < 32 → front_dot GROUP groups.new fronts.new i x
+    requires high { above + starts.now.high < 2 ^ 32 }
+    requires seen { seen ≤ N }
+    ensures { (i x : ℕ) → i < seen → x < 32 → front_dot GROUP groups.new fronts.new i x
         ≡ (front_dot GROUP groups.old fronts.old i x || nat_le above (top + i)
         && nat_lt (top + i - above) starts.now.high
         && half_dot (slice_index shown.now.rows ((top + i - above) * 24 / starts.now.high)) x) }
@@ -257,27 +260,29 @@ fn spread<const N: usize>(
     let mut s = shown.next_inked(0);
     while s < 24 {
         let behind = shown.end_of(s);
-        let from = rows_above::<N>(above + starts.first(s), top);
-        let to = rows_above::<N>(above + starts.first(behind), top);
+        let from = rows_above(above + starts.first(s), top, seen);
+        let to = rows_above(above + starts.first(behind), top, seen);
         blacken_run(shown.rows[s as usize], from, to, groups, fronts);
         s = shown.next_inked(behind);
     }
 }
 
 impl<A: Small> Block<'_, A> {
-    /// Adds the lines to the fronts of N rows, the first of which is row `top`, and to those of their groups:
-    /// how many pieces are handed out, and how many of the cells drawn.
+    /// Adds the lines to the fronts of the first `seen` of N rows, the first of which is row `top`, and to
+    /// those of their groups: how many pieces are handed out, and how many of the cells drawn.
     fn add_lines<const N: usize>(
         &self,
         top: u32,
         at: i64,
+        seen: usize,
         groups: &mut [u32; GROUPS],
         fronts: &mut [u32; N],
     ) -> u64
         requires wide { self.now.w ≤ self.now.wide }
         requires few { N < 2 ^ 32 }
+        requires seen { seen ≤ N }
         requires white { (i x : ℕ) → front_dot GROUP groups.old fronts.old i x ≡ false }
-        ensures added { (i x : ℕ) → i < N → x < 32
+        ensures added { (i x : ℕ) → i < seen → x < 32
             → top + i < block_height self.now.h self.now.rows self.now.pitch
             → front_dot GROUP groups.new fronts.new i x
             ≡ shifted at (λ x. block_dot (layout_of self.now) self.now.text.now x (top + i)) x }
@@ -292,12 +297,20 @@ impl<A: Small> Block<'_, A> {
         let mut kept = Kept::new(text);
         let mut counter = 0u64;
         while let Some(text) = left {
-            if u64::from(top) + N as u64 <= u64::from(place * self.pitch) {
+            if u64::from(top) + seen as u64 <= u64::from(place * self.pitch) {
                 return counter;
             }
             if self.pitch == 0 || place + 1 >= self.rows {
                 let shown = Shown::of(self.joined(text, at, &mut counter));
-                spread(&shown, place * self.pitch, &starts, top, groups, fronts);
+                spread(
+                    &shown,
+                    place * self.pitch,
+                    &starts,
+                    top,
+                    seen,
+                    groups,
+                    fronts,
+                );
                 return counter;
             }
             let (line, rest) = hand_line(text, most, &mut counter);
@@ -307,6 +320,7 @@ impl<A: Small> Block<'_, A> {
                 place * self.pitch,
                 &starts,
                 top,
+                seen,
                 groups,
                 fronts,
             );
@@ -316,13 +330,20 @@ impl<A: Small> Block<'_, A> {
         counter
     }
 
-    /// Draws the first 32 dots of N rows, each moved by an offset and black where row top, top + 1, .. has
-    /// ink, on halves of words that are white: how many pieces are handed out, lines and their cells, and how
-    /// many of the cells drawn.
-    pub fn draw_fronts<const N: usize>(&self, top: u32, at: i64, fronts: &mut [u32; N]) -> u64
+    /// Draws the first 32 dots of the first `seen` of N rows, each moved by an offset and black where row
+    /// top, top + 1, .. has ink, on halves of words that are white: how many pieces are handed out, lines and
+    /// their cells, and how many of the cells drawn.
+    pub fn draw_fronts<const N: usize>(
+        &self,
+        top: u32,
+        at: i64,
+        seen: usize,
+        fronts: &mut [u32; N],
+    ) -> u64
         requires few { N < 2 ^ 32 }
+        requires seen { seen ≤ N }
         requires white { (i : ℕ) → slice_index fronts.old i ≡ 0 }
-        ensures drawn { (i x : ℕ) → i < N → x < 32
+        ensures drawn { (i x : ℕ) → i < seen → x < 32
             → top + i < block_height self.now.h self.now.rows self.now.pitch
             → half_dot (slice_index fronts.new i) x
             ≡ shifted at (λ x. block_dot (layout_of self.now) self.now.text.now x (top + i)) x }
@@ -334,7 +355,7 @@ impl<A: Small> Block<'_, A> {
             return 0;
         }
         let mut groups = [0u32; GROUPS];
-        let counter = self.add_lines(top, at, &mut groups, fronts);
+        let counter = self.add_lines(top, at, seen, &mut groups, fronts);
         settle(&groups, fronts);
         counter
     }

@@ -158,14 +158,14 @@ impl<A: Small> Block<'_, A> {
         ensures most { counter.new ≤ counter.old + ROWS * line.entry.cells }
     {
         let above = place * self.pitch;
-        let end = rows_above::<ROWS>(above + self.h, top);
-        let mut k = rows_above::<ROWS>(above, top);
+        let end = rows_above(above + self.h, top, ROWS);
+        let mut k = rows_above(above, top, ROWS);
         if k >= end {
             return false;
         }
         while k < end {
             let s = source_row(top + k as u32 - above, self.h) as u32;
-            let to = rows_above::<ROWS>(above + first_row(s + 1, self.h), top);
+            let to = rows_above(above + first_row(s + 1, self.h), top, ROWS);
             self.add_run(line, s, at, k, to, rows, counter);
             k = to;
         }
@@ -197,11 +197,11 @@ impl<A: Small> Block<'_, A> {
         ensures most { counter.new ≤ counter.old + ROWS * (2 * line_pieces text.now) }
     {
         let above = place * self.pitch;
-        let end = rows_above::<ROWS>(above + self.h, top);
-        let mut k = rows_above::<ROWS>(above, top);
+        let end = rows_above(above + self.h, top, ROWS);
+        let mut k = rows_above(above, top, ROWS);
         while k < end {
             let s = source_row(top + k as u32 - above, self.h) as u32;
-            let to = rows_above::<ROWS>(above + first_row(s + 1, self.h), top);
+            let to = rows_above(above + first_row(s + 1, self.h), top, ROWS);
             rows.blacken(&self.joined_row(text, s, at, counter), k, to);
             k = to;
         }

@@ -9,6 +9,7 @@ pub mod Alone
 pub mod Folds
 pub mod White
 pub mod Shown
+pub mod OnLabel
 pub mod Boxed
 pub mod Behind
 pub mod Pictured

@@ -6,11 +6,10 @@ use Rattle.std.proofs.lemmas.Bool.Decides.{nat_tests}
 use Rattle.vp_dots.specs.Dots.{bit, dot, span}
 use Rattle.vp_dots.specs.Images.{row_bytes}
 use Rattle.vp_dots.specs.Painting.{paint, Painted}
-use Rattle.vp_dots.specs.Places.{RowsPainted}
 use Rattle.vp_dots.specs.declared.Op.TheVariants.{White}
 use Rattle.vp_field.specs.Strokes.{Stroke, image_dot}
-use Rattle.vp_field.specs.Views.{seen_x, seen_y}
-use Rattle.vp_field.specs.Bands.{Shows}
+use Rattle.vp_field.specs.Views.{seen_x, seen_y, columns_of}
+use Rattle.vp_field.specs.Bands.{Shows, ShownPainted}
 use Rattle.vp_field.specs.declared.view.View.{View}
 use Rattle.vp_field.proofs.OnWhite.{dot_white}
 use Rattle.vp_field.proofs.Folds.{label_dot-none, label_dot-push, moved_dot}
@@ -40,15 +39,15 @@ shows_none view first n bytes a b few long done rest on across = record {
 
 -- one more stroke painted
 pub shows_more : (view : View) (first : ℕ) (s : Stroke) (a b : List (List ℕ))
-    → RowsPainted 32 s.op (λ x k. s.ink (seen_x view (pos x)) (seen_y view (pos (first + k)))) a b
+    → ShownPainted (columns_of view) s.op (λ x k. s.ink (seen_x view (pos x)) (seen_y view (pos (first + k)))) a b
     → (strokes : List Stroke) → Shows view first strokes a → Shows view first (strokes ++ s ∷ []) b
 shows_more view first s a b p strokes q = record {
-  rows_are = λ k h. (p.rows_are k h).length_is ∙ q.rows_are k h;
+  rows_are = λ k h. p.lengths_are k h ∙ q.rows_are k h;
   dots_are = λ x k l wide h high.
       let n = q.rows_are k h in
       let x' = seen_x view (pos x) in
       let y' = seen_y view (pos (first + k)) in
-      (p.rows_are k h).dots_are x (omega arith)
+      p.dots_are x k (omega (arith, l, wide)) h (omega arith)
       ∙ ap (λ d. paint s.op (s.ink x' y') d) (q.dots_are x k l wide h high ∙ moved_dot view (pos x) (pos (first + k)) strokes)
       ∙ sym (moved_dot view (pos x) (pos (first + k)) (strokes ++ s ∷ []) ∙ label_dot-push strokes s x' y');
 }

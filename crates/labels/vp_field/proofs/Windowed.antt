@@ -1,11 +1,8 @@
 -- Ink that lies across a band.
-use Rattle.std.proofs.Common.{◌≡◌, ℕ, ◌+◌, ◌-◌, ◌*◌, ◌<◌, ◌≤◌, Bool, true, false, get_or, length, sym, ap, ◌∙◌, arith, List, [], ℤ, pos, neg_ℤ, ◌-ℤ◌}
+use Rattle.std.proofs.Common.{◌≡◌, ℕ, ◌+◌, ◌-◌, ◌*◌, ◌<◌, ◌≤◌, Bool, true, false, sym, ap, ◌∙◌, arith, ℤ, pos, neg_ℤ, ◌-ℤ◌}
 use Rattle.std.proofs.lemmas.Int.{ints}
 use Rattle.std.proofs.lemmas.Bool.{true≢false, false_from_ne_true}
 use Rattle.vp_dots.specs.Dots.{shifted}
-use Rattle.vp_dots.specs.Places.{RowsPainted}
-use Rattle.vp_dots.specs.declared.Op.{Op}
-use Rattle.vp_dots.proofs.Paints.{painted_none}
 use Rattle.vp_field.specs.Axes.{laid, dot_on, read_at}
 use Rattle.vp_field.specs.declared.axis.Axis.{Axis}
 use Rattle.vp_field.specs.declared.axis.Axis.TheVariants.{Forward, Back}
@@ -34,23 +31,18 @@ dots_along (Forward at) n x v i l e = omega (arith, ints, e)
 dots_along (Back at) n x v i l e = omega (arith, ints, e)
 
 -- lines that have no dot on the places of a band
-pub white_across : (columns rows : Axis) (ink : ℕ → ℕ → Bool) (h top first : ℕ) (at : ℤ) → ((u v : ℕ) → ink u v ≡ true → v < h)
-    → ((x v : ℕ) → x < 1248 → v < h → dot_on columns (pos x) ≡ pos v → top ≤ v) → ((x v : ℕ) → x < 1248 → v < h → dot_on columns (pos x) ≡ pos v → v < top + 1248)
+pub white_across : (columns rows : Axis) (ink : ℕ → ℕ → Bool) (n h top first : ℕ) (at : ℤ) → ((u v : ℕ) → ink u v ≡ true → v < h)
+    → ((x v : ℕ) → x < n → v < h → dot_on columns (pos x) ≡ pos v → top ≤ v) → ((x v : ℕ) → x < n → v < h → dot_on columns (pos x) ≡ pos v → v < top + n)
     → ((line : ℕ → Bool) → ((d : ℕ) → d < 32 → shifted at line d ≡ false) → (k : ℕ) → k < 32 → at_place line (dot_on rows (pos (first + k))) ≡ false)
-    → ((i x : ℕ) → i < 1248 → x < 32 → top + i < h → shifted at (λ u. ink u (top + i)) x ≡ false)
-    → (x k : ℕ) → x < 1248 → k < 32 → laid Across columns rows ink (pos x) (pos (first + k)) ≡ false
-white_across columns rows ink h top first at inside from to seen white x k l m = false_from_ne_true (laid Across columns rows ink (pos x) (pos (first + k)))
+    → ((i x : ℕ) → i < n → x < 32 → top + i < h → shifted at (λ u. ink u (top + i)) x ≡ false)
+    → (x k : ℕ) → x < n → k < 32 → laid Across columns rows ink (pos x) (pos (first + k)) ≡ false
+white_across columns rows ink n h top first at inside from to seen white x k l m = false_from_ne_true (laid Across columns rows ink (pos x) (pos (first + k)))
     (λ e.
     let t = at_true (λ v. at_place (λ u. ink u v) (dot_on rows (pos (first + k)))) (dot_on columns (pos x)) e in
     let v = t.0 in
     let within : v < h = line_inside ink h inside (dot_on rows (pos (first + k))) v t.1 in
     let low : top ≤ v = from x v l within t.2 in
-    let high : v < top + 1248 = to x v l within t.2 in
+    let high : v < top + n = to x v l within t.2 in
     let same : top + (v - top) ≡ v = omega arith in
     let none = seen (λ u. ink u v) (λ d o. ap (λ n. shifted at (λ u. ink u n) d) (sym same) ∙ white (v - top) d (omega arith) (omega arith) (omega arith)) k m in
     absurd (true≢false (sym t.1 ∙ none)))
-
--- a band is left as it is
-pub band_left : (op : Op) (f g : ℕ → ℕ → Bool) (band : List (List ℕ)) → ((k : ℕ) → k < 32 → length (get_or band k []) ≡ 156) → ((x k : ℕ) → g x k ≡ f x k)
-    → ((x k : ℕ) → x < 1248 → k < 32 → g x k ≡ false) → RowsPainted 32 op f band band
-band_left op f g band r e n = record { rows_are = λ k l. painted_none op (λ x. f x k) (get_or band k []) (λ x m. sym (e x k) ∙ n x k (let w = r k l in omega arith) l) }

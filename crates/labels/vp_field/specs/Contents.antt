@@ -201,7 +201,8 @@ lines_cost lines pieces = most_lines lines * (1 + pieces (seen_dots lines))
 
 -- and a block whose text has so many lines and cells. Those above the band are passed once. Along the rows
 -- of the band, the others are walked and painted for each row; where they meet, first for all rows, at most
--- once for each and once more. Across, they are walked and drawn once for all columns, which are then laid
+-- once for each and once more. Across, they are walked and drawn once for all columns of the label, which are
+-- then laid
 abbrev pub block_cost : Lines → ℕ → ℕ
 block_cost Along pieces = pieces + 2 * (ROWS + 1) * pieces + lines_cost Along (λ d. 2 * pieces)
 block_cost Across pieces = pieces + 2 * pieces + (2 * WIDEST + 8)

@@ -1,6 +1,6 @@
 //! Blocks of lines whose rows fall on columns: many of them drawn at once, and laid 64 by 64.
-ghost use Rattle.std.specs.Prelude.{◌≡◌, ℕ, ◌+◌, ◌-◌, ◌*◌, ◌<◌, ◌≤◌, ◌^◌, nat_le, ◌&&◌, Bool, true, pos, slice_index, slice_index_or, [], length, MatchOption, IfSome};
-ghost use Rattle.vp_dots.specs.Dots.{dot, dots, shifted, span};
+ghost use Rattle.std.specs.Prelude.{◌≡◌, ℕ, ◌+◌, ◌-◌, ◌*◌, ◌<◌, ◌≤◌, ◌^◌, nat_le, ◌&&◌, Bool, true, pos, slice_index, length, MatchOption, IfSome};
+ghost use Rattle.vp_dots.specs.Dots.{dot, shifted, span};
 ghost use Rattle.vp_dots.specs.declared.square.TheConstants.{SIDE};
 ghost use Rattle.vp_dots.specs.Painting.{Painted};
 ghost use Rattle.vp_dots.specs.Places.{RowsPainted};
@@ -10,6 +10,7 @@ ghost use Rattle.vp_glyph.specs.Blocks.{block_height, block_dot, block_pieces};
 ghost use Rattle.vp_glyph.specs.Halves.{half_dot};
 ghost use Rattle.vp_glyph.specs.Layouts.{layout_of};
 ghost use Rattle.vp_field.specs.Axes.{dot_on, laid, read_at, IsWithin};
+ghost use Rattle.vp_field.specs.Bands.{ShownPainted};
 ghost use Rattle.vp_field.specs.Places.{at_place};
 ghost use Rattle.vp_field.specs.declared.axis.Lines.TheVariants.{Across};
 ghost use Rattle.vp_field.specs.declared.block_columns.TheConstants.{COLUMNS, ROW_WORDS};
@@ -18,7 +19,6 @@ ghost use Rattle.vp_label_size.specs.declared.TheConstants.{WIDEST, BAND_ROWS};
 use crate::axis::Axis;
 use crate::laid::Laid;
 use crate::line::drawn_at;
-use crate::paint::row_lengths;
 use crate::plain::{mixed_halves, word_of_plain};
 use crate::square::{are_white, paint_square};
 use vp_dots::{Ink, Op, SIDE, Small, paint_into, paint_word};
@@ -35,7 +35,7 @@ const ROW_WORDS: usize = 20;
 const ROW_BYTES: usize = 8 * ROW_WORDS;
 
 /// A block of lines, how its rows and their dots lie on a band, and the fronts of the rows that may fall on
-/// its columns.
+/// the label's columns.
 #[derive(Drop)]
 struct BlockColumns<'a, A: Small> {
     block: &'a Block<'a, A>,
@@ -47,17 +47,20 @@ struct BlockColumns<'a, A: Small> {
     top: u32,
     /// The offset at which they were drawn.
     at: i64,
+    /// How many columns of the label there are, and rows that were drawn.
+    seen: u32,
     fronts: &'a [u32; COLUMNS],
-    ghost drawn: { (i x : ℕ) → i < COLUMNS → x < 32
+    ghost most: { seen ≤ WIDEST },
+    ghost drawn: { (i x : ℕ) → i < seen → x < 32
         → top + i < block_height block.now.h block.now.rows block.now.pitch
         → half_dot (slice_index fronts.now i) x
         ≡ shifted at (λ x. block_dot (layout_of block.now) block.now.text.now x (top + i)) x },
     ghost falls: { (line dots : ℕ → Bool) → ((d : ℕ) → d < 32 → dots d ≡ shifted at line d) → (p : ℕ)
         → p < 32 → at_place line (dot_on rows (pos (first + p))) ≡ dots (read_at rows 32 p) },
-    ghost from: { (x v : ℕ) → x < WIDEST → v < block_height block.now.h block.now.rows block.now.pitch
+    ghost from: { (x v : ℕ) → x < seen → v < block_height block.now.h block.now.rows block.now.pitch
         → dot_on columns (pos x) ≡ pos v → top ≤ v },
-    ghost to: { (x v : ℕ) → x < WIDEST → v < block_height block.now.h block.now.rows block.now.pitch
-        → dot_on columns (pos x) ≡ pos v → v < top + WIDEST },
+    ghost to: { (x v : ℕ) → x < seen → v < block_height block.now.h block.now.rows block.now.pitch
+        → dot_on columns (pos x) ≡ pos v → v < top + seen },
 }
 
 /// Halves of words from one on, read along an axis.
@@ -102,7 +105,7 @@ fn paint_rows_alike<A: Small>(op: Op, dots: &[u8], x: u64, band: &mut LabelBand<
 impl<A: Small> BlockColumns<'_, A> {
     /// The row that falls on a column of the label, as it was drawn: white where none does.
     fn column(&self, x: u64) -> u32
-        ensures { x < WIDEST → (k : ℕ) → k < BAND_ROWS → half_dot result (read_at self.now.rows 32 k)
+        ensures { x < self.now.seen → (k : ℕ) → k < BAND_ROWS → half_dot result (read_at self.now.rows 32 k)
             ≡ laid Across self.now.columns self.now.rows
             (λ u v. block_dot (layout_of self.now.block.now) self.now.block.now.text.now u v)
             (pos x) (pos (self.now.first + k)) }
@@ -141,7 +144,7 @@ impl<A: Small> BlockColumns<'_, A> {
     /// The rows that fall on 64 columns of the label, the first of which is x.
     fn columns(&self, x: u64) -> [u32; SIDE]
         requires { x < 2 ^ 32 }
-        ensures { (i k : ℕ) → i < SIDE → x + i < WIDEST → k < BAND_ROWS
+        ensures { (i k : ℕ) → i < SIDE → x + i < self.now.seen → k < BAND_ROWS
             → half_dot (slice_index result i) (read_at self.now.rows 32 k) ≡ laid Across self.now.columns
             self.now.rows (λ u v. block_dot (layout_of self.now.block.now) self.now.block.now.text.now u v)
             (pos (x + i)) (pos (self.now.first + k)) }
@@ -161,7 +164,8 @@ impl<A: Small> BlockColumns<'_, A> {
     fn plain_row(&self, x: u64, words: usize) -> Option<[u8; ROW_BYTES]>
         requires x { x < 2 ^ 31 }
         requires words { words ≤ ROW_WORDS }
-        ensures { IfSome result (λ row. (i k : ℕ) → i < SIDE * words → x + i < WIDEST → k < BAND_ROWS
+        ensures { IfSome result (λ row. (i k : ℕ) → i < SIDE * words → x + i < self.now.seen
+            → k < BAND_ROWS
             → dot row i ≡ laid Across self.now.columns self.now.rows
             (λ u v. block_dot (layout_of self.now.block.now) self.now.block.now.text.now u v)
             (pos (x + i)) (pos (self.now.first + k))) }
@@ -189,12 +193,12 @@ impl<A: Small> BlockColumns<'_, A> {
     )
         requires x { x < 2 ^ 31 }
         requires words { words ≤ ROW_WORDS }
-        requires row { (i k : ℕ) → i < SIDE * words → x + i < WIDEST → k < BAND_ROWS
+        requires row { (i k : ℕ) → i < SIDE * words → x + i < self.now.seen
+            → k < BAND_ROWS
             → dot row.now i ≡ laid Across self.now.columns self.now.rows
             (λ u v. block_dot (layout_of self.now.block.now) self.now.block.now.text.now u v)
             (pos (x + i)) (pos (self.now.first + k)) }
-        requires wide { (k : ℕ) → k < BAND_ROWS → dots (slice_index_or band.old k []) ≤ WIDEST }
-        ensures { RowsPainted BAND_ROWS op (λ d k. span x (x + SIDE * words) d
+        ensures { ShownPainted self.now.seen op (λ d k. span x (x + SIDE * words) d
             && laid Across self.now.columns self.now.rows
             (λ u v. block_dot (layout_of self.now.block.now) self.now.block.now.text.now u v) (pos d)
             (pos (self.now.first + k))) band.old band.new }
@@ -204,11 +208,11 @@ impl<A: Small> BlockColumns<'_, A> {
 
     /// Paints the columns: how many were laid.
     fn paint(&self, op: Op, band: &mut LabelBand<A>) -> u64
-        ensures dots { RowsPainted BAND_ROWS op (λ x k. laid Across self.now.columns self.now.rows
+        ensures dots { ShownPainted self.now.seen op (λ x k. laid Across self.now.columns self.now.rows
             (λ u v. block_dot (layout_of self.now.block.now) self.now.block.now.text.now u v) (pos x)
             (pos (self.now.first + k))) band.old band.new }
-        ensures columns { result ≤ WIDEST }
-        ensures counted { (x z k : ℕ) → z < WIDEST → k < BAND_ROWS
+        ensures columns { result ≤ self.now.seen }
+        ensures counted { (x z k : ℕ) → z < self.now.seen → k < BAND_ROWS
             → laid Across self.now.columns self.now.rows
             (λ u v. block_dot (layout_of self.now.block.now) self.now.block.now.text.now u v) (pos x)
             (pos (self.now.first + k)) ≡ true → laid Across self.now.columns self.now.rows
@@ -217,8 +221,7 @@ impl<A: Small> BlockColumns<'_, A> {
     {
         let (_, height) = self.block.size();
         let (from, to) = self.columns.span(height);
-        row_lengths(band);
-        let end = to.min(u64::from(WIDEST));
+        let end = to.min(u64::from(self.seen));
         if from >= end {
             return 0;
         }
@@ -240,12 +243,14 @@ impl<A: Small> BlockColumns<'_, A> {
     }
 }
 
-/// Paints a block of lines that lies across a band, whose first row is row `first` of the label: how many
-/// lines of the text and cells of these it drew, and how many columns.
+/// Paints a block of lines that lies across a band, whose first row is row `first` of the label, on the
+/// columns of the label: how many lines of the text and cells of these it drew, and how many columns. It
+/// counts, also on a label that has none.
 pub fn paint_block_across<A: Small>(
     block: &Block<'_, A>,
     op: Op,
     lying: Laid,
+    columns: u32,
     first: u32,
     band: &mut LabelBand<A>,
 ) -> u64
@@ -253,22 +258,23 @@ pub fn paint_block_across<A: Small>(
     requires columns { IsWithin (2 ^ 41) lying.columns }
     requires rows { IsWithin (2 ^ 41) lying.rows }
     requires few { length block.now.text.now < 2 ^ 32 }
-    ensures dots { RowsPainted BAND_ROWS op (λ x k. laid Across lying.columns lying.rows
+    requires most { columns ≤ WIDEST }
+    ensures dots { ShownPainted columns op (λ x k. laid Across lying.columns lying.rows
         (λ u v. block_dot (layout_of block.now) block.now.text.now u v) (pos x) (pos (first + k))) band.old
         band.new }
-    ensures lines { result ≤ 2 * block_pieces block.now.text.now + (2 * WIDEST + 8) }
+    ensures lines { result ≤ 2 * block_pieces block.now.text.now + (2 * columns + 1) }
     ensures counted { 0 < result }
-    ensures least { (x k : ℕ) → x < WIDEST → k < BAND_ROWS → laid Across lying.columns lying.rows
+    ensures least { (x k : ℕ) → x < columns → k < BAND_ROWS → laid Across lying.columns lying.rows
         (λ u v. block_dot (layout_of block.now) block.now.text.now u v) (pos x) (pos (first + k)) ≡ true
-        → WIDEST + 2 ≤ result }
+        → columns + 2 ≤ result }
 {
     let (_, height) = block.size();
-    let top = lying.first_line(height, first);
+    let top = lying.first_line(height, first, columns);
     let at = drawn_at(lying.rows, first, 4);
     let mut fronts = [0u32; COLUMNS];
-    let drew = u64::from(WIDEST) + block.draw_fronts(top, at, &mut fronts);
+    let walked = block.draw_fronts(top, at, columns as usize, &mut fronts);
+    let drew = u64::from(columns.max(1)) + walked;
     if are_white(&fronts) {
-        row_lengths(band);
         return drew;
     }
     let drawn = BlockColumns {
@@ -278,6 +284,7 @@ pub fn paint_block_across<A: Small>(
         first,
         top,
         at,
+        seen: columns,
         fronts: &fronts,
     };
     drew + drawn.paint(op, band)

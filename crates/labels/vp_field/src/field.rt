@@ -14,8 +14,8 @@ ghost use Rattle.vp_field.specs.Standing.{standing, IsNear};
 ghost use Rattle.vp_field.specs.Fields.{field_ink, stroke_of, IsDrawn, IsEncoded, IsKept, AreMarksOf};
 ghost use Rattle.vp_field.specs.Strokes.{Stroke};
 ghost use Rattle.vp_field.specs.Frames.{frame_dot};
-ghost use Rattle.vp_field.specs.Views.{seen_x, seen_y};
-ghost use Rattle.vp_field.specs.Bands.{Shows, IsCounted};
+ghost use Rattle.vp_field.specs.Views.{seen_x, seen_y, columns_of};
+ghost use Rattle.vp_field.specs.Bands.{Shows, ShownPainted, IsCounted};
 ghost use Rattle.vp_field.specs.Drawn.{drawn};
 ghost use Rattle.vp_label_size.specs.declared.TheConstants.{BAND_ROWS, WIDEST};
 
@@ -89,7 +89,7 @@ fn paint_block_at_once<A: Small>(
 {
     let laid = on.laid(&rows);
     let (_, height) = rows.size();
-    let top = laid.first_line(height, first);
+    let top = laid.first_line(height, first, on.view.columns());
     let drawn = BlockBand::new(rows, top, drawn_at(laid.columns, 0, BAND_BYTES));
     drawn.pieces() + paint_standing(&drawn, on, first, band)
 }
@@ -137,8 +137,8 @@ fn paint_block<A: Small>(
 ) -> u64
     requires block { IsTextBlock stored.now block }
     requires near { IsNear on.left on.top }
-    ensures dots { RowsPainted BAND_ROWS on.op (drawn sheets.now stored.now (contents.Block block) on first)
-        band.old band.new }
+    ensures dots { ShownPainted (columns_of on.view) on.op
+        (drawn sheets.now stored.now (contents.Block block) on first) band.old band.new }
     ensures lines { result ≤ most_work on.orientation (contents.Block block) }
     ensures counted { IsCounted (drawn sheets.now stored.now (contents.Block block) on first) result }
     ensures passed { ArePassed sheets.now stored.now block on first result }
@@ -146,12 +146,13 @@ fn paint_block<A: Small>(
     let ink = block_of(sheets, stored, block);
     let (_, height) = ink.size();
     let laid = on.laid(&ink);
-    let row = laid.first_line(height, first);
+    let columns = on.view.columns();
+    let row = laid.first_line(height, first, columns);
     let block = ink.from_row(row);
     let walked = block.walked();
     match laid.lines {
         Lines::Along => walked + paint_block_along(block, on, first, band),
-        Lines::Across => walked + paint_block_across(&block, on.op, laid, first, band),
+        Lines::Across => walked + paint_block_across(&block, on.op, laid, columns, first, band),
     }
 }
 
@@ -267,8 +268,8 @@ fn paint_qr<A: Small>(
     paint_standing(&modules, on, first, band)
 }
 
-/// Applies the field's operation to the dots of a band, whose first row is row `first` of the label as it
-/// is put out, where the field has ink. What that took comes back.
+/// Applies the field's operation to the dots of a band that are on the label, where the field has ink. The
+/// band's first row is row `first` of the label as it is put out. What that took comes back.
 fn paint_content<A: Small>(
     sheets: &Sheets<A>,
     stored: &[u8],
@@ -280,7 +281,7 @@ fn paint_content<A: Small>(
 ) -> u64
     requires kept { IsKept stored.now field.now }
     requires marks { AreMarksOf stored.now field.now.content marks.old }
-    ensures dots { RowsPainted BAND_ROWS field.now.op (λ x k.
+    ensures dots { ShownPainted (columns_of view) field.now.op (λ x k.
         field_ink sheets.now stored.now field.now (seen_x view (pos x))
         (seen_y view (pos (first + k)))) band.old band.new }
     ensures marks { AreMarksOf stored.now field.now.content marks.new }
@@ -325,7 +326,7 @@ pub fn paint_field<A: Small>(
 ) -> u64
     requires kept { IsKept stored.now field.now }
     requires marks { AreMarksOf stored.now field.now.content marks.old }
-    ensures dots { RowsPainted BAND_ROWS field.now.op (λ x k.
+    ensures dots { ShownPainted (columns_of view) field.now.op (λ x k.
         field_ink sheets.now stored.now field.now (seen_x view (pos x))
         (seen_y view (pos (first + k)))) band.old band.new }
     ensures shows { (strokes : List Stroke) → Shows view first strokes band.old

@@ -4,11 +4,11 @@ ghost use Rattle.vp_field.specs.Turning.{turned};
 ghost use Rattle.vp_field.specs.Views.{seen_x, seen_y};
 ghost use Rattle.vp_field.specs.Axes.{laid, lines_of, IsWithin, dot_on};
 ghost use Rattle.vp_field.specs.declared.axis.Lines.TheVariants.{Along, Across};
-ghost use Rattle.vp_label_size.specs.declared.TheConstants.{WIDEST, BAND_ROWS};
+ghost use Rattle.vp_label_size.specs.declared.TheConstants.{BAND_ROWS};
 
 use crate::axis::{Axis, Lines, clamped};
 use crate::view::View;
-use vp_label_size::{BAND_ROWS, WIDEST};
+use vp_label_size::BAND_ROWS;
 use vp_zpl::item::Orientation;
 
 /// How a box of dots lies on a label: which way its lines run, and where their dots fall.
@@ -80,22 +80,23 @@ impl Laid {
         }
     }
 
-    /// The first of `lines` lines that may fall on the band from row `first` on: none before it does.
-    pub fn first_line(self, lines: u32, first: u32) -> u32
+    /// The first of `lines` lines that may fall on the band from row `first` on, on so many columns where they
+    /// lie across it: none before it does.
+    pub fn first_line(self, lines: u32, first: u32, columns: u32) -> u32
         requires columns { IsWithin (2 ^ 41) self.columns }
         requires rows { IsWithin (2 ^ 41) self.rows }
         ensures along { self.lines ≡ Along → (k v : ℕ) → k < BAND_ROWS → v < lines
             → dot_on self.rows (pos (first + k)) ≡ pos v → result ≤ v }
         ensures near { self.lines ≡ Along → (k v : ℕ) → k < BAND_ROWS → v < lines
             → dot_on self.rows (pos (first + k)) ≡ pos v → v < result + BAND_ROWS }
-        ensures across { self.lines ≡ Across → (x v : ℕ) → x < WIDEST → v < lines
+        ensures across { self.lines ≡ Across → (x v : ℕ) → x < columns → v < lines
             → dot_on self.columns (pos x) ≡ pos v → result ≤ v }
-        ensures within { self.lines ≡ Across → (x v : ℕ) → x < WIDEST → v < lines
-            → dot_on self.columns (pos x) ≡ pos v → v < result + WIDEST }
+        ensures within { self.lines ≡ Across → (x v : ℕ) → x < columns → v < lines
+            → dot_on self.columns (pos x) ≡ pos v → v < result + columns }
     {
         match self.lines {
             Lines::Along => clamped(self.rows.first_line(first, BAND_ROWS as u32), lines),
-            Lines::Across => clamped(self.columns.first_line(0, u32::from(WIDEST)), lines),
+            Lines::Across => clamped(self.columns.first_line(0, columns), lines),
         }
     }
 }

@@ -3,12 +3,14 @@ ghost use Rattle.std.specs.Prelude.{◌≤◌, length};
 ghost use Rattle.vp_field.specs.Fields.{IsKept};
 
 use super::{Label, Painter, Rows, shows, view_of, whole};
+use crate::checks::same_by;
 use crate::sheets::{NONE, stairs};
+use std::alloc::Global;
 use std::test::Fail;
 use vp_dots::Op;
 use vp_field::{SizedContent, turned_rows};
 use vp_format::{Content, Field, Text, TextBlock};
-use vp_glyph::Alignment;
+use vp_glyph::{Alignment, Sheets};
 use vp_zpl::item::Orientation;
 
 /// A text of cells of 12 by 24 in the label's first row.
@@ -239,6 +241,37 @@ fn blocks(rt: HostRuntime) -> Result<(), Fail> {
         let mut page = Painter::new(rt.alloc(), view_of(case.label), case.first)?;
         page.paint(&sheets, letters, &field);
         shows(&rt, page, "a block", case.rows);
+    }
+    Ok(())
+}
+
+/// The first 32 dots of the rows of a band that shows a turned block of four lines on a label so wide.
+fn first_dots(
+    alloc: Global,
+    sheets: &Sheets,
+    orientation: Orientation,
+    width: u16,
+) -> Result<[[u8; 4]; 32], Fail> {
+    let letters = b"M\\&MM\\&M\\&MM";
+    let field = block(orientation, letters, 4, Alignment::Left);
+    let mut page = Painter::new(alloc, view_of((width, 24, false, false)), 0)?;
+    page.paint(sheets, letters, &field);
+    let rows = page.rows();
+    let mut dots = [[0; 4]; 32];
+    for y in 0..32 {
+        dots[y].copy_from_slice(&rows[y][..4]);
+    }
+    Ok(dots)
+}
+
+/// A turned block is drawn only as wide as the label, and shows the same there.
+#[test]
+fn blocks_on_a_narrow_label(rt: HostRuntime) -> Result<(), Fail> {
+    let sheets = stairs(rt.alloc())?;
+    for orientation in [Orientation::Rotated, Orientation::BottomUp] {
+        let narrow = first_dots(rt.alloc(), &sheets, orientation, 32)?;
+        let wide = first_dots(rt.alloc(), &sheets, orientation, 1248)?;
+        same_by(&rt, "a block on a narrow label", &narrow, &wide);
     }
     Ok(())
 }

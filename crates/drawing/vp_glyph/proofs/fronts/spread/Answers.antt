@@ -15,12 +15,12 @@ loop-s-preserved g c =
     let s = c.loop-s.s in
     let end = c.end_of-behind.ensures in
     let next = c.next_inked-s-in-loop-s.ensures in
-    let from = c.rows_above-from.ensures ∙ ap (λ e. min (c.args.above + e - c.args.top) g.row.N) c.first.ensures.row in
-    let to = c.rows_above-to.ensures ∙ ap (λ e. min (c.args.above + e - c.args.top) g.row.N) c.first-in-loop-s.ensures.row in
+    let from = c.rows_above-from.ensures ∙ ap (λ e. min (c.args.above + e - c.args.top) c.args.seen) c.first.ensures.row in
+    let to = c.rows_above-to.ensures ∙ ap (λ e. min (c.args.above + e - c.args.top) c.args.seen) c.first-in-loop-s.ensures.row in
     record {
       within = next.within;
       added = added_past c.args.shown.now.rows _ _ _ _ _ _ _ _ next.within next.from next.white
-          (added_more c.args.shown.now.rows _ _ _ _ s _ _ _ end.within end.some end.alike c.loop-s.invariant.added _ _ _ from to c.blacken_run.ensures);
+          (added_more c.args.shown.now.rows _ _ _ _ s _ _ _ end.within end.some end.alike c.loop-s.invariant.added _ _ _ from to (λ i x l m. c.blacken_run.ensures i x (omega (arith, l, c.requires.seen)) m));
     }
 
 pub returns : goal.returns

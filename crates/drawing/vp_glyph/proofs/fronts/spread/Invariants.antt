@@ -7,7 +7,7 @@ use Rattle.vp_glyph.proofs.fronts.spread.Given as goal
 abbrev pub invariant-loop-s : goal.invariant-loop-s
 invariant-loop-s g l = record {
   within : l.s ≤ 24;
-  added : Added l.shown.rows l.above l.starts.high g.row.N l.top l.s (front_dot 16 l.fn.groups l.fn.fronts) (front_dot 16 l.groups l.fronts);
+  added : Added l.shown.rows l.above l.starts.high l.seen l.top l.s (front_dot 16 l.fn.groups l.fn.fronts) (front_dot 16 l.groups l.fronts);
 }
 
 abbrev pub decreases-loop-s : goal.decreases-loop-s

@@ -1,19 +1,19 @@
-use Rattle.std.proofs.Common.{◌≡◌, ℕ, ◌+◌, ◌-◌, ◌*◌, ◌^◌, ◌<◌, ◌≤◌, ◌∙◌, min, List, length, drop, ap, sym, arith, pos}
+use Rattle.std.proofs.Common.{◌≡◌, ℕ, ◌+◌, ◌*◌, ◌^◌, ◌<◌, ◌≤◌, ◌∙◌, List, length, drop, ap, sym, arith, pos}
 use Rattle.std.proofs.lemmas.List.{length-take}
 use Rattle.vp_format.specs.declared.field.Content.TheVariants as contents
 use Rattle.vp_format.specs.declared.field.TextBlock.{TextBlock}
 use Rattle.vp_glyph.specs.Blocks.{block_height, block_width, block_dot}
 use Rattle.vp_glyph.specs.Layouts.{layout_of}
 use Rattle.vp_field.specs.Axes.{laid, lines_of, dot_on}
-use Rattle.vp_field.specs.Counts.{block_least}
+use Rattle.vp_field.specs.Counts.{block_columns, block_least}
 use Rattle.vp_field.specs.Contents.{bytes_of, block_layout, content_height, content_dot, most_lines, IsTextBlock}
 use Rattle.vp_field.specs.Drawn.{part}
 use Rattle.vp_field.specs.Standing.{standing}
-use Rattle.vp_field.specs.Views.{seen_x, seen_y}
+use Rattle.vp_field.specs.Views.{seen_x, seen_y, columns_of}
 use Rattle.vp_field.specs.declared.axis.Lines.TheVariants.{Along, Across}
 use Rattle.vp_field.proofs.Counts.{along_cost, across_cost}
 use Rattle.vp_field.proofs.Passing.{passed_beside}
-use Rattle.vp_field.proofs.Shown.{rows_same}
+use Rattle.vp_field.proofs.OnLabel.{shown_rows, shown_same}
 use Rattle.vp_field.proofs.field.paint_block.Goals as goal
 
 -- the text of a block is among its bytes, and so short
@@ -27,7 +27,7 @@ pub returns-in-Along-clause-dots : goal.returns-in-Along-clause-dots
 returns-in-Along-clause-dots g c =
     let b = c.block_of-ink.ensures in
     let r = c.from_row-block.ensures in
-    rw (r.sheet ∙ b.sheet, r.text ∙ b.text, r.w ∙ b.w, r.h ∙ b.h, r.wide ∙ b.wide, r.rows ∙ b.rows, r.pitch ∙ b.pitch, r.alignment ∙ b.alignment) at c.paint_block_along.ensures.dots
+    shown_rows _ c.args.on.op _ _ _ (rw (r.sheet ∙ b.sheet, r.text ∙ b.text, r.w ∙ b.w, r.h ∙ b.h, r.wide ∙ b.wide, r.rows ∙ b.rows, r.pitch ∙ b.pitch, r.alignment ∙ b.alignment) at c.paint_block_along.ensures.dots)
 
 pub returns-in-Across-clause-dots : goal.returns-in-Across-clause-dots
 returns-in-Across-clause-dots g c =
@@ -37,10 +37,10 @@ returns-in-Across-clause-dots g c =
     let on = c.args.on in
     let l = c.laid-laid.result in
     let ink = λ (u v : ℕ). block_dot (layout_of k) k.text.now u v in
-    let dots = rw (r.sheet, r.text, r.w, r.h, r.wide, r.rows, r.pitch, r.alignment) at c.paint_block_across.ensures.dots in
-    let same = rows_same on.op (λ x y. laid Across l.columns l.rows ink (pos x) (pos (c.args.first + y)))
+    let dots = rw (c.columns-columns.ensures, r.sheet, r.text, r.w, r.h, r.wide, r.rows, r.pitch, r.alignment) at c.paint_block_across.ensures.dots in
+    let same = shown_same (columns_of on.view) on.op (λ x y. laid Across l.columns l.rows ink (pos x) (pos (c.args.first + y)))
     (λ x y. standing on.left on.top on.orientation (block_width k.wide k.w) (block_height k.h k.rows k.pitch) ink (seen_x on.view (pos x)) (seen_y on.view (pos (c.args.first + y)))) c.args.band.now _
-    (λ x y. (let e = c.laid-laid.ensures.ink ink (pos x) (pos (c.args.first + y)) in rw c.in-Across.is at e)) dots in
+    (λ x y l h. (let e = c.laid-laid.ensures.ink ink (pos x) (pos (c.args.first + y)) in rw c.in-Across.is at e)) dots in
     rw (b.sheet, b.text, b.w, b.h, b.wide, b.rows, b.pitch, b.alignment) at same
 
 pub returns-in-Along-clause-counted : goal.returns-in-Along-clause-counted
@@ -81,8 +81,8 @@ returns-in-Across-clause-lines g c =
     let r = c.from_row-block.ensures in
     let n = length c.from_row-block.result.text.now in
     let walked : c.walked-walked.result ≤ 2 * n + 1 = omega (arith, c.walked-walked.ensures, r.walked, b.walked, ap length r.text) in
-    let cost = across_cost (lines_of c.args.on.orientation) n c.args.block.text.bytes.len c.walked-walked.result _ (sym c.laid-laid.ensures.lines ∙ c.in-Across.is)
-    (text_less c.args.stored.now c.args.block _ (r.text ∙ b.text)) walked c.paint_block_across.ensures.lines in
+    let cost = across_cost (lines_of c.args.on.orientation) n c.args.block.text.bytes.len c.walked-walked.result c.paint_block_across.result (sym c.laid-laid.ensures.lines ∙ c.in-Across.is)
+    (text_less c.args.stored.now c.args.block _ (r.text ∙ b.text)) walked (omega (arith, c.paint_block_across.ensures.lines, c.columns-columns.ensures)) in
     omega (arith, cost)
 
 pub returns-in-Along-clause-passed : goal.returns-in-Along-clause-passed
@@ -101,10 +101,10 @@ returns-in-Along-clause-passed g c = λ x k y l m e.
     let walked = rw (b.walked, b.passed, b.sheet, b.text, b.w, b.h, b.wide, b.rows, b.pitch, b.alignment) at r.counted in
     let painted = rw (r.sheet ∙ b.sheet, r.text ∙ b.text, r.w ∙ b.w, r.h ∙ b.h, r.wide ∙ b.wide, r.rows ∙ b.rows, r.pitch ∙ b.pitch, r.alignment ∙ b.alignment) at c.paint_block_along.ensures.counted in
     let few = text_few c.args.stored.now d _ c.requires.block b.text in
-    let passed = passed_beside (block_layout c.args.sheets.now d) text y c.first_line-row.result most h (block_least (lines_of c.args.on.orientation)) c.from_row-block.result.walked c.paint_block_along.result
+    let passed = passed_beside (block_layout c.args.sheets.now d) text y c.first_line-row.result most h (block_least (lines_of c.args.on.orientation) c.args.on.view) c.from_row-block.result.walked c.paint_block_along.result
     (dot_on lay.columns (pos x)) (dot_on lay.rows (pos (c.args.first + k))) (shown (part (y + most) h ink) (pos x) (pos (c.args.first + k)) ∙ e)
     (λ v n p. let near = c.first_line-row.ensures.near c.in-Along.is k v m (omega (arith, n, height)) p in omega (arith, near, ap most_lines lines))
-    walked (omega (arith, few, r.walked, b.walked)) (λ w. let some = painted x k m (sym (shown ink (pos x) (pos (c.args.first + k))) ∙ w) in omega (arith, some, ap block_least lines)) in
+    walked (omega (arith, few, r.walked, b.walked)) (λ w. let some = painted x k m (sym (shown ink (pos x) (pos (c.args.first + k))) ∙ w) in omega (arith, some, ap (λ o. block_least o c.args.on.view) lines)) in
     omega (arith, passed, c.walked-walked.ensures)
 
 pub returns-in-Across-clause-passed : goal.returns-in-Across-clause-passed
@@ -122,9 +122,10 @@ returns-in-Across-clause-passed g c = λ x k y l m e.
     let height = rw (b.h, b.rows, b.pitch) at c.size-height.ensures.height in
     let walked = rw (b.walked, b.passed, b.sheet, b.text, b.w, b.h, b.wide, b.rows, b.pitch, b.alignment) at r.counted in
     let painted = rw (r.sheet ∙ b.sheet, r.text ∙ b.text, r.w ∙ b.w, r.h ∙ b.h, r.wide ∙ b.wide, r.rows ∙ b.rows, r.pitch ∙ b.pitch, r.alignment ∙ b.alignment) at c.paint_block_across.ensures.least in
+    let seen : x < c.columns-columns.result = omega (arith, l, c.columns-columns.ensures, ap (λ o. block_columns o c.args.on.view) lines) in
     let few = text_few c.args.stored.now d _ c.requires.block b.text in
-    let passed = passed_beside (block_layout c.args.sheets.now d) text y c.first_line-row.result most h (block_least (lines_of c.args.on.orientation)) c.from_row-block.result.walked c.paint_block_across.result
+    let passed = passed_beside (block_layout c.args.sheets.now d) text y c.first_line-row.result most h (block_least (lines_of c.args.on.orientation) c.args.on.view) c.from_row-block.result.walked c.paint_block_across.result
     (dot_on lay.rows (pos (c.args.first + k))) (dot_on lay.columns (pos x)) (shown (part (y + most) h ink) (pos x) (pos (c.args.first + k)) ∙ e)
-    (λ v n p. let near = c.first_line-row.ensures.within c.in-Across.is x v l (omega (arith, n, height)) p in omega (arith, near, ap most_lines lines))
-    walked (omega (arith, few, r.walked, b.walked)) (λ w. let some = painted x k l m w in omega (arith, some, ap block_least lines)) in
+    (λ v n p. let near = c.first_line-row.ensures.within c.in-Across.is x v seen (omega (arith, n, height)) p in omega (arith, near, c.columns-columns.ensures, ap most_lines lines))
+    walked (omega (arith, few, r.walked, b.walked)) (λ w. let some = painted x k seen m w in omega (arith, some, c.columns-columns.ensures, ap (λ o. block_least o c.args.on.view) lines)) in
     omega (arith, passed, c.walked-walked.ensures)

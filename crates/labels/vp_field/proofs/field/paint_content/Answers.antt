@@ -1,6 +1,7 @@
 use Rattle.std.proofs.Common.{rules, w64}
 use mir.Val.{SFits}
 use Rattle.std.proofs.lemmas.Int.{to_z-of_z}
+use Rattle.vp_field.proofs.OnLabel.{shown_rows}
 use Rattle.vp_field.proofs.field.paint_content.Goals as goal
 
 pub returns-in-Text-clause-dots : goal.returns-in-Text-clause-dots
@@ -9,7 +10,7 @@ returns-in-Text-clause-dots g c =
     let n = c.requires.kept.near in
     let left : SFits w64 f.left = search (rules, n.left_low, n.left_high) in
     let top : SFits w64 f.top = search (rules, n.top_low, n.top_high) in
-    rw c.in-Text.is (rw (to_z-of_z w64 f.left left, to_z-of_z w64 f.top top) at c.paint_text.ensures.dots)
+    shown_rows _ f.op _ _ _ (rw c.in-Text.is (rw (to_z-of_z w64 f.left left, to_z-of_z w64 f.top top) at c.paint_text.ensures.dots))
 
 pub returns-in-Block-clause-dots : goal.returns-in-Block-clause-dots
 returns-in-Block-clause-dots g c =
@@ -25,7 +26,7 @@ returns-in-Box-clause-dots g c =
     let n = c.requires.kept.near in
     let left : SFits w64 f.left = search (rules, n.left_low, n.left_high) in
     let top : SFits w64 f.top = search (rules, n.top_low, n.top_high) in
-    rw c.in-Box.is (rw (to_z-of_z w64 f.left left, to_z-of_z w64 f.top top, to_z-of_z w64 f.left left, to_z-of_z w64 f.top top) at (rw c.of.ensures at c.paint_frame.ensures.dots))
+    shown_rows _ f.op _ _ _ (rw c.in-Box.is (rw (to_z-of_z w64 f.left left, to_z-of_z w64 f.top top, to_z-of_z w64 f.left left, to_z-of_z w64 f.top top) at (rw c.of.ensures at c.paint_frame.ensures.dots)))
 
 pub returns-in-Bars-clause-dots : goal.returns-in-Bars-clause-dots
 returns-in-Bars-clause-dots g c =
@@ -33,7 +34,7 @@ returns-in-Bars-clause-dots g c =
     let n = c.requires.kept.near in
     let left : SFits w64 f.left = search (rules, n.left_low, n.left_high) in
     let top : SFits w64 f.top = search (rules, n.top_low, n.top_high) in
-    rw c.in-Bars.is (rw (to_z-of_z w64 f.left left, to_z-of_z w64 f.top top) at c.paint_bars.ensures.dots)
+    shown_rows _ f.op _ _ _ (rw c.in-Bars.is (rw (to_z-of_z w64 f.left left, to_z-of_z w64 f.top top) at c.paint_bars.ensures.dots))
 
 pub returns-in-Qr-clause-dots : goal.returns-in-Qr-clause-dots
 returns-in-Qr-clause-dots g c =
@@ -41,7 +42,7 @@ returns-in-Qr-clause-dots g c =
     let n = c.requires.kept.near in
     let left : SFits w64 f.left = search (rules, n.left_low, n.left_high) in
     let top : SFits w64 f.top = search (rules, n.top_low, n.top_high) in
-    rw c.in-Qr.is (rw (to_z-of_z w64 f.left left, to_z-of_z w64 f.top top, to_z-of_z w64 f.left left, to_z-of_z w64 f.top top) at (c.paint_qr.ensures.dots c.args.sheets.now))
+    shown_rows _ f.op _ _ _ (rw c.in-Qr.is (rw (to_z-of_z w64 f.left left, to_z-of_z w64 f.top top, to_z-of_z w64 f.left left, to_z-of_z w64 f.top top) at (c.paint_qr.ensures.dots c.args.sheets.now)))
 
 pub returns-in-Picture-clause-dots : goal.returns-in-Picture-clause-dots
 returns-in-Picture-clause-dots g c =
@@ -49,7 +50,7 @@ returns-in-Picture-clause-dots g c =
     let n = c.requires.kept.near in
     let left : SFits w64 f.left = search (rules, n.left_low, n.left_high) in
     let top : SFits w64 f.top = search (rules, n.top_low, n.top_high) in
-    rw c.in-Picture.is (rw (to_z-of_z w64 f.left left, to_z-of_z w64 f.top top, to_z-of_z w64 f.left left, to_z-of_z w64 f.top top) at (c.paint_picture.ensures.dots c.args.sheets.now))
+    shown_rows _ f.op _ _ _ (rw c.in-Picture.is (rw (to_z-of_z w64 f.left left, to_z-of_z w64 f.top top, to_z-of_z w64 f.left left, to_z-of_z w64 f.top top) at (c.paint_picture.ensures.dots c.args.sheets.now)))
 
 pub returns-in-Text-clause-counted : goal.returns-in-Text-clause-counted
 returns-in-Text-clause-counted g c =

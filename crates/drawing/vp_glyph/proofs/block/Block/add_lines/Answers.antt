@@ -37,8 +37,8 @@ loop-left-preserved g c =
       none = λ e. absurd (omega (arith, e, c.hand_line.ensures.counted, c.keep.ensures.counted));
     }
 
-pub returns-then-from : goal.returns-then-from
-returns-then-from g c =
+pub returns-then-from-seen : goal.returns-then-from-seen
+returns-then-from-seen g c =
     let b = c.args.self.now in
     rw (sym (to_z-of_z w64 c.args.at c.ranges.at)) (record {
       added = λ i x l m k. drawn_all b.sheet.now b.w b.h b.wide b.rows b.pitch b.alignment (c.args.top + i) (to_z w64 (of_z w64 c.args.at)) 4 b.text.now c.loop-left.place c.loop-left.left _ b.some (omega arith) k

@@ -14,7 +14,7 @@ invariant-loop-left g l = record {
   place_within : l.place ≤ l.self.rows - 1;
   first_is : IsDrawn (layout_of l.self) l.fn.at l.kept.first;
   second_is : IsDrawn (layout_of l.self) l.fn.at l.kept.second;
-  drawn : (i : ℕ) → i < g.row.N → Drawn l.self.sheet.now l.self.w l.self.h l.self.wide l.self.rows l.self.pitch l.self.alignment (l.top + i) l.fn.at 4 l.most (block_lines l.most l.self.text.now) l.place l.left
+  drawn : (i : ℕ) → i < l.seen → Drawn l.self.sheet.now l.self.w l.self.h l.self.wide l.self.rows l.self.pitch l.self.alignment (l.top + i) l.fn.at 4 l.most (block_lines l.most l.self.text.now) l.place l.left
       (front_dot 16 l.groups l.fronts i);
   counted : l.counter + 2 * pieces_left l.left ≤ 2 * line_pieces l.self.text.now;
   none : l.counter ≡ 0 → (i x : ℕ) → front_dot 16 l.groups l.fronts i x ≡ false;

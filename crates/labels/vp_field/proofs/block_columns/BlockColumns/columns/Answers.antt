@@ -5,7 +5,6 @@ use Rattle.vp_glyph.specs.Halves.{half_dot}
 use Rattle.vp_glyph.specs.Layouts.{layout_of}
 use Rattle.vp_field.specs.Axes.{dot_on, read_at}
 use Rattle.vp_field.specs.Places.{at_place}
-use Rattle.vp_field.proofs.Windowed.{read_within}
 use Rattle.vp_field.proofs.block_columns.BlockColumns.columns.Goals as goal
 
 pub loop-i-preserved : goal.loop-i-preserved
@@ -29,7 +28,7 @@ returns-in-Some g c = λ i k l m h.
     let line = λ (v : ℕ). at_place (λ u. ink u v) (dot_on s.rows (pos (s.first + k))) in
     let place = c.in-Some.place + read_at s.columns 64 i in
     let found = c.in-Some.ensures in
-    let near = read_within s.columns 64 i l in
+    let below = s.to (c.args.x + i) (s.top + place) m (found.1 i l).0 (found.1 i l).1 in
     ap (λ w. half_dot w (read_at s.rows 32 k)) (c.halves_along.ensures i l)
-    ∙ sym (s.falls (λ u. ink u (s.top + place)) (half_dot (get_or s.fronts.now place 0)) (λ d o. s.drawn place d (omega (arith, found.0, near)) (omega arith) (found.1 i l).0) k h)
+    ∙ sym (s.falls (λ u. ink u (s.top + place)) (half_dot (get_or s.fronts.now place 0)) (λ d o. s.drawn place d (omega (arith, below)) (omega arith) (found.1 i l).0) k h)
     ∙ sym (ap (at_place line) (found.1 i l).1)

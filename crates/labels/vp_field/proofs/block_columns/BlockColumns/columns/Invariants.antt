@@ -10,6 +10,6 @@ use Rattle.vp_field.proofs.block_columns.BlockColumns.columns.Given as goal
 abbrev pub invariant-loop-i : goal.invariant-loop-i
 invariant-loop-i g l = record {
   count : length l.columns ≡ 64;
-  rows : (j k : ℕ) → j < l.i → l.x + j < 1248 → k < 32 → half_dot (get_or l.columns j 0) (read_at l.self.rows 32 k)
+  rows : (j k : ℕ) → j < l.i → l.x + j < l.self.seen → k < 32 → half_dot (get_or l.columns j 0) (read_at l.self.rows 32 k)
       ≡ laid Across l.self.columns l.self.rows (λ u v. block_dot (layout_of l.self.block.now) l.self.block.now.text.now u v) (pos (l.x + j)) (pos (l.self.first + k));
 }

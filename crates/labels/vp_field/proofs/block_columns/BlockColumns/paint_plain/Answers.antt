@@ -6,7 +6,7 @@ use Rattle.vp_glyph.specs.Layouts.{layout_of}
 use Rattle.vp_field.specs.Axes.{laid}
 use Rattle.vp_field.specs.declared.axis.Lines.TheVariants.{Across}
 use Rattle.vp_field.proofs.AsWhole.{front_span}
-use Rattle.vp_field.proofs.Columns.{columns_within}
+use Rattle.vp_field.proofs.OnLabel.{shown_rows, shown_within}
 use Rattle.vp_field.proofs.block_columns.BlockColumns.paint_plain.Goals as goal
 
 pub returns : goal.returns
@@ -16,8 +16,8 @@ returns g c =
     let row = c.args.row.now in
     let x = c.args.x in
     let shown = λ (x k : ℕ). laid Across s.columns s.rows (λ u v. block_dot (layout_of b) b.text.now u v) (pos x) (pos (s.first + k)) in
-    columns_within c.args.op shown (λ d k. dot row (d - x)) x (64 * c.args.words) _ _
-    (λ d k h l m w.
+    shown_within s.seen c.args.op shown (λ d k. dot row (d - x)) x (64 * c.args.words) _ _
+    (λ d k w h l m.
     let same : x + (d - x) ≡ d = omega (arith, l) in
-    c.requires.row (d - x) k (omega (arith, l, m)) (let r = c.requires.wide k h in omega (arith, same, w, r)) h ∙ ap (λ n. shown n k) same)
-    (rows_same 32 c.args.op _ _ _ _ (λ d k h. front_span c.args.words row x d) c.paint_rows_alike.ensures)
+    c.requires.row (d - x) k (omega (arith, l, m)) (rw same w) h ∙ ap (λ n. shown n k) same)
+    (shown_rows s.seen c.args.op _ _ _ (rows_same 32 c.args.op _ _ _ _ (λ d k h. front_span c.args.words row x d) c.paint_rows_alike.ensures))

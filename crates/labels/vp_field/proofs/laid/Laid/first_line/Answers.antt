@@ -17,17 +17,17 @@ returns-in-Across-clause-across c o x v l m e =
     let line = c.first_line-in-Across in
     let fits : SFits w64 line.result = search (rules, line.ensures.low, line.ensures.high) in
     let place : 0 + x ≡ x = omega arith in
-    c.clamped-in-Across.ensures.above v (rw (to_z-of_z w64 line.result fits) (line.ensures.from x v (rw c.from.ensures l) (ap (λ n. dot_on c.args.self.columns (pos n)) place ∙ e)))
+    c.clamped-in-Across.ensures.above v (rw (to_z-of_z w64 line.result fits) (line.ensures.from x v l (ap (λ n. dot_on c.args.self.columns (pos n)) place ∙ e)))
 
 pub returns-in-Across-clause-within : goal.returns-in-Across-clause-within
 returns-in-Across-clause-within c o x v l m e =
     let line = c.first_line-in-Across in
     let fits : SFits w64 line.result = search (rules, line.ensures.low, line.ensures.high) in
     let place : 0 + x ≡ x = omega arith in
-    let before = line.ensures.to x v (rw c.from.ensures l) (ap (λ n. dot_on c.args.self.columns (pos n)) place ∙ e) in
-    elim (cases_lt v 1248) [
+    let before = line.ensures.to x v l (ap (λ n. dot_on c.args.self.columns (pos n)) place ∙ e) in
+    elim (cases_lt v c.args.columns) [
       | inl k ↦ omega arith
-      | inr k ↦ (let n = c.clamped-in-Across.ensures.below (v - 1248) (omega arith) (rw (to_z-of_z w64 line.result fits) (omega (arith, ints, before, c.from.ensures))) in omega arith)
+      | inr k ↦ (let n = c.clamped-in-Across.ensures.below (v - c.args.columns) (omega arith) (rw (to_z-of_z w64 line.result fits) (omega (arith, ints, before))) in omega arith)
     ]
 
 pub returns-in-Along-clause-near : goal.returns-in-Along-clause-near
