@@ -1,13 +1,7 @@
 -- Lines next to each other that show the same.
-use Rattle.std.proofs.Common.{inl, inr, ◌≡◌, ℕ, ◌+◌, ◌-◌, ◌<◌, ◌≤◌, Bool, ltb, false, ◌&&◌, List, Option, None, Some, refl, sym, ap, ◌∙◌, arith, ℤ, pos, negsuc}
+use Rattle.std.proofs.Common.{◌≡◌, ℕ, ◌+◌, ◌-◌, ◌≤◌, Bool, false, Option, None, Some, refl, sym, ap, ◌∙◌, arith, ℤ, pos, negsuc}
 use Rattle.std.specs.Prelude.{option_map, unwrap_or}
-use Rattle.std.proofs.lemmas.Bool.{cases_lt}
-use Rattle.std.proofs.lemmas.Bool.Decides.{nat_tests}
 use Rattle.std.proofs.lemmas.Int.{ints}
-use Rattle.vp_dots.specs.Dots.{span}
-use Rattle.vp_dots.specs.Places.{RowsPainted}
-use Rattle.vp_dots.specs.declared.Op.{Op}
-use Rattle.vp_dots.proofs.Heights.{rows_then}
 use Rattle.vp_field.specs.declared.axis.Axis.TheVariants.{Forward, Back}
 use Rattle.vp_field.specs.Places.{at_place}
 use Rattle.vp_field.specs.Axes.{dot_on}
@@ -18,20 +12,6 @@ pub line_shown : (ink : ℕ → ℕ → Bool) (y : ℤ) (v : ℕ) → ((u : ℕ)
     → (z : ℤ) → at_place (λ w. at_place (λ u. ink u w) z) y ≡ at_place (λ u. ink u v) z
 line_shown ink y v e (pos u) = e u
 line_shown ink y v e (negsuc u) = at_none _ y (λ w. refl)
-
-module _ (op : Op) (f : ℕ → ℕ → Bool) (g : ℕ → Bool) (y n : ℕ) (e : (x k : ℕ) → y ≤ k → k < y + n → f x k ≡ g x) where
-  -- rows that show the same line are painted
-  pub rows_painted : (a b c : List (List ℕ)) → RowsPainted 32 op (λ x k. ltb k y && f x k) a b → RowsPainted 32 op (λ x k. span y (y + n) k && g x) b c
-      → RowsPainted 32 op (λ x k. ltb k (y + n) && f x k) a c
-  rows_painted a b c p q = rows_then 32 op _ _ _ _ _ _
-      (λ x k. elim (cases_lt k y) [
-        | inl b ↦ grind (arith, nat_tests)
-        | inr a ↦ elim (cases_lt k (y + n)) [
-          | inl i ↦ (let z : f x k ≡ g x = e x k a i in grind (arith, nat_tests))
-          | inr o ↦ grind (arith, nat_tests)
-        ]
-      ])
-      (λ x k. grind (arith, nat_tests)) p q
 
 -- places that show lines like that on the first
 pub run_forward : (at : ℤ) (v first last : ℕ) → first ≤ v → (line : ℕ → Bool) (p : ℕ) → dot_on (Forward at) (pos p) ≡ pos v

@@ -56,16 +56,15 @@ front_span words row x d = elim (cases_lt d x) [
   ]
 ]
 
--- some bytes of a row that is white outside them
-pub cut_line : (from n : ℕ) (row : List ℕ) (d : ℕ) → (span (8 * from) (8 * (from + n)) d ≡ false → dot row d ≡ false)
-    → (leb (8 * from) d && dot (take n (drop from row)) (d - 8 * from)) ≡ dot row d
-cut_line from n row d white = elim (cases_lt d (8 * from)) [
-  | inl l ↦ rw (lt-leb (8 * from) d l) (sym (white (rw (lt-leb (8 * from) d l) refl)))
+-- some bytes of a row
+pub cut_line : (from n : ℕ) (row : List ℕ) (d : ℕ) → (leb (8 * from) d && dot (take n (drop from row)) (d - 8 * from)) ≡ (span (8 * from) (8 * (from + n)) d && dot row d)
+cut_line from n row d = elim (cases_lt d (8 * from)) [
+  | inl l ↦ rw (lt-leb (8 * from) d l) refl
   | inr g ↦ elim (cases_lt d (8 * (from + n))) [
     | inl l ↦
         let same : 8 * from + (d - 8 * from) ≡ d = omega (arith, g) in
-        rw (le-leb (8 * from) d g) (dot_front n (drop from row) (d - 8 * from) (omega arith) ∙ dot-drop row from (d - 8 * from) ∙ ap (dot row) same)
-    | inr o ↦ rw (le-leb (8 * from) d g) (front_end n (drop from row) (d - 8 * from) (omega arith) ∙ sym (white (rw (le-leb (8 * from) d g, le-ltb d (8 * (from + n)) o) refl)))
+        rw (le-leb (8 * from) d g, lt-ltb d (8 * (from + n)) l) (dot_front n (drop from row) (d - 8 * from) (omega arith) ∙ dot-drop row from (d - 8 * from) ∙ ap (dot row) same)
+    | inr o ↦ rw (le-leb (8 * from) d g, le-ltb d (8 * (from + n)) o) (front_end n (drop from row) (d - 8 * from) (omega arith))
   ]
 ]
 

@@ -10,6 +10,16 @@ use Rattle.vp_glyph.specs.Halves.{half_dot}
 use Rattle.vp_field.specs.Bands.{ShownPainted}
 use Rattle.vp_field.proofs.Columns.{before_end, from_end}
 
+-- dots from one to another of a line that is white beside them
+pub in_span : (from to x : ℕ) (b c : Bool) → (x < to → b ≡ c) → (span from to x ≡ false → c ≡ false) → (span from to x && b) ≡ c
+in_span from to x b c same none = elim (cases_lt x from) [
+  | inl l ↦ rw (lt-leb from x l) (sym (none (rw (lt-leb from x l) refl)))
+  | inr g ↦ elim (cases_lt x to) [
+    | inl l ↦ rw (le-leb from x g, lt-ltb x to l) (same l)
+    | inr o ↦ rw (le-leb from x g, le-ltb x to o) (sym (none (rw (le-leb from x g, le-ltb x to o) refl)))
+  ]
+]
+
 module _ (columns : ℕ) (op : Op) where
   -- what is painted is painted there
   pub shown_rows : (f : ℕ → ℕ → Bool) (a b : List (List ℕ)) → RowsPainted 32 op f a b → ShownPainted columns op f a b
@@ -22,6 +32,33 @@ module _ (columns : ℕ) (op : Op) where
   -- none
   pub shown_none : (f : ℕ → ℕ → Bool) (a : List (List ℕ)) → ((x k : ℕ) → x < columns → k < 32 → f x k ≡ false) → ShownPainted columns op f a a
   shown_none f a e = record { lengths_are = λ k h. refl; dots_are = λ x k l h m. rw (e x k l h) refl }
+
+  -- rows above one with no ink below it
+  pub shown_above : (f : ℕ → ℕ → Bool) (y : ℕ) (a b : List (List ℕ)) → ((x k : ℕ) → y ≤ k → k < 32 → f x k ≡ false) → ShownPainted columns op (λ x k. ltb k y && f x k) a b → ShownPainted columns op f a b
+  shown_above f y a b none p = shown_same _ _ a b
+      (λ d k l h. elim (cases_lt k y) [
+        | inl m ↦ before_end k y (f d k) m
+        | inr m ↦ from_end k y (f d k) m ∙ sym (none d k m h)
+      ]) p
+
+  -- rows that show the same line there, behind those that are painted
+  pub shown_lines : (f : ℕ → ℕ → Bool) (g : ℕ → Bool) (y n : ℕ) (a b c : List (List ℕ)) → ((x k : ℕ) → y ≤ k → k < y + n → f x k ≡ g x)
+      → ShownPainted columns op (λ x k. ltb k y && f x k) a b → ShownPainted columns op (λ x k. span y (y + n) k && g x) b c
+      → ShownPainted columns op (λ x k. ltb k (y + n) && f x k) a c
+  shown_lines f g y n a b c e p q = record {
+    lengths_are = λ k h. q.lengths_are k h ∙ p.lengths_are k h;
+    dots_are = λ d k l h m.
+        let o = p.dots_are d k l h m in
+        let w = p.lengths_are k h in
+        let t = q.dots_are d k l h (omega (arith, m, w)) in
+        elim (cases_lt k y) [
+          | inl s ↦ grind (arith, nat_tests)
+          | inr s ↦ elim (cases_lt k (y + n)) [
+            | inl i ↦ (let z : f d k ≡ g d = e d k s i in grind (arith, nat_tests))
+            | inr i ↦ grind (arith, nat_tests)
+          ]
+        ];
+  }
 
   -- columns that show the same there
   pub shown_within : (f g : ℕ → ℕ → Bool) (x n : ℕ) (a b : List (List ℕ)) → ((d k : ℕ) → d < columns → k < 32 → x ≤ d → d < x + n → g d k ≡ f d k)

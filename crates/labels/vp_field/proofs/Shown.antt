@@ -2,8 +2,6 @@
 use Rattle.std.proofs.Common.{inl, inr, ◌≡◌, ℕ, ◌*◌, ◌/◌, ◌<◌, Bool, false, ltb, ◌&&◌, refl, ap, ◌∙◌, arith, List, [], get_or, None, ℤ, pos, ◌-ℤ◌}
 use Rattle.std.proofs.Math.Nat.{div-lt_iff_lt-mul}
 use Rattle.std.proofs.lemmas.Bool.{cases_lt, le-ltb, lt-ltb}
-use Rattle.vp_dots.specs.Dots.{dot}
-use Rattle.vp_dots.specs.Painting.{paint}
 use Rattle.vp_dots.specs.Places.{RowsPainted}
 use Rattle.vp_dots.specs.declared.Op.{Op}
 use Rattle.vp_dots.proofs.Paints.{painted_none}
@@ -19,12 +17,6 @@ use Rattle.vp_field.specs.Turning.{from_x, from_y}
 use Rattle.vp_field.specs.Standing.{standing}
 use Rattle.vp_field.specs.Contents.{qr_side, qr_dot}
 use Rattle.vp_field.proofs.Places.{at_same, at_none}
-
--- the same ink in other words
-pub rows_same : (op : Op) (f g : ℕ → ℕ → Bool) (a b : List (List ℕ)) → ((x k : ℕ) → f x k ≡ g x k) → RowsPainted 32 op f a b → RowsPainted 32 op g a b
-rows_same op f g a b e p = record {
-  rows_are = λ k h. record { length_is = (p.rows_are k h).length_is; dots_are = λ d l. (p.rows_are k h).dots_are d l ∙ ap (λ i. paint op i (dot (get_or a k []) d)) (e d k) };
-}
 
 -- no ink
 pub rows_none : (op : Op) (f : ℕ → ℕ → Bool) (a : List (List ℕ)) → ((x k : ℕ) → f x k ≡ false) → RowsPainted 32 op f a a

@@ -6,7 +6,6 @@ use Rattle.vp_field.specs.declared.axis.Axis.TheVariants.{Forward, Back}
 use Rattle.vp_field.specs.declared.axis.Lines.{Lines}
 use Rattle.vp_field.specs.declared.axis.Lines.TheVariants.{Along, Across}
 use Rattle.vp_field.specs.Places.{at_place}
-use Rattle.vp_label_size.specs.declared.TheConstants.{BAND_BYTES}
 use Rattle.vp_zpl.specs.declared.item.Orientation.{Orientation}
 use Rattle.vp_zpl.specs.declared.item.Orientation.TheVariants.{Normal, Rotated, Inverted, BottomUp}
 
@@ -42,8 +41,8 @@ abbrev pub shown_dot : (ℕ → ℕ → Bool) → Axis → Option ℕ → ℕ �
 shown_dot ink columns line x =
     unwrap_or (option_map (λ v. at_place (λ u. ink u v) (dot_on columns (pos x))) line) false
 
--- no line of the ink has a dot on a band's row but on the bytes from one to another
-abbrev pub AreWhiteBeside : (ℕ → ℕ → Bool) → Axis → ℕ → ℕ → Type 0
-AreWhiteBeside ink columns from to =
-    (v p : ℕ) → p < 8 * BAND_BYTES → span (8 * from) (8 * to) p ≡ false
+-- no line of the ink has a dot on so many columns of a band but on the bytes from one to another
+abbrev pub AreWhiteBeside : (ℕ → ℕ → Bool) → Axis → ℕ → ℕ → ℕ → Type 0
+AreWhiteBeside ink columns seen from to =
+    (v p : ℕ) → p < seen → span (8 * from) (8 * to) p ≡ false
     → at_place (λ u. ink u v) (dot_on columns (pos p)) ≡ false

@@ -7,21 +7,18 @@ ghost use Rattle.vp_dots.specs.Places.{RowsPainted};
 ghost use Rattle.vp_dots.specs.declared.square.TheConstants.{SIDE};
 ghost use Rattle.vp_glyph.specs.Halves.{half_dot};
 ghost use Rattle.vp_field.specs.Axes.{IsWithin, laid};
+ghost use Rattle.vp_field.specs.Bands.{ShownPainted};
 ghost use Rattle.vp_field.specs.Counts.{ArePieces};
 ghost use Rattle.vp_field.specs.Contents.{lines_cost};
 ghost use Rattle.vp_field.specs.declared.axis.Lines.TheVariants.{Across};
-ghost use Rattle.vp_label_size.specs.declared.TheConstants.{BAND_ROWS};
+ghost use Rattle.vp_label_size.specs.declared.TheConstants.{WIDEST, BAND_ROWS};
 
 use crate::axis::Axis;
-use crate::paint::row_lengths;
 use crate::pen::Pen;
 use crate::pieces::Pieces;
 use crate::square::{paint_narrow, paint_square};
 use vp_dots::{Op, SIDE, Small, dot_of, fill_dots};
-use vp_label_size::{BAND_ROWS, LabelBand, WIDEST};
-
-/// The dots of a row of a band.
-const WIDTH: u64 = WIDEST as u64;
+use vp_label_size::{BAND_ROWS, LabelBand};
 
 /// The columns of a square.
 const COLUMNS: u64 = SIDE as u64;
@@ -151,13 +148,14 @@ fn paint_columns<I: Pieces, A: Small>(
     2 * COLUMNS
 }
 
-/// Paints ink whose lines lie across the rows: how many lines it drew, and pieces of them. The first is drawn
-/// wherever it falls.
+/// Paints ink whose lines lie across the rows, on so many columns of the label: how many lines it drew, and
+/// pieces of them. The first is drawn wherever it falls.
 pub fn paint_across<I: Pieces, A: Small>(
     ink: Pen<'_, I, 4>,
     op: Op,
     columns: Axis,
     rows: Axis,
+    seen: u32,
     first: u32,
     band: &mut LabelBand<A>,
 ) -> u64
@@ -166,16 +164,16 @@ pub fn paint_across<I: Pieces, A: Small>(
     requires few { I.most_pieces ink.ink.now BAND_ROWS ≤ 2 ^ 40 }
     requires columns { IsWithin (2 ^ 41) columns }
     requires rows { IsWithin (2 ^ 41) rows }
-    ensures dots { RowsPainted BAND_ROWS op (λ x k. laid Across columns rows (I.ink_at ink.entry.ink.now)
-        (pos x) (pos (first + k))) band.old band.new }
+    requires seen { seen ≤ WIDEST }
+    ensures dots { ShownPainted seen op (λ x k. laid Across columns rows (I.ink_at ink.entry.ink.now) (pos x)
+        (pos (first + k))) band.old band.new }
     ensures lines { result ≤ lines_cost Across (I.most_pieces ink.entry.ink.now) }
     ensures counted { 0 < result }
 {
     let mut pen = ink;
     let (_, h) = pen.size();
     let (from, to) = columns.span(h);
-    row_lengths(band);
-    let end = to.min(WIDTH).max(from + 1);
+    let end = to.min(u64::from(seen)).max(from + 1);
     let mut x = from;
     while x < end {
         x += paint_columns(&mut pen, op, columns, rows, x, end, first, band);

@@ -1,6 +1,5 @@
 //! The fields of a label, painted on a band.
 ghost use Rattle.std.specs.Prelude.{◌≡◌, ℕ, ◌+◌, ◌*◌, ◌^◌, ◌<◌, ◌≤◌, true, pos, length, List, [], ◌∷◌, ◌++◌};
-ghost use Rattle.vp_dots.specs.Places.{RowsPainted};
 ghost use Rattle.vp_glyph.specs.Blocks.{block_width, block_height, block_dot, block_pieces};
 ghost use Rattle.vp_glyph.specs.Layouts.{layout_of};
 ghost use Rattle.vp_glyph.specs.Sheets.{Sheets as Given};
@@ -49,8 +48,8 @@ fn paint_text<A: Small>(
 ) -> u64
     requires text { IsText stored.now text }
     requires near { IsNear on.left on.top }
-    ensures dots { RowsPainted BAND_ROWS on.op (drawn sheets.now stored.now (contents.Text text) on first)
-        band.old band.new }
+    ensures dots { ShownPainted (columns_of on.view) on.op
+        (drawn sheets.now stored.now (contents.Text text) on first) band.old band.new }
     ensures lines { result ≤ most_work on.orientation (contents.Text text) }
     ensures counted { IsCounted (drawn sheets.now stored.now (contents.Text text) on first) result }
 {
@@ -69,7 +68,7 @@ fn paint_block_at_once<A: Small>(
     requires lines { lines_of on.orientation ≡ Along }
     requires near { IsNear on.left on.top }
     requires few { length rows.block.text.now < 2 ^ 32 }
-    ensures dots { RowsPainted BAND_ROWS on.op (λ x k. standing on.left on.top on.orientation
+    ensures dots { ShownPainted (columns_of on.view) on.op (λ x k. standing on.left on.top on.orientation
         (block_width rows.entry.block.wide rows.entry.block.w)
         (block_height rows.entry.block.h rows.entry.block.rows rows.entry.block.pitch)
         (λ u v. block_dot (layout_of rows.entry.block) rows.entry.block.text.now u v)
@@ -105,7 +104,7 @@ fn paint_block_along<A: Small>(
     requires lines { lines_of on.orientation ≡ Along }
     requires near { IsNear on.left on.top }
     requires few { length block.text.now < 2 ^ 32 }
-    ensures dots { RowsPainted BAND_ROWS on.op (λ x k. standing on.left on.top on.orientation
+    ensures dots { ShownPainted (columns_of on.view) on.op (λ x k. standing on.left on.top on.orientation
         (block_width block.entry.wide block.entry.w)
         (block_height block.entry.h block.entry.rows block.entry.pitch)
         (λ u v. block_dot (layout_of block.entry) block.entry.text.now u v)
@@ -159,9 +158,9 @@ fn paint_block<A: Small>(
 /// Paints a box: how many lines of ink it drew, and pieces of them.
 fn paint_frame<A: Small>(frame: Frame, on: Standing, first: u32, band: &mut LabelBand<A>) -> u64
     requires near { IsNear on.left on.top }
-    ensures dots { RowsPainted BAND_ROWS on.op (λ x k. standing on.left on.top on.orientation frame.w frame.h
-        (frame_dot frame.w frame.h frame.t) (seen_x on.view (pos x)) (seen_y on.view (pos (first + k))))
-        band.old band.new }
+    ensures dots { ShownPainted (columns_of on.view) on.op (λ x k. standing on.left on.top on.orientation
+        frame.w frame.h (frame_dot frame.w frame.h frame.t) (seen_x on.view (pos x))
+        (seen_y on.view (pos (first + k)))) band.old band.new }
     ensures lines { result ≤ lines_cost (lines_of on.orientation) (λ d. 1) }
     ensures counted { IsCounted (λ x k. standing on.left on.top on.orientation frame.w frame.h
         (frame_dot frame.w frame.h frame.t) (seen_x on.view (pos x)) (seen_y on.view (pos (first + k))))
@@ -203,8 +202,8 @@ fn paint_bars<A: Small>(
     requires marks { AreMarksOf stored.now (contents.Bars bars) marks.old }
     requires near { IsNear on.left on.top }
     ensures marks { AreMarksOf stored.now (contents.Bars bars) marks.new }
-    ensures dots { RowsPainted BAND_ROWS on.op (drawn sheets.now stored.now (contents.Bars bars) on first)
-        band.old band.new }
+    ensures dots { ShownPainted (columns_of on.view) on.op
+        (drawn sheets.now stored.now (contents.Bars bars) on first) band.old band.new }
     ensures lines { result ≤ most_work on.orientation (contents.Bars bars) }
     ensures counted { IsCounted (drawn sheets.now stored.now (contents.Bars bars) on first) result }
 {
@@ -258,7 +257,7 @@ fn paint_qr<A: Small>(
     requires marks { AreMarksOf stored.now (contents.Qr symbol) marks.old }
     requires near { IsNear on.left on.top }
     ensures marks { AreMarksOf stored.now (contents.Qr symbol) marks.new }
-    ensures dots { (sheets : Given) → RowsPainted BAND_ROWS on.op
+    ensures dots { (sheets : Given) → ShownPainted (columns_of on.view) on.op
         (drawn sheets stored.now (contents.Qr symbol) on first) band.old band.new }
     ensures lines { result ≤ lines_cost (lines_of on.orientation) (λ d. 1) }
     ensures counted { (sheets : Given) →

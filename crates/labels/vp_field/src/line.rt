@@ -1,5 +1,5 @@
 //! One line of ink, drawn along the places of a row or a column, and painted on a row.
-ghost use Rattle.std.specs.Prelude.{◌≡◌, ℕ, ◌+◌, ◌-◌, ◌*◌, ◌^◌, ◌<◌, ◌≤◌, Bool, true, ℤ, pos, ◌-ℤ◌, neg_ℤ, ◌≤ℤ◌, false, length};
+ghost use Rattle.std.specs.Prelude.{◌≡◌, ℕ, ◌+◌, ◌-◌, ◌*◌, ◌^◌, ◌<◌, ◌≤◌, ◌&&◌, Bool, true, ℤ, pos, ◌-ℤ◌, neg_ℤ, ◌≤ℤ◌, false, length};
 ghost use Rattle.vp_dots.specs.Dots.{dot, shifted, span};
 ghost use Rattle.vp_dots.specs.Painting.{Painted};
 ghost use Rattle.vp_field.specs.Places.{at_place};
@@ -100,14 +100,12 @@ fn byte_offset(byte: usize) -> i64
     8 * byte as i64
 }
 
-/// Applies the operation to the dots of the row where the line is black, which is white outside these bytes
-/// of it.
+/// Applies the operation to the dots of the row where the line is black, on the bytes from one to another.
 pub fn paint_bytes(op: Op, line: &[u8], from: usize, to: usize, row: &mut [u8])
     requires order { from ≤ to }
     requires to { to ≤ length line.now }
     requires few { from ≤ BAND_BYTES }
-    requires white { (d : ℕ) → span (8 * from) (8 * to) d ≡ false → dot line.now d ≡ false }
-    ensures { Painted op (dot line.now) row.old row.new }
+    ensures { Painted op (λ d. span (8 * from) (8 * to) d && dot line.now d) row.old row.new }
 {
     paint_into(op, &line[from..to], byte_offset(from), row);
 }

@@ -1,11 +1,10 @@
 //! Ink that stands turned on a label, painted on a band of the label as it is put out.
 ghost use Rattle.std.specs.Prelude.{◌≡◌, ℕ, ◌+◌, ◌^◌, ◌≤◌, Bool, ℤ, pos};
-ghost use Rattle.vp_dots.specs.Places.{RowsPainted};
 ghost use Rattle.vp_field.specs.Axes.{laid, lines_of, IsWithin};
-ghost use Rattle.vp_field.specs.Bands.{IsCounted};
+ghost use Rattle.vp_field.specs.Bands.{ShownPainted, IsCounted};
 ghost use Rattle.vp_field.specs.Contents.{lines_cost};
 ghost use Rattle.vp_field.specs.Standing.{standing, IsNear};
-ghost use Rattle.vp_field.specs.Views.{seen_x, seen_y};
+ghost use Rattle.vp_field.specs.Views.{seen_x, seen_y, columns_of};
 ghost use Rattle.vp_label_size.specs.declared.TheConstants.{BAND_ROWS};
 
 use crate::laid::Laid;
@@ -43,9 +42,9 @@ impl Standing {
     }
 }
 
-/// Applies the operation to the dots of a band, whose first row is row `first` of the label as it is put out,
-/// where ink that stands on the label has ink. How many lines were drawn, and pieces of
-/// them, comes back.
+/// Applies the operation to the dots of a band that are on the label, where ink that stands there has ink.
+/// The band's first row is row `first` of the label as it is put out. How many lines were drawn, and pieces
+/// of them, comes back.
 pub fn paint_standing<I: Pieces, A: Small>(
     ink: &I,
     on: Standing,
@@ -54,7 +53,7 @@ pub fn paint_standing<I: Pieces, A: Small>(
 ) -> u64
     requires near { IsNear on.left on.top }
     requires few { (d : ℕ) → I.most_pieces ink.now d ≤ 2 ^ 40 }
-    ensures dots { RowsPainted BAND_ROWS on.op (λ x k. standing on.left on.top on.orientation
+    ensures dots { ShownPainted (columns_of on.view) on.op (λ x k. standing on.left on.top on.orientation
         (I.width ink.now) (I.height ink.now) (I.ink_at ink.now) (seen_x on.view (pos x))
         (seen_y on.view (pos (first + k)))) band.old band.new }
     ensures lines { result ≤ lines_cost (lines_of on.orientation) (I.most_pieces ink.now) }
@@ -63,5 +62,15 @@ pub fn paint_standing<I: Pieces, A: Small>(
         result }
 {
     let laid = on.laid(ink);
-    paint_laid(ink, on.op, laid.lines, laid.columns, laid.rows, first, band)
+    let seen = on.view.columns();
+    paint_laid(
+        ink,
+        on.op,
+        laid.lines,
+        laid.columns,
+        laid.rows,
+        seen,
+        first,
+        band,
+    )
 }

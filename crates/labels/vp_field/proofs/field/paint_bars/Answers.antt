@@ -1,6 +1,5 @@
 use Rattle.std.proofs.lemmas.Bool.{both_ways}
 use Rattle.std.proofs.Common.{◌≡◌, ℕ, ◌+◌, refl, sym, subst, Bool, true, false, is_ok, pos, arith, List, Result, Ok, Err}
-use Rattle.vp_dots.specs.Places.{RowsPainted}
 use Rattle.vp_dots.specs.declared.fault.Fault.{Fault}
 use Rattle.vp_bars.specs.Symbols.{Linear}
 use Rattle.vp_bars.specs.Symbologies.{symbol_of}
@@ -8,13 +7,14 @@ use Rattle.vp_glyph.specs.Sheets.{Sheets}
 use Rattle.vp_format.specs.declared.field.BarSymbol.{BarSymbol}
 use Rattle.vp_field.specs.Contents.{bytes_of, bars_width, bars_height, bars_dot}
 use Rattle.vp_field.specs.Fields.{IsEncoded}
-use Rattle.vp_field.specs.Bands.{IsCounted}
+use Rattle.vp_field.specs.Bands.{ShownPainted, IsCounted}
 use Rattle.vp_field.specs.Standing.{standing}
-use Rattle.vp_field.specs.Views.{seen_x, seen_y}
+use Rattle.vp_field.specs.Views.{seen_x, seen_y, columns_of}
 use Rattle.vp_field.specs.declared.marks.Marks.{Marks}
 use Rattle.vp_field.specs.declared.marks.Marks.TheVariants.{Nothing, Picture, Symbol, Bars}
 use Rattle.vp_field.specs.declared.standing.Standing.{Standing}
-use Rattle.vp_field.proofs.Shown.{rows_none, standing_none}
+use Rattle.vp_field.proofs.Shown.{standing_none}
+use Rattle.vp_field.proofs.OnLabel.{shown_none}
 use Rattle.vp_field.proofs.field.paint_bars.Goals as goal
 
 abbrev ink : Sheets → BarSymbol → Standing → ℕ → Result Linear Fault → ℕ → ℕ → Bool
@@ -42,7 +42,7 @@ returns-in_default g c =
     let none = no_ink a.sheets.now a.bars a.on a.first r (none_left a.stored.now a.bars c.encode.new.marks c.in_default.not-Bars c.encode.ensures.encoded) in
     record {
       marks = c.encode.ensures.marks;
-      dots = rows_none a.on.op (ink a.sheets.now a.bars a.on a.first r) a.band.now none;
+      dots = shown_none _ a.on.op (ink a.sheets.now a.bars a.on a.first r) a.band.now (λ x k l h. none x k);
       lines = omega arith;
       counted = λ x k low e. absurd (both_ways (ink a.sheets.now a.bars a.on a.first r x k) (none x k) e);
     }
@@ -52,7 +52,7 @@ returns-clause-dots g c =
     let a = c.args in
     let b = c.boxed-ink.ensures in
     let bars = rw c.in-Bars.is at c.encode.ensures.encoded in
-    subst (λ r. RowsPainted 32 a.on.op (ink a.sheets.now a.bars a.on a.first r) a.band.now c.paint_standing.new.band) (sym bars) (rw (b.bars, b.narrow, b.wide, b.height, b.sheets, b.font, b.place) at c.paint_standing.ensures.dots)
+    subst (λ r. ShownPainted (columns_of a.on.view) a.on.op (ink a.sheets.now a.bars a.on a.first r) a.band.now c.paint_standing.new.band) (sym bars) (rw (b.bars, b.narrow, b.wide, b.height, b.sheets, b.font, b.place) at c.paint_standing.ensures.dots)
 
 pub returns-clause-counted : goal.returns-clause-counted
 returns-clause-counted g c =

@@ -13,7 +13,7 @@ use Rattle.vp_field.specs.Views.{seen_x, seen_y, columns_of}
 use Rattle.vp_field.specs.declared.axis.Lines.TheVariants.{Along, Across}
 use Rattle.vp_field.proofs.Counts.{along_cost, across_cost}
 use Rattle.vp_field.proofs.Passing.{passed_beside}
-use Rattle.vp_field.proofs.OnLabel.{shown_rows, shown_same}
+use Rattle.vp_field.proofs.OnLabel.{shown_same}
 use Rattle.vp_field.proofs.field.paint_block.Goals as goal
 
 -- the text of a block is among its bytes, and so short
@@ -27,7 +27,7 @@ pub returns-in-Along-clause-dots : goal.returns-in-Along-clause-dots
 returns-in-Along-clause-dots g c =
     let b = c.block_of-ink.ensures in
     let r = c.from_row-block.ensures in
-    shown_rows _ c.args.on.op _ _ _ (rw (r.sheet ∙ b.sheet, r.text ∙ b.text, r.w ∙ b.w, r.h ∙ b.h, r.wide ∙ b.wide, r.rows ∙ b.rows, r.pitch ∙ b.pitch, r.alignment ∙ b.alignment) at c.paint_block_along.ensures.dots)
+    rw (r.sheet ∙ b.sheet, r.text ∙ b.text, r.w ∙ b.w, r.h ∙ b.h, r.wide ∙ b.wide, r.rows ∙ b.rows, r.pitch ∙ b.pitch, r.alignment ∙ b.alignment) at c.paint_block_along.ensures.dots
 
 pub returns-in-Across-clause-dots : goal.returns-in-Across-clause-dots
 returns-in-Across-clause-dots g c =

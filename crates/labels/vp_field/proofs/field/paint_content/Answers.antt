@@ -10,7 +10,7 @@ returns-in-Text-clause-dots g c =
     let n = c.requires.kept.near in
     let left : SFits w64 f.left = search (rules, n.left_low, n.left_high) in
     let top : SFits w64 f.top = search (rules, n.top_low, n.top_high) in
-    shown_rows _ f.op _ _ _ (rw c.in-Text.is (rw (to_z-of_z w64 f.left left, to_z-of_z w64 f.top top) at c.paint_text.ensures.dots))
+    rw c.in-Text.is (rw (to_z-of_z w64 f.left left, to_z-of_z w64 f.top top) at c.paint_text.ensures.dots)
 
 pub returns-in-Block-clause-dots : goal.returns-in-Block-clause-dots
 returns-in-Block-clause-dots g c =
@@ -26,7 +26,7 @@ returns-in-Box-clause-dots g c =
     let n = c.requires.kept.near in
     let left : SFits w64 f.left = search (rules, n.left_low, n.left_high) in
     let top : SFits w64 f.top = search (rules, n.top_low, n.top_high) in
-    shown_rows _ f.op _ _ _ (rw c.in-Box.is (rw (to_z-of_z w64 f.left left, to_z-of_z w64 f.top top, to_z-of_z w64 f.left left, to_z-of_z w64 f.top top) at (rw c.of.ensures at c.paint_frame.ensures.dots)))
+    rw c.in-Box.is (rw (to_z-of_z w64 f.left left, to_z-of_z w64 f.top top, to_z-of_z w64 f.left left, to_z-of_z w64 f.top top) at (rw c.of.ensures at c.paint_frame.ensures.dots))
 
 pub returns-in-Bars-clause-dots : goal.returns-in-Bars-clause-dots
 returns-in-Bars-clause-dots g c =
@@ -34,7 +34,7 @@ returns-in-Bars-clause-dots g c =
     let n = c.requires.kept.near in
     let left : SFits w64 f.left = search (rules, n.left_low, n.left_high) in
     let top : SFits w64 f.top = search (rules, n.top_low, n.top_high) in
-    shown_rows _ f.op _ _ _ (rw c.in-Bars.is (rw (to_z-of_z w64 f.left left, to_z-of_z w64 f.top top) at c.paint_bars.ensures.dots))
+    rw c.in-Bars.is (rw (to_z-of_z w64 f.left left, to_z-of_z w64 f.top top) at c.paint_bars.ensures.dots)
 
 pub returns-in-Qr-clause-dots : goal.returns-in-Qr-clause-dots
 returns-in-Qr-clause-dots g c =
@@ -42,7 +42,7 @@ returns-in-Qr-clause-dots g c =
     let n = c.requires.kept.near in
     let left : SFits w64 f.left = search (rules, n.left_low, n.left_high) in
     let top : SFits w64 f.top = search (rules, n.top_low, n.top_high) in
-    shown_rows _ f.op _ _ _ (rw c.in-Qr.is (rw (to_z-of_z w64 f.left left, to_z-of_z w64 f.top top, to_z-of_z w64 f.left left, to_z-of_z w64 f.top top) at (c.paint_qr.ensures.dots c.args.sheets.now)))
+    rw c.in-Qr.is (rw (to_z-of_z w64 f.left left, to_z-of_z w64 f.top top, to_z-of_z w64 f.left left, to_z-of_z w64 f.top top) at (c.paint_qr.ensures.dots c.args.sheets.now))
 
 pub returns-in-Picture-clause-dots : goal.returns-in-Picture-clause-dots
 returns-in-Picture-clause-dots g c =

@@ -1,4 +1,4 @@
-use Rattle.std.proofs.Common.{◌≡◌, ◌+◌, ◌-◌, ◌*◌, arith, ap, ◌∙◌, rules, w64, take, drop}
+use Rattle.std.proofs.Common.{◌≡◌, ◌+◌, ◌-◌, ◌*◌, ◌&&◌, arith, ap, sym, ◌∙◌, rules, w64, take, drop}
 use mir.Val.{SFits}
 use Rattle.std.proofs.lemmas.Int.{to_z-of_z}
 use Rattle.vp_dots.specs.Dots.{dot, span, shifted}
@@ -16,5 +16,5 @@ returns c =
     let fits : SFits w64 c.byte_offset.result = search rules in
     let painted : Painted c.args.op (shifted c.byte_offset.result (dot (take bytes (drop from line)))) c.args.row.now c.paint_into.new.row =
     rw (to_z-of_z w64 c.byte_offset.result fits) at c.paint_into.ensures in
-    painted_same _ _ _ _ _ (λ d l. cut_line from bytes line d (λ e. c.requires.white d (ap (λ n. span (8 * from) (8 * n) d) there ∙ e)))
+    painted_same _ _ _ _ _ (λ d l. cut_line from bytes line d ∙ ap (λ n. span (8 * from) (8 * n) d && dot line d) (sym there))
     (rw c.byte_offset.ensures at painted)

@@ -1,12 +1,13 @@
-use Rattle.std.proofs.Common.{inl, inr, ◌≡◌, ℕ, ◌+◌, ◌-◌, ◌<◌, ◌≤◌, true, arith, refl, ap, ◌∙◌, pos}
+use Rattle.std.proofs.Common.{inl, inr, ◌≡◌, ℕ, ◌+◌, ◌-◌, ◌*◌, ◌<◌, ◌≤◌, true, false, arith, refl, ap, ◌∙◌, pos}
 use Rattle.std.proofs.lemmas.Bool.{both_ways, cases_lt}
-use Rattle.vp_dots.proofs.Placing.{rows_init, rows_all}
+use Rattle.vp_dots.specs.Dots.{span}
+use Rattle.vp_dots.proofs.Placing.{rows_init}
 use Rattle.vp_field.specs.Places.{at_place}
 use Rattle.vp_field.specs.Axes.{dot_on, laid, shown_dot}
 use Rattle.vp_field.specs.declared.axis.Lines.TheVariants.{Along}
 use Rattle.vp_field.proofs.Places.{line_inside}
 use Rattle.vp_field.proofs.Counts.{few_pieces}
-use Rattle.vp_field.proofs.Alike.{rows_painted}
+use Rattle.vp_field.proofs.OnLabel.{shown_rows, shown_above, shown_lines}
 use Rattle.vp_field.proofs.paint.paint_along.Goals as goal
 
 pub loop-k-init : goal.loop-k-init
@@ -15,8 +16,8 @@ loop-k-init g c =
     let lines : (u v : ℕ) → ink u v ≡ true → v < c.size-w.result.1 = λ u v e. rw c.size-w.ensures.height (g.met.I.Ink.outside c.args.ink.ink.now u v e).1 in
     record {
       ink = refl;
-      painted = rows_init _ _ (λ x k. laid Along c.args.columns c.args.rows ink (pos x) (pos (c.args.first + k))) _ _
-          (λ x k l. c.span-from.ensures.before _ (line_inside ink c.size-w.result.1 lines (dot_on c.args.columns (pos x))) (c.args.first + k) (omega (arith, c.from-first.ensures, c.saturating_sub-k.ensures)));
+      painted = shown_rows c.args.seen c.args.op _ _ _ (rows_init 32 c.args.op (λ x k. laid Along c.args.columns c.args.rows ink (pos x) (pos (c.args.first + k))) _ _
+          (λ x k l. c.span-from.ensures.before _ (line_inside ink c.size-w.result.1 lines (dot_on c.args.columns (pos x))) (c.args.first + k) (omega (arith, c.from-first.ensures, c.saturating_sub-k.ensures))));
       lines = omega (arith, c.min-end.ensures, c.requires.fresh);
       counted = record { few = c.requires.few; within = omega (arith, c.requires.whole) };
       none = λ _. omega (arith, c.from-first.ensures, c.saturating_sub-k.ensures);
@@ -27,12 +28,14 @@ loop-k-preserved g c =
     let ink = λ (u v : ℕ). g.I.Ink.ink_at c.args.ink.ink.now u v in
     let dots = λ (x k : ℕ). laid Along c.args.columns c.args.rows ink (pos x) (pos (c.args.first + k)) in
     let line = shown_dot ink c.args.columns c.shown-shown.result.line in
+    let wide : (u v : ℕ) → ink u v ≡ true → u < c.size-w.result.0 = λ u v e. rw c.size-w.ensures.width (g.met.I.Ink.outside c.args.ink.ink.now u v e).0 in
+    let white : (v p : ℕ) → p < c.args.seen → span (8 * c.reached-reach.result.from) (8 * c.reached-reach.result.to) p ≡ false → at_place (λ u. ink u v) (dot_on c.args.columns (pos p)) ≡ false = λ v p l s. c.reached-reach.ensures (λ u. ink u v) (λ u e. wide u v e) p l s in
     let alike : (x k : ℕ) → c.loop-k.k ≤ k → k < c.loop-k.k + c.shown-shown.result.places → dots x k ≡ line x = λ x k a b.
     let there : c.args.first + k ≡ c.from-first.result + c.loop-k.k + (k - c.loop-k.k) = omega (arith, c.from-first.ensures) in
     ap (λ n. at_place (λ v. at_place (λ u. ink u v) (dot_on c.args.columns (pos x))) (dot_on c.args.rows (pos n))) there ∙ (rw c.loop-k.invariant.ink at c.shown-shown.ensures.line) (k - c.loop-k.k) (omega arith) (dot_on c.args.columns (pos x)) in
     record {
       ink = c.paint_alike.ensures.ink ∙ c.loop-k.invariant.ink;
-      painted = rows_painted c.args.op dots line c.loop-k.k c.shown-shown.result.places alike _ _ _ c.loop-k.invariant.painted (rw c.loop-k.invariant.ink at c.paint_alike.ensures.painted);
+      painted = shown_lines c.args.seen c.args.op dots line c.loop-k.k c.shown-shown.result.places _ _ _ alike c.loop-k.invariant.painted ((rw c.loop-k.invariant.ink at c.paint_alike.ensures.painted) c.args.seen white);
       lines = omega (arith, c.loop-k.invariant.lines, c.shown-shown.ensures.some, c.shown-shown.ensures.within, c.paint_alike.ensures.counted);
       counted = c.paint_alike.ensures.within;
       none = λ e. absurd (omega (arith, e, c.paint_alike.ensures.counted));
@@ -42,7 +45,7 @@ pub returns-clause-dots : goal.returns-clause-dots
 returns-clause-dots g c =
     let ink = λ (u v : ℕ). g.I.Ink.ink_at c.args.ink.ink.now u v in
     let lines : (u v : ℕ) → ink u v ≡ true → v < c.size-w.result.1 = λ u v e. rw c.size-w.ensures.height (g.met.I.Ink.outside c.args.ink.ink.now u v e).1 in
-    rows_all _ _ (λ x k. laid Along c.args.columns c.args.rows ink (pos x) (pos (c.args.first + k))) c.loop-k.k _ _
+    shown_above c.args.seen c.args.op (λ x k. laid Along c.args.columns c.args.rows ink (pos x) (pos (c.args.first + k))) c.loop-k.k _ _
     (λ x k a b. c.span-from.ensures.behind _ (line_inside ink c.size-w.result.1 lines (dot_on c.args.columns (pos x))) (c.args.first + k) (omega (arith, c.from-first.ensures))) c.loop-k.invariant.painted
 
 pub returns-clause-lines : goal.returns-clause-lines

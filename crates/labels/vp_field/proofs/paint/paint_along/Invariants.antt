@@ -1,6 +1,6 @@
 use Rattle.std.proofs.Common.{◌≡◌, ◌+◌, ◌-◌, ◌≤◌, ◌&&◌, ltb, pos}
-use Rattle.vp_dots.specs.Places.{RowsPainted}
 use Rattle.vp_field.specs.Axes.{laid}
+use Rattle.vp_field.specs.Bands.{ShownPainted}
 use Rattle.vp_field.specs.Counts.{ArePieces}
 use Rattle.vp_field.specs.declared.axis.Lines.TheVariants.{Along}
 use Rattle.vp_field.proofs.paint.paint_along.Given as goal
@@ -9,7 +9,7 @@ use Rattle.vp_field.proofs.paint.paint_along.Given as goal
 abbrev pub invariant-loop-k : goal.invariant-loop-k
 invariant-loop-k g l = record {
   ink : l.pen.ink ≡ l.fn.ink.ink;
-  painted : RowsPainted 32 l.op (λ x k. ltb k l.k && laid Along l.columns l.rows (g.I.Ink.ink_at l.fn.ink.ink.now) (pos x) (pos (l.fn.first + k))) l.fn.band l.band;
+  painted : ShownPainted l.seen l.op (λ x k. ltb k l.k && laid Along l.columns l.rows (g.I.Ink.ink_at l.fn.ink.ink.now) (pos x) (pos (l.fn.first + k))) l.fn.band l.band;
   lines : l.pen.lines + (l.end - l.k) ≤ 32;
   counted : ArePieces (g.I.Pieces.most_pieces l.pen.ink.now 1248) l.pen.lines l.pen.pieces;
   none : l.pen.lines ≡ 0 → l.k ≡ l.from - l.fn.first;

@@ -1,11 +1,12 @@
-use Rattle.std.proofs.Common.{inl, inr, ◌≡◌, ℕ, ◌+◌, ◌*◌, ◌&&◌, leb, refl, sym, ap, ◌∙◌, arith, pos}
-use Rattle.std.proofs.lemmas.Bool.{cases_lt, le-leb}
+use Rattle.std.proofs.Common.{◌≡◌, ℕ, ◌+◌, ◌*◌, ◌<◌, ◌&&◌, ltb, leb, refl, sym, ap, ◌∙◌, arith}
+use Rattle.std.proofs.lemmas.Bool.{le-leb}
+use Rattle.std.proofs.lemmas.Bool.Decides.{nat_tests}
+use Rattle.vp_dots.specs.Dots.{dot, span}
 use Rattle.vp_dots.proofs.Heights.{rows_next}
 use Rattle.vp_dots.proofs.Paints.{painted_same}
-use Rattle.vp_field.specs.Places.{at_place}
-use Rattle.vp_field.specs.Axes.{dot_on, shown_dot}
-use Rattle.vp_dots.proofs.Rows.{dot_past}
+use Rattle.vp_field.specs.Axes.{shown_dot}
 use Rattle.vp_field.proofs.Alike.{no_line}
+use Rattle.vp_field.proofs.OnLabel.{in_span, shown_rows, shown_same}
 use Rattle.vp_field.proofs.OnWhite.{dot_white}
 use Rattle.vp_field.proofs.paint.paint_drawn.Goals as goal
 
@@ -14,18 +15,18 @@ draw_on-requires g c = (omega arith, (omega arith, (c.requires.columns, (omega a
 
 pub loop-i-preserved : goal.loop-i-preserved
 loop-i-preserved g c =
-    let line = shown_dot (g.I.Ink.ink_at c.args.pen.now.ink.now) c.args.columns c.args.shown.line in
+    let line = λ (x : ℕ). span (8 * c.args.reach.from) (8 * c.args.reach.to) x && dot c.draw_on.new.line x in
     rows_next 32 c.args.op (λ x k. leb c.args.k k && line x) c.args.k c.loop-i.i _ _ _ (omega (arith, c.row_mut.ensures.rows)) (omega arith) c.loop-i.invariant
-    (rw (sym c.row_mut.ensures.value) (painted_same _ _ _ _ _ (λ d l.
-    let here : 0 + d ≡ d = omega arith in
-    c.draw_on.ensures.dots d (omega (arith, l, c.row_mut.ensures.len))
-    ∙ ap line here
-    ∙ rw (le-leb c.args.k (c.args.k + c.loop-i.i) (omega arith)) refl) c.paint_bytes.ensures))
+    (rw (sym c.row_mut.ensures.value) (painted_same _ _ _ _ _ (λ d l. rw (le-leb c.args.k (c.args.k + c.loop-i.i) (omega arith)) refl) c.paint_bytes.ensures))
 
-pub paint_bytes-requires-clause-white : goal.paint_bytes-requires-clause-white
-paint_bytes-requires-clause-white g c d e = elim (cases_lt d (8 * 156)) [
-  | inl l ↦
-      let here : 0 + d ≡ d = omega arith in
-      c.draw_on.ensures.dots d l ∙ no_line _ c.args.shown.line (λ v. ap (λ n. at_place (λ u. g.I.Ink.ink_at c.args.pen.now.ink.now u v) (dot_on c.args.columns (pos n))) here ∙ c.requires.white v d l e)
-  | inr g ↦ dot_past c.draw_on.new.line d (omega arith)
-]
+-- beside the bytes that are painted the line is white, where it is shown
+pub returns-clause-painted : goal.returns-clause-painted
+returns-clause-painted g c = λ seen white.
+    let a = c.args in
+    let line = shown_dot (g.I.Ink.ink_at a.pen.now.ink.now) a.columns a.shown.line in
+    let done : c.loop-i.i ≡ a.shown.places = omega arith in
+    let same : (x : ℕ) → x < seen → (span (8 * a.reach.from) (8 * a.reach.to) x && dot c.draw_on.new.line x) ≡ line x = λ x l.
+    in_span (8 * a.reach.from) (8 * a.reach.to) x (dot c.draw_on.new.line x) (line x) (λ m. let here : 0 + x ≡ x = omega arith in c.draw_on.ensures.dots x (omega (arith, m, a.reach.within)) ∙ ap line here)
+    (λ e. no_line _ a.shown.line (λ v. white v x l e)) in
+    shown_same seen a.op (λ x r. ltb r (a.k + c.loop-i.i) && (leb a.k r && (span (8 * a.reach.from) (8 * a.reach.to) x && dot c.draw_on.new.line x))) (λ x r. span a.k (a.k + a.shown.places) r && line x) a.band.now _
+    (λ x k l h. rw (done, same x l) (grind (arith, nat_tests))) (shown_rows seen a.op _ _ _ c.loop-i.invariant)
