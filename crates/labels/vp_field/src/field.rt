@@ -124,8 +124,9 @@ fn paint_block_along<A: Small>(
     paint_standing(&rows, on, first, band)
 }
 
-/// Paints a block of lines: how many lines of ink it drew, and pieces of them, and how many lines of its text
-/// and cells of these were passed above the band.
+/// Paints a block of lines, and where it lies across the band on the columns of the label alone: how many
+/// lines of ink it drew, and pieces of them, and how many lines of its text and cells of these were passed
+/// above the band.
 fn paint_block<A: Small>(
     sheets: &Sheets<A>,
     stored: &[u8],
@@ -309,11 +310,11 @@ fn paint_content<A: Small>(
     }
 }
 
-/// Paints a field on a band, whose first row is row `first` of the label as it is put out. The marks are
-/// those that earlier bands left in its picture, or none, so that not all rows above are read again; more are
-/// left for the bands that come later, and of a symbol its modules or characters. What that took comes back:
-/// of a picture how many bytes of its codes were read, rows passed, and rows painted; of all else how many
-/// lines of ink were drawn, and pieces of them.
+/// Paints a field on a band, whose first row is row `first` of the label as it is put out: on all dots that
+/// are on the label, and maybe on some beside it. The marks are those that earlier bands left in its picture,
+/// or none, so that not all rows above are read again; more are left for the bands that come later, and of a
+/// symbol its modules or characters. What that took comes back: of a picture how many bytes of its codes were
+/// read, rows passed, and rows painted; of all else how many lines of ink were drawn, and pieces of them.
 pub fn paint_field<A: Small>(
     sheets: &Sheets<A>,
     stored: &[u8],

@@ -80,8 +80,8 @@ impl Laid {
         }
     }
 
-    /// The first of `lines` lines that may fall on the band from row `first` on, on so many columns where they
-    /// lie across it: none before it does.
+    /// The first of `lines` lines that may fall on the band from row `first` on, or on so many columns where
+    /// they lie across it: none before it does.
     pub fn first_line(self, lines: u32, first: u32, columns: u32) -> u32
         requires columns { IsWithin (2 ^ 41) self.columns }
         requires rows { IsWithin (2 ^ 41) self.rows }

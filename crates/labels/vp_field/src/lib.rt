@@ -10,7 +10,7 @@
 //! - `turning`: how boxes are turned.
 //! - `frame`, `text`, `lines`, `picture`, `picture_rows`: boxes, texts, blocks of lines and pictures.
 //! - `block_columns`, `block_band`: blocks of lines, many of whose rows are drawn at once: those that fall on
-//!   columns, and those of lines that meet.
+//!   columns of the label, and those of lines that meet.
 //! - `marks`: what earlier bands left of a field: the marks of a picture, or a QR symbol as it was drawn.
 //! - `content`, `sized`, `field`: what fields show, with their sizes, and how they are painted.
 //! - `view`: how a label is put out.
