@@ -1,6 +1,6 @@
 //! Rows of the page blackened 64 dots at once: by a word at any place, and by a line that stands on whole
 //! bytes, as it is or turned end for end.
-ghost use Rattle.std.specs.Prelude.{◌≡◌, ℕ, Bool, true, ◌+◌, ◌-◌, ◌*◌, ◌/◌, ◌%◌, ◌<◌, ◌≤◌, ◌==◌, ◌&&◌, ◌^◌, false, nat_lt, nat_le, length, slice_index, bit_and, bit_or};
+ghost use Rattle.std.specs.Prelude.{◌≡◌, ℕ, Bool, true, ◌+◌, ◌-◌, ◌*◌, ◌/◌, ◌%◌, ◌<◌, ◌≤◌, ◌==◌, ◌&&◌, ◌^◌, false, nat_lt, nat_le, length, slice_index, bit_and, bit_or, pos};
 ghost use Rattle.vp_dots.specs.Dots.{bit, dot, dots, shifted, span};
 ghost use Rattle.vp_dots.specs.Words.{word_dot};
 ghost use Rattle.vp_dots.specs.Painting.{Painted};
@@ -120,10 +120,37 @@ fn or_word(word: u64, left: i64, row: &mut [u8])
     }
 }
 
-/// Blackens rows of the page, from one on, where the first h words, moved by an offset, are black: the first
-/// word stands on the last of the rows for lines that run up, and on the first for lines that run down.
+/// What `lay_words` does where all of a word falls on the page, from one of its dots on.
 #[inline(always)]
-pub(crate) fn lay_words<A: Small>(
+fn lay_inside<A: Small>(
+    words: &[u64],
+    way: Way,
+    h: usize,
+    far: u64,
+    top: usize,
+    band: &mut PageBand<A>,
+)
+    requires few { h ≤ length words.now }
+    requires room { top + h ≤ PAGE_ROWS }
+    requires inside { far < 8 * (PAPER_BYTES - 8) }
+    ensures { RowsPainted PAGE_ROWS Black (words_along words.now way (pos far) top h) band.old band.new }
+{
+    match way {
+        Way::Up => {
+            for i in 0..h {
+                or_inside(words[h - 1 - i], far, band.row_mut(top + i));
+            }
+        }
+        Way::Down => {
+            for i in 0..h {
+                or_inside(words[i], far, band.row_mut(top + i));
+            }
+        }
+    }
+}
+
+/// What `lay_words` does wherever a word falls.
+fn lay_anywhere<A: Small>(
     words: &[u64],
     way: Way,
     h: usize,
@@ -146,6 +173,28 @@ pub(crate) fn lay_words<A: Small>(
                 or_word(words[i], left, band.row_mut(top + i));
             }
         }
+    }
+}
+
+/// Blackens rows of the page, from one on, where the first h words, moved by an offset, are black: the first
+/// word stands on the last of the rows for lines that run up, and on the first for lines that run down.
+#[inline(always)]
+pub(crate) fn lay_words<A: Small>(
+    words: &[u64],
+    way: Way,
+    h: usize,
+    left: i64,
+    top: usize,
+    band: &mut PageBand<A>,
+)
+    requires few { h ≤ length words.now }
+    requires room { top + h ≤ PAGE_ROWS }
+    ensures { RowsPainted PAGE_ROWS Black (words_along words.now way left top h) band.old band.new }
+{
+    if left >= 0 && left < 8 * LAST as i64 {
+        lay_inside(words, way, h, left.unsigned_abs(), top, band);
+    } else {
+        lay_anywhere(words, way, h, left, top, band);
     }
 }
 

@@ -72,24 +72,25 @@ pub fn lay_raster_row<A: Small>(s: &Settings, raster: &Raster, page: &mut Page<A
     lay_scaled(s.page, raster.scale, raster.kept(), 0, page);
 }
 
-/// A row as long as the longest line, white behind its bytes.
-fn lengthened(row: &[u8]) -> [u8; LINE_BYTES]
-    ensures { (u : ℕ) → u < LINE_DOTS → dot result u ≡ dot row.now u }
+/// Writes a row on a line, white behind its bytes.
+#[inline(always)]
+fn write_row(row: &[u8], line: &mut [u8; LINE_BYTES])
+    ensures { (u : ℕ) → u < LINE_DOTS → dot line.new u ≡ dot row.now u }
 {
-    let mut line = [0; LINE_BYTES];
     let n = row.len().min(LINE_BYTES);
+    *line = [0; LINE_BYTES];
     line[..n].copy_from_slice(&row[..n]);
-    line
 }
 
-/// A row as a scale draws it across, as long as the longest line.
-fn widened(row: &[u8], scale: RasterScale) -> [u8; LINE_BYTES]
-    ensures { (u : ℕ) → u < LINE_DOTS → dot result u ≡ dot row.now (u / times_across scale) }
+/// Writes a row on a line as a scale draws it across.
+#[inline(always)]
+fn write_line(row: &[u8], scale: RasterScale, line: &mut [u8; LINE_BYTES])
+    ensures { (u : ℕ) → u < LINE_DOTS → dot line.new u ≡ dot row.now (u / times_across scale) }
 {
     if times_across(scale) == 1 {
-        lengthened(row)
+        write_row(row, line);
     } else {
-        doubled(row)
+        *line = doubled(row);
     }
 }
 
@@ -119,7 +120,7 @@ fn write_lines(
             lines[i] = lines[i - 1];
         } else {
             let at = (from + i) / times * wide;
-            lines[i] = widened(&bytes[at..at + shown], scale);
+            write_line(&bytes[at..at + shown], scale, &mut lines[i]);
         }
     }
     few

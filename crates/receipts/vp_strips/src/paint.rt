@@ -32,18 +32,19 @@ pub struct Bitmap<A: Small = Global> {
     used: usize,
     /// Which rows are the same as the one above, while it is known: of characters that are all magnified
     /// upward.
-    same: Option<Same>,
+    same: Same,
+    known: bool,
 }
 
 impl<A: Small> Model for Bitmap<A> {
-    ghost use Rattle.std.specs.Prelude.{ℕ, List, IfSome};
+    ghost use Rattle.std.specs.Prelude.{◌≡◌, ℕ, List, true};
     ghost use Rattle.vp_strips.specs.LineDots.{AreSame, IsWhiteAbove};
 
     ghost Value = { List (List ℕ) };
 
     ghost view = { λ s. s.band };
 
-    ghost invariant = { λ s. IsWhiteAbove s.used s.band × IfSome s.same (λ same. AreSame same s.band) };
+    ghost invariant = { λ s. IsWhiteAbove s.used s.band × (s.known ≡ true → AreSame s.same s.band) };
 }
 
 /// Paints the first `high` words, each of few dots, one on each row from `top` on.
@@ -374,7 +375,8 @@ impl<A: Small> Bitmap<A> {
         Ok(Bitmap {
             band,
             used: 0,
-            same: Some([true; LINE_ROWS]),
+            same: [true; LINE_ROWS],
+            known: true,
         })
     }
 
@@ -384,7 +386,8 @@ impl<A: Small> Bitmap<A> {
     {
         self.band.clear_rows(LINE_ROWS - self.used, LINE_ROWS);
         self.used = 0;
-        self.same = Some([true; LINE_ROWS]);
+        self.same = [true; LINE_ROWS];
+        self.known = true;
     }
 
     /// Puts ink into the line at a position, on its lowest rows.
@@ -397,7 +400,7 @@ impl<A: Small> Bitmap<A> {
         let top = LINE_ROWS - high as usize;
         paint_ink(ink, at, top, &mut self.band);
         self.used = self.used.max(high as usize);
-        self.same = None;
+        self.known = false;
     }
 
     /// Puts a character into the line at a position, on its lowest rows.
@@ -414,10 +417,10 @@ impl<A: Small> Bitmap<A> {
         let top = LINE_ROWS - high;
         paint_cell(cell, at, top, &mut self.band);
         self.used = self.used.max(high);
-        if cell.style.hm <= 1 {
-            self.same = None;
-        } else if let Some(same) = &mut self.same {
-            part_rows(cell.font, cell.style, top, same);
+        if cell.style.hm > 1 {
+            part_rows(cell.font, cell.style, top, &mut self.same);
+        } else {
+            self.known = false;
         }
     }
 
@@ -447,9 +450,10 @@ impl<A: Small> Bitmap<A> {
             slice_index_or rows i [] ≡ slice_index_or self.now (LINE_ROWS - high + i) []) →
             AreTold rows result.now }
     {
-        match &self.same {
-            Some(same) => &same[LINE_ROWS - high..],
-            None => &[],
+        if self.known {
+            &self.same[LINE_ROWS - high..]
+        } else {
+            &[]
         }
     }
 

@@ -1,5 +1,5 @@
 //! Which rows of a line's bitmap are known to show what the row above them does.
-ghost use Rattle.std.specs.Prelude.{◌≡◌, ℕ, ◌+◌, ◌-◌, ◌*◌, ◌/◌, ◌<◌, ◌≤◌, true, false, length, slice_index_or};
+ghost use Rattle.std.specs.Prelude.{◌≡◌, ℕ, ◌+◌, ◌-◌, ◌*◌, ◌/◌, ◌<◌, ◌≤◌, true, false, slice_index_or};
 ghost use Rattle.vp_glyph.specs.Cells.{cell_height, font_height, underlined};
 ghost use Rattle.vp_receipt_settings.specs.declared.text.TheConstants.{LINE_ROWS};
 
@@ -26,7 +26,6 @@ fn part(y: usize, same: &mut Same)
 pub(crate) fn part_rows(font: Font, style: Style, top: usize, same: &mut Same)
     requires some { 0 < style.hm }
     requires room { top + cell_height font style ≤ LINE_ROWS }
-    ensures rows { length same.new ≡ LINE_ROWS }
     ensures kept { (y : ℕ) → slice_index_or same.new y false ≡ true → slice_index_or same.old y false ≡ true }
     ensures below { (y : ℕ) → top ≤ y → y < top + cell_height font style →
         slice_index_or same.new y false ≡ true → top < y }

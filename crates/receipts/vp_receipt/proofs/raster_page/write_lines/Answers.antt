@@ -12,8 +12,8 @@ use Rattle.vp_receipt.proofs.raster_page.write_lines.Goals.{then-from-i-gt0, els
 pub loop-i-init : goal.loop-i-init
 loop-i-init c = record { count = search rules; dots = λ k u h l. absurd (omega arith) }
 
-pub slice_bounds-widened-end : goal.slice_bounds-widened-end
-slice_bounds-widened-end c =
+pub slice_bounds-write_line-end : goal.slice_bounds-write_line-end
+slice_bounds-write_line-end c =
     let w = c.args.from + c.loop-i.i in
     let times = c.times_down-times.result in
     let there : w / times < c.args.rows = row_there w c.args.rows times c.times_down-times.ensures.some c.times_down-times.ensures.few (omega (arith, c.loop-i-test.true, c.min-few.ensures)) in
@@ -46,10 +46,10 @@ loop-i-preserved c =
           let at = (from + i) / c.times_down-times.result * wide in
           let shown : at + c.min-shown.result - at ≡ min wide LINE_BYTES = omega (arith, c.min-shown.ensures) in
           rw w.lines-is (record {
-            count = omega (arith, length-set c.loop-i.lines i w.widened.result, c.loop-i.invariant.count);
-            dots = line_set f c.loop-i.lines i w.widened.result (omega (arith, c.loop-i.invariant.count, c.loop-i-test.true, c.min-few.ensures))
+            count = omega (arith, length-set c.loop-i.lines i w.write_line.new.line, c.loop-i.invariant.count);
+            dots = line_set f c.loop-i.lines i w.write_line.new.line (omega (arith, c.loop-i.invariant.count, c.loop-i-test.true, c.min-few.ensures))
                 (λ u l. let near = div-le_self u across in
-                w.widened.ensures u l ∙ ap (λ n. dot (take n (drop at bytes)) (u / across)) shown ∙ front_shown wide (u / across) (drop at bytes) (omega (arith, near, l))
+                w.write_line.ensures u l ∙ ap (λ n. dot (take n (drop at bytes)) (u / across)) shown ∙ front_shown wide (u / across) (drop at bytes) (omega (arith, near, l))
                 ∙ ap (λ t. dot (row_at bytes wide ((from + i) / t)) (u / across)) is)
                 c.loop-i.invariant.dots;
           })

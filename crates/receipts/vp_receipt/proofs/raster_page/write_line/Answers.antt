@@ -1,12 +1,12 @@
 use Rattle.std.proofs.Common.{◌≡◌, ◌/◌, ap, sym, ◌∙◌, arith}
 use Rattle.vp_dots.specs.Dots.{dot}
 use Rattle.vp_receipt_settings.specs.Rasters.{times_across}
-use Rattle.vp_receipt.proofs.raster_page.widened.Goals as goal
+use Rattle.vp_receipt.proofs.raster_page.write_line.Goals as goal
 
 pub returns-then-times_across-eq1 : goal.returns-then-times_across-eq1
 returns-then-times_across-eq1 c = λ u h.
     let one : times_across c.args.scale ≡ 1 = sym c.times_across.ensures.value ∙ c.if-times_across-eq1.true in
-    c.lengthened.ensures u h ∙ ap (dot c.args.row.now) (let q : u ≡ u / 1 = omega arith in q ∙ ap (λ t. u / t) (sym one))
+    c.write_row.ensures u h ∙ ap (dot c.args.row.now) (let q : u ≡ u / 1 = omega arith in q ∙ ap (λ t. u / t) (sym one))
 
 pub returns-else-times_across-eq1 : goal.returns-else-times_across-eq1
 returns-else-times_across-eq1 c = λ u h.

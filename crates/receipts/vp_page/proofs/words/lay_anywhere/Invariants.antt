@@ -3,7 +3,7 @@ use Rattle.vp_dots.specs.Dots.{shifted}
 use Rattle.vp_dots.specs.Words.{word_dot}
 use Rattle.vp_dots.specs.Places.{RowsPainted}
 use Rattle.vp_dots.specs.declared.Op.TheVariants.{Black}
-use Rattle.vp_page.proofs.words.lay_words.Given as goal
+use Rattle.vp_page.proofs.words.lay_anywhere.Given as goal
 
 -- the rows above top + i are done
 abbrev pub invariant-loop-i : goal.invariant-loop-i
