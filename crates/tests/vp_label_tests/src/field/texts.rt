@@ -245,7 +245,7 @@ fn blocks(rt: HostRuntime) -> Result<(), Fail> {
     Ok(())
 }
 
-/// The first 32 dots of the rows of a band that shows a turned block of four lines on a label so wide.
+/// The first 32 dots of the rows of a band that shows a block of four lines on a label so wide.
 fn first_dots(
     alloc: Global,
     sheets: &Sheets,
@@ -264,11 +264,16 @@ fn first_dots(
     Ok(dots)
 }
 
-/// A turned block is drawn only as wide as the label, and shows the same there.
+/// A block is drawn only as wide as the label, and shows the same there.
 #[test]
 fn blocks_on_a_narrow_label(rt: HostRuntime) -> Result<(), Fail> {
     let sheets = stairs(rt.alloc())?;
-    for orientation in [Orientation::Rotated, Orientation::BottomUp] {
+    for orientation in [
+        Orientation::Normal,
+        Orientation::Rotated,
+        Orientation::Inverted,
+        Orientation::BottomUp,
+    ] {
         let narrow = first_dots(rt.alloc(), &sheets, orientation, 32)?;
         let wide = first_dots(rt.alloc(), &sheets, orientation, 1248)?;
         same_by(&rt, "a block on a narrow label", &narrow, &wide);
