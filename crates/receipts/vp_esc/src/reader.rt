@@ -656,7 +656,8 @@ fn first_stops(kept: &[u8]) -> ArrayVec<u8, 32>
 fn is_text(byte: u8) -> bool
     ensures { result ≡ is_text byte }
 {
-    Lead::of(byte).is_none() && !matches!(byte, 0x09 | 0x0A | 0x0C | 0x18)
+    // HT, LF, FF and CAN act, and DLE, ESC, FS and GS lead.
+    !matches!(byte, 0x09 | 0x0A | 0x0C | 0x18 | 0x10 | 0x1B..=0x1D)
 }
 
 /// How many bytes of text stand at the front.

@@ -8,7 +8,7 @@ use Rattle.vp_esc.specs.declared.item.RasterScale.TheVariants.{Normal}
 use Rattle.vp_receipt_settings.specs.Rasters.{row_at}
 use Rattle.vp_receipt.specs.PageMarks.{rows_dot}
 use Rattle.vp_receipt.proofs.PageRows.{row_is}
-use Rattle.vp_page.specs.declared.across.TheConstants.{AT_ONCE}
+use Rattle.vp_dots.specs.declared.square.TheConstants.{SIDE}
 use Rattle.vp_page.specs.declared.line.TheConstants.{LINE_BYTES, LINE_DOTS}
 
 -- a row, and white bytes behind it
@@ -44,5 +44,5 @@ pub row_there : (w rows times : ℕ) → 0 < times → times ≤ 2 → w < rows 
 row_there w rows times some few h = grind arith
 
 -- as many as are laid at once begin with the first line of a row
-pub row_begins : (k times : ℕ) → 0 < times → times ≤ 2 → AT_ONCE * k % times ≡ 0
+pub row_begins : (k times : ℕ) → 0 < times → times ≤ 2 → SIDE * k % times ≡ 0
 row_begins k times some few = grind arith

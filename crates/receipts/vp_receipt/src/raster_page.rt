@@ -5,7 +5,7 @@ ghost use Rattle.vp_esc.specs.declared.item.EscItem.{EscItem};
 ghost use Rattle.vp_esc.specs.declared.item.RasterScale.{RasterScale};
 ghost use Rattle.vp_page.specs.Layers.{Layer, Laid, first_rows};
 ghost use Rattle.vp_page.specs.Pages.{HasPage};
-ghost use Rattle.vp_page.specs.declared.across.TheConstants.{AT_ONCE};
+ghost use Rattle.vp_dots.specs.declared.square.TheConstants.{SIDE};
 ghost use Rattle.vp_page.specs.declared.line.TheConstants.{LINE_BYTES, LINE_DOTS};
 ghost use Rattle.vp_receipt.specs.PageMarks.{mark_of, raster_mark, rows_dot};
 ghost use Rattle.vp_receipt.specs.Standing.{IsOnPage};
@@ -14,9 +14,9 @@ ghost use Rattle.vp_receipt_settings.specs.Settings.{settings_of, IsFit, IsFitPa
 ghost use Rattle.vp_receipt_settings.specs.Rasters.{bytes_after, raster_scale, times_across, times_down};
 ghost use Rattle.vp_receipt_settings.specs.Setup.{Setup};
 
-use vp_dots::Small;
+use vp_dots::{SIDE, Small};
 use vp_esc::item::RasterScale;
-use vp_page::{AT_ONCE, Direction, LINE_BYTES, Page};
+use vp_page::{Direction, LINE_BYTES, Page};
 use vp_receipt_settings::{PageSettings, Raster, Settings, times_across, times_down};
 use vp_strips::doubled;
 
@@ -102,19 +102,19 @@ fn write_lines(
     wide: usize,
     from: usize,
     rows: usize,
-    lines: &mut [[u8; LINE_BYTES]; AT_ONCE],
+    lines: &mut [[u8; LINE_BYTES]; SIDE],
 ) -> usize
     requires begins { from ≤ rows * times_down scale }
     requires row_begins { from % times_down scale ≡ 0 }
     requires few { rows ≤ 65535 }
     requires long { rows * wide ≤ length bytes.now }
-    ensures few { result ≡ min (rows * times_down scale - from) AT_ONCE }
+    ensures few { result ≡ min (rows * times_down scale - from) SIDE }
     ensures dots { (i u : ℕ) → i < result → u < LINE_DOTS →
         dot (slice_index_or lines.new i []) u ≡ rows_dot scale wide rows bytes.now u (from + i) }
 {
     let shown = wide.min(LINE_BYTES);
     let times = times_down(scale) as usize;
-    let few = (rows * times - from).min(AT_ONCE);
+    let few = (rows * times - from).min(SIDE);
     for i in 0..few {
         if (from + i) % times > 0 {
             lines[i] = lines[i - 1];
@@ -146,9 +146,9 @@ fn lay_many<A: Small>(
     let wide = usize::from(raster.bytes);
     let high = rows * times_down(raster.scale) as usize;
     let top = p.vertical as u32;
-    let mut lines = [[0; LINE_BYTES]; AT_ONCE];
-    for k in 0..high.div_ceil(AT_ONCE) {
-        let from = AT_ONCE * k;
+    let mut lines = [[0; LINE_BYTES]; SIDE];
+    for k in 0..high.div_ceil(SIDE) {
+        let from = SIDE * k;
         let few = write_lines(raster.scale, bytes, wide, from, rows, &mut lines);
         page.lay_lines(p.area, p.direction, top + from as u32, &lines[..few], &[]);
     }

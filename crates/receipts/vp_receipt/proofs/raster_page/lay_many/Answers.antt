@@ -10,7 +10,7 @@ use Rattle.vp_receipt_settings.specs.Rasters.{times_down}
 use Rattle.vp_receipt.specs.PageMarks.{mark_of, rows_dot}
 use Rattle.vp_receipt.proofs.PageLines.{length_small}
 use Rattle.vp_receipt.proofs.RasterLines.{row_begins}
-use Rattle.vp_page.specs.declared.across.TheConstants.{AT_ONCE}
+use Rattle.vp_dots.specs.declared.square.TheConstants.{SIDE}
 use Rattle.vp_receipt.proofs.raster_page.lay_many.Goals as goal
 
 pub loop-k-init : goal.loop-k-init
@@ -18,11 +18,11 @@ loop-k-init g c = λ layers page.
     let r = c.args.raster.now in
     let high = c.args.rows * times_down r.scale in
     let m = mark_of c.args.p high (rows_dot r.scale r.bytes c.args.rows c.args.bytes.now) in
-    let none : 0 ≡ min (AT_ONCE * 0) high = omega arith in
+    let none : 0 ≡ min (SIDE * 0) high = omega arith in
     subst (λ n. HasPage (Laid (first_rows n m) ∷ layers) c.args.page.now) none (rows_make_an_image.none m layers _ page)
 
 pub write_lines-few-requires-clause-row_begins : goal.write_lines-few-requires-clause-row_begins
-write_lines-few-requires-clause-row_begins g c = ap (λ t. AT_ONCE * c.loop-k.k % t) (sym c.times_down.ensures.value) ∙ row_begins c.loop-k.k c.times_down.result c.times_down.ensures.some c.times_down.ensures.few
+write_lines-few-requires-clause-row_begins g c = ap (λ t. SIDE * c.loop-k.k % t) (sym c.times_down.ensures.value) ∙ row_begins c.loop-k.k c.times_down.result c.times_down.ensures.some c.times_down.ensures.few
 
 pub loop-k-preserved : goal.loop-k-preserved
 loop-k-preserved g c = λ layers page.
@@ -36,14 +36,14 @@ loop-k-preserved g c = λ layers page.
     let lines = c.write_lines-few.new.lines in
     let all : c.args.rows * c.times_down.result ≡ high = ap (λ t. c.args.rows * t) c.times_down.ensures.value in
     let short = length_small p.area p.direction c.requires.fit.across c.requires.fit.down in
-    let whole : length lines ≡ AT_ONCE = search rules in
+    let whole : length lines ≡ SIDE = search rules in
     let long : length (take n lines) ≡ n = omega (arith, length-take n lines, whole) in
-    let here : min (AT_ONCE * k) high ≡ AT_ONCE * k = omega (arith, all) in
-    let next : AT_ONCE * k + n ≡ min (AT_ONCE * (k + 1)) high = omega (arith, all) in
+    let here : min (SIDE * k) high ≡ SIDE * k = omega (arith, all) in
+    let next : SIDE * k + n ≡ min (SIDE * (k + 1)) high = omega (arith, all) in
     subst (λ n. HasPage (Laid (first_rows n m) ∷ layers) c.lay_lines.new.self) next
-    (lines_more m (AT_ONCE * k) n (take n lines) layers c.lay_lines.new.self (omega arith) long
+    (lines_more m (SIDE * k) n (take n lines) layers c.lay_lines.new.self (omega arith) long
     (λ u w h l. let shown : u < LINE_DOTS = omega (arith, h, short) in shown_line lines n w u ∙ rw (lt-ltb w n l, lt-ltb u LINE_DOTS shown) (c.write_lines-few.ensures.dots w u l shown
-    ∙ ap (λ x. rows_dot r.scale x c.args.rows bytes u (AT_ONCE * k + w)) c.from-wide.ensures))
+    ∙ ap (λ x. rows_dot r.scale x c.args.rows bytes u (SIDE * k + w)) c.from-wide.ensures))
     (c.lay_lines.ensures _ (subst (λ n. HasPage (Laid (first_rows n m) ∷ layers) c.loop-k.page) here (c.loop-k.invariant layers page))))
 
 pub returns : goal.returns
@@ -52,6 +52,6 @@ returns g c = λ layers page.
     let high = c.args.rows * times_down r.scale in
     let m = mark_of c.args.p high (rows_dot r.scale r.bytes c.args.rows c.args.bytes.now) in
     let all : c.args.rows * c.times_down.result ≡ high = ap (λ t. c.args.rows * t) c.times_down.ensures.value in
-    rows_make_an_image.all m (min (AT_ONCE * c.loop-k.k) high) layers _ (λ u w e k.
+    rows_make_an_image.all m (min (SIDE * c.loop-k.k) high) layers _ (λ u w e k.
     let above = ltb-true w high (and_parts _ _ e).0 in
     omega (arith, above, all)) (omega (arith, all)) (c.loop-k.invariant layers page)

@@ -6,7 +6,7 @@ use Rattle.vp_receipt.proofs.PageRows.{front_shown}
 use Rattle.vp_receipt.proofs.RasterLines.{line_set, line_there, not_first, row_there, same_row}
 use Rattle.vp_page.specs.declared.line.TheConstants.{LINE_BYTES}
 use Rattle.vp_receipt.proofs.raster_page.write_lines.Goals as goal
-use Rattle.vp_page.specs.declared.across.TheConstants.{AT_ONCE}
+use Rattle.vp_dots.specs.declared.square.TheConstants.{SIDE}
 use Rattle.vp_receipt.proofs.raster_page.write_lines.Goals.{then-from-i-gt0, else-from-i-gt0}
 
 pub loop-i-init : goal.loop-i-init
@@ -56,7 +56,7 @@ loop-i-preserved c =
     ]
 
 pub returns-clause-few : goal.returns-clause-few
-returns-clause-few c = c.min-few.ensures ∙ ap (λ t. min (c.args.rows * t - c.args.from) AT_ONCE) c.times_down-times.ensures.value
+returns-clause-few c = c.min-few.ensures ∙ ap (λ t. min (c.args.rows * t - c.args.from) SIDE) c.times_down-times.ensures.value
 
 pub returns-clause-dots : goal.returns-clause-dots
 returns-clause-dots c k u h l =
