@@ -656,8 +656,8 @@ fn first_stops(kept: &[u8]) -> ArrayVec<u8, 32>
 fn is_text(byte: u8) -> bool
     ensures { result ≡ is_text byte }
 {
-    // HT, LF, FF and CAN act, and DLE, ESC, FS and GS lead.
-    !matches!(byte, 0x09 | 0x0A | 0x0C | 0x18 | 0x10 | 0x1B..=0x1D)
+    // HT apart from LF: together they would be a range, and that a test of its own.
+    Lead::of(byte).is_none() && byte != 0x09 && !matches!(byte, 0x0A | 0x0C | 0x18)
 }
 
 /// How many bytes of text stand at the front.
