@@ -38,7 +38,7 @@ loop-at-preserved g c =
       laid = λ ink same. rows_then _ _ _ _ _ _
           (λ x y. stretch_more c.on_page-from.result.0 at (at + rows) (along_of a way y) (across_dot a way (get_or begins 0 0) (get_or begins n 0) ink x y) c.loop-at.invariant.behind (omega arith))
           (c.loop-at.invariant.laid ink same)
-          (c.lay_words.ensures ink (λ i j w h l p q. c.turned_square-square.ensures i j (omega (arith, h, c.requires.few)) (omega (arith, l, c.min-rows.ensures))
+          (c.lay_turned.ensures ink (λ i j w h l p q. c.turned_square-square.ensures i j (omega (arith, h, c.requires.few)) (omega (arith, l, c.min-rows.ensures))
           ∙ c.square_of.ensures j i (omega (arith, l, c.min-rows.ensures)) (omega (arith, h, c.requires.few)) ∙ same i (at + j) w h p q));
     }
 

@@ -4,7 +4,7 @@ use Rattle.vp_dots.specs.Words.{word_dot}
 use Rattle.vp_dots.specs.Places.{RowsPainted}
 use Rattle.vp_dots.specs.declared.Op.TheVariants.{Black}
 use Rattle.vp_page.specs.Runs.{across_dot, along_of}
-use Rattle.vp_page.proofs.runs.lay_words.Given as goal
+use Rattle.vp_page.proofs.runs.lay_turned.Given as goal
 
 -- the words before this one are laid
 abbrev pub invariant-loop-j : goal.invariant-loop-j

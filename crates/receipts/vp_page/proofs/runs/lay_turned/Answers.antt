@@ -3,7 +3,7 @@ use Rattle.vp_dots.specs.Words.{word_dot}
 use Rattle.vp_page.specs.Runs.{across_dot, along_of}
 use Rattle.vp_page.proofs.Rows.{rows_then}
 use Rattle.vp_page.proofs.RunRows.{stretch_more}
-use Rattle.vp_page.proofs.runs.lay_words.Goals as goal
+use Rattle.vp_page.proofs.runs.lay_turned.Goals as goal
 
 pub loop-j-preserved : goal.loop-j-preserved
 loop-j-preserved g c =
