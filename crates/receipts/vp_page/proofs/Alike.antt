@@ -18,6 +18,8 @@ use Rattle.vp_dots.proofs.Rows.{dot_at}
 use Rattle.vp_dots.proofs.Spans.{bit_of_and}
 use Rattle.vp_dots.proofs.Swaps.{every_at}
 use Rattle.vp_dots.proofs.Words.{and_true}
+use Rattle.vp_page.specs.declared.line.TheConstants.{LINE_DOTS}
+use Rattle.vp_page.specs.declared.page.TheConstants.{PAPER_DOTS}
 use Rattle.vp_page.specs.Areas.{holds}
 use Rattle.vp_page.specs.declared.area.Area.{Area}
 
@@ -30,7 +32,7 @@ pub both_dot : (w m k : ℕ) → k < 64 → word_dot (bit_and w m) k ≡ (word_d
 both_dot w m k h = rw (lt-ltb k 64 h) (bit_of_and w m (63 - k))
 
 pub none_black : (line : List ℕ) (w m dots from k : ℕ) → bit_and w m ≡ 0 → ((x : ℕ) → word_dot m x ≡ ltb x dots)
-    → ((x : ℕ) → x < 64 → word_dot w x ≡ (ltb (from + x) 1664 && dot line (from + x))) → k < 64 → k < dots → from + k < 1664 → dot line (from + k) ≡ false
+    → ((x : ℕ) → x < 64 → word_dot w x ≡ (ltb (from + x) LINE_DOTS && dot line (from + x))) → k < 64 → k < dots → from + k < LINE_DOTS → dot line (from + k) ≡ false
 none_black line w m dots from k e p q h l r = grind (arith, lt-ltb, and_true, both_dot, white_dot)
 
 -- a dot that is kept
@@ -60,7 +62,7 @@ pub kept_apart : (i n d : ℕ) (b : Bool) → ((ltb (d / 8) i && b) && (span i (
 kept_apart i n d b = grind (arith, nat_tests)
 
 -- the last eight
-pub kept_last : (d : ℕ) (b : Bool) → d < 576 → b ≡ ((ltb (d / 8) 64 && b) || (span 64 72 (d / 8) && b))
+pub kept_last : (d : ℕ) (b : Bool) → d < PAPER_DOTS → b ≡ ((ltb (d / 8) 64 && b) || (span 64 72 (d / 8) && b))
 kept_last d b h = grind (arith, nat_tests)
 
 pub none_kept : (d : ℕ) (b : Bool) → (ltb (d / 8) (16 * 0) && b) ≡ false
@@ -74,7 +76,7 @@ whitened : (s : Bool) → cond s false true ≡ not s
 whitened s = grind arith
 
 -- a black row that is made white along an area
-pub kept_row : (from to x : ℕ) (new : List ℕ) → Painted White (span from to) (replicate 72 255) new → x < 576 → dot new x ≡ not (span from to x)
+pub kept_row : (from to x : ℕ) (new : List ℕ) → Painted White (span from to) (replicate 72 255) new → x < PAPER_DOTS → dot new x ≡ not (span from to x)
 kept_row from to x new p h = p.dots_are x (omega (arith, length-replicate {A = ℕ} 72 255)) ∙ ap (λ b. cond (span from to x) false b) (black_row 72 x (omega arith)) ∙ whitened (span from to x)
 
 -- and what is not kept of a row that an area has
@@ -95,12 +97,8 @@ white_block i row room = painted_same White (λ d. span i (i + 64) (d / 8) && tr
     (painted_block White (λ d. true) i 64 row (replicate 64 0) (length-replicate {A = ℕ} 64 0) room (λ j m k h. white_lane j k m))
 
 -- the first eight bytes, where some dots are kept, and those behind them, where none is
-pub first_kept : (d : ℕ) (k : Bool) → (64 ≤ d → k ≡ false) → d < 576 → not k ≡ ((span 0 (0 + 8) (d / 8) && not k) || span 8 (8 + 64) (d / 8))
+pub first_kept : (d : ℕ) (k : Bool) → (64 ≤ d → k ≡ false) → d < PAPER_DOTS → not k ≡ ((span 0 (0 + 8) (d / 8) && not k) || span 8 (8 + 64) (d / 8))
 first_kept d k e h = grind (arith, nat_tests, true≢false)
 
 pub first_apart : (d : ℕ) (b : Bool) → ((span 0 (0 + 8) (d / 8) && b) && span 8 (8 + 64) (d / 8)) ≡ false
 first_apart d b = grind (arith, nat_tests)
-
--- a dot of the longest line stands on one of its bytes
-pub within_all : (u : ℕ) (b : Bool) → u < 1664 → (span 0 (0 + 16 * 13) (u / 8) && b) ≡ b
-within_all u b h = grind (arith, nat_tests)

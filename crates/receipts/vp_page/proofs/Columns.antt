@@ -1,5 +1,7 @@
 -- Lines laid across the page, upward or downward.
 use Rattle.std.proofs.Common.{inl, inr, ◌≡◌, ℕ, ◌+◌, ◌-◌, ◌*◌, ◌/◌, ◌%◌, ◌<◌, ◌≤◌, min, not, Bool, true, false, ltb, leb, ◌&&◌, refl, sym, ap, ◌∙◌, arith, List, length, take, get_or, set, get_or-set_same, get_or-set_other, ℤ}
+use Rattle.vp_page.specs.declared.across.TheConstants.{AT_ONCE}
+use Rattle.vp_page.specs.declared.page.TheConstants.{PAGE_ROWS}
 use Rattle.vp_page.proofs.Rows.{met}
 use Rattle.std.proofs.lemmas.Int.{ints}
 use Rattle.std.proofs.lemmas.Bool.{cases_eq, cases_lt, lt-ltb, le-ltb, lt-leb, le-leb, and_parts, ltb-true, leb-true, true≢false}
@@ -43,37 +45,6 @@ line_placed way n square lines from p k word whole is small this before x y h l 
 -- a dot is on the row that shows it
 pub ordered_back : (way : Way) (n k : ℕ) → k < n → ordered way n (ordered way n k) ≡ k
 ordered_back way n k h = grind arith
-
-not_held : (p b : Bool) → (p && false && b) ≡ false
-not_held p b = ap (λ t. t && b) (and_false p)
-
--- columns of an area
-module _ (ax dx v n x : ℕ) (ink : ℕ → Bool) (deep : v + n ≤ dx) (none : (i : ℕ) → n ≤ i → ink i ≡ false) where
-  up_columns : (leb (ax + v) x && ink (x - (ax + v))) ≡ (span ax (ax + dx) x && (leb v (x - ax) && ink (x - ax - v)))
-  up_columns = elim (cases_lt x (ax + v)) [
-    | inl l ↦ rw (lt-leb (ax + v) x l) (elim (cases_lt x ax) [
-      | inl b ↦ rw (lt-leb ax x b) refl
-      | inr g ↦ rw (lt-leb v (x - ax) (omega arith)) (sym (and_false (span ax (ax + dx) x)))
-    ])
-    | inr g ↦ (let at : x - (ax + v) ≡ x - ax - v = omega arith in
-        rw (le-leb (ax + v) x g, at, le-leb ax x (omega arith), le-leb v (x - ax) (omega arith)) (elim (cases_lt x (ax + dx)) [
-          | inl l ↦ rw (lt-ltb x (ax + dx) l) refl
-          | inr h ↦ rw (le-ltb x (ax + dx) h) (none (x - ax - v) (omega arith))
-        ]))
-  ]
-
-  down_columns : (ltb x (ax + dx - v) && ink (ax + dx - v - 1 - x)) ≡ (span ax (ax + dx) x && (leb v (ax + dx - 1 - x) && ink (ax + dx - 1 - x - v)))
-  down_columns = elim (cases_lt x (ax + dx - v)) [
-    | inl l ↦ (let at : ax + dx - v - 1 - x ≡ ax + dx - 1 - x - v = omega arith in
-        rw (lt-ltb x (ax + dx - v) l, at, lt-ltb x (ax + dx) (omega arith), le-leb v (ax + dx - 1 - x) (omega arith)) (elim (cases_lt x ax) [
-          | inl b ↦ rw (lt-leb ax x b) (none (ax + dx - 1 - x - v) (omega arith))
-          | inr g ↦ rw (le-leb ax x g) refl
-        ]))
-    | inr g ↦ rw (le-ltb x (ax + dx - v) g) (sym (elim (cases_lt x (ax + dx)) [
-      | inl l ↦ rw (lt-leb v (ax + dx - 1 - x) (omega arith)) (and_false (span ax (ax + dx) x))
-      | inr h ↦ rw (le-ltb x (ax + dx) h) (not_held (leb ax x) _)
-    ]))
-  ]
 
 -- a row of the page with dots in those columns
 columns_row : (a : Area) (way : Way) (v n wide x : ℕ) (ink row : ℕ → Bool) (at : ℤ) → v + n ≤ a.dx → n ≤ wide → IsLeft a way v wide at → ((i : ℕ) → n ≤ i → ink i ≡ false)
@@ -124,22 +95,22 @@ pub no_stretch : (from u : ℕ) (b : Bool) → (span from from u && b) ≡ false
 no_stretch from u b = grind (arith, nat_tests)
 
 -- some rows of a stretch are on the page if all are
-pub part_on_page : (a : Area) (way : Way) (u n from rows : ℕ) → u + n ≤ a.dy → topmost a way u n + n ≤ 1664 → u ≤ from → from + rows ≤ u + n → topmost a way from rows + rows ≤ 1664
+pub part_on_page : (a : Area) (way : Way) (u n from rows : ℕ) → u + n ≤ a.dy → topmost a way u n + n ≤ PAGE_ROWS → u ≤ from → from + rows ≤ u + n → topmost a way from rows + rows ≤ PAGE_ROWS
 part_on_page a way u n from rows h e p q = grind arith
 
 short_of : (a : Area) (way : Way) (x y : ℕ) → holds a x y ≡ true → depth_of a way x < a.dx
 short_of a way x y e = grind (arith, and_parts, leb-true, ltb-true)
 
 -- a line is one of those that are laid at once
-at_once : (lines : List (List ℕ)) (i u : ℕ) → length lines ≤ 192 → line_dot lines i u ≡ (ltb i 192 && line_dot lines i u)
+at_once : (lines : List (List ℕ)) (i u : ℕ) → length lines ≤ AT_ONCE → line_dot lines i u ≡ (ltb i AT_ONCE && line_dot lines i u)
 at_once lines i u few = grind (arith, lt-ltb, le-ltb, no_line)
 
 in_mark : (h d b c : Bool) → (h ≡ true → d ≡ true → b ≡ c) → (h && (d && b)) ≡ (h && (d && c))
 in_mark h d b c f = grind arith
 
 -- the lines that have room, as a mark
-module _ (a : Area) (way : Way) (v n : ℕ) (lines : List (List ℕ)) (few : length lines ≤ 192) (room : n ≡ min (length lines) (a.dx - v)) (x y : ℕ) where
-  shown_across : lines_across a way v (take n lines) x y ≡ (holds a x y && (leb v (depth_of a way x) && (ltb (depth_of a way x - v) 192 && line_dot lines (depth_of a way x - v) (along_of a way y))))
+module _ (a : Area) (way : Way) (v n : ℕ) (lines : List (List ℕ)) (few : length lines ≤ AT_ONCE) (room : n ≡ min (length lines) (a.dx - v)) (x y : ℕ) where
+  shown_across : lines_across a way v (take n lines) x y ≡ (holds a x y && (leb v (depth_of a way x) && (ltb (depth_of a way x - v) AT_ONCE && line_dot lines (depth_of a way x - v) (along_of a way y))))
   shown_across =
       let i = depth_of a way x - v in
       let u = along_of a way y in
@@ -148,10 +119,10 @@ module _ (a : Area) (way : Way) (v n : ℕ) (lines : List (List ℕ)) (few : len
       let below = leb-true _ _ d in
       shown_line lines n i u ∙ elim (cases_lt i n) [
         | inl l ↦ rw (lt-ltb i n l) (at_once lines i u few)
-        | inr g ↦ rw (le-ltb i n g) (sym (ap (λ b. ltb i 192 && b) (no_line lines i u (omega (arith, g, room, deep, below))) ∙ and_false (ltb i 192)))
+        | inr g ↦ rw (le-ltb i n g) (sym (ap (λ b. ltb i AT_ONCE && b) (no_line lines i u (omega (arith, g, room, deep, below))) ∙ and_false (ltb i AT_ONCE)))
       ])
 
-pub across_mark : (a : Area) (way : Way) (v n : ℕ) (lines : List (List ℕ)) → length lines ≤ 192 → n ≡ min (length lines) (a.dx - v) → (x y : ℕ)
+pub across_mark : (a : Area) (way : Way) (v n : ℕ) (lines : List (List ℕ)) → length lines ≤ AT_ONCE → n ≡ min (length lines) (a.dx - v) → (x y : ℕ)
     → lines_across a way v (take n lines) x y ≡ mark_dot (lines_mark a (across way) v lines) x y
 across_mark a Up v n lines few room x y = shown_across a Up v n lines few room x y
 across_mark a Down v n lines few room x y = shown_across a Down v n lines few room x y
@@ -188,11 +159,6 @@ pub bytes_across : (lines : List (List ℕ)) (v w at x left first : ℕ) (hx : B
     → (hx && (leb v w && line_dot lines (w - v) at)) ≡ true → span first (first + (length lines / 8 + 2)) (x / 8) ≡ true
 bytes_across lines v w at x left first hx e is black = grind (arith, and_parts, leb-true, true≢false, no_line, le-leb, lt-ltb, ltb-true)
 
--- all dots of the lines that fall on the page
-pub all_across : (a : Area) (way : Way) (v : ℕ) (lines : List (List ℕ)) (from end to x y : ℕ) → (span a.y (a.y + a.dy) y ≡ true → span from end (along_of a way y) ≡ true)
-    → ((i u : ℕ) → to ≤ u → u < end → line_dot lines i u ≡ false) → (span from to (along_of a way y) && lines_across a way v lines x y) ≡ lines_across a way v lines x y
-all_across a way v lines from end to x y page white = grind (arith, and_parts, ltb-true, nat_tests, and_false)
-
 -- two squares of few lines that are white
 pub two_white : (way : Way) (lines : List (List ℕ)) (squares : List ℕ) (from i u : ℕ) → length lines ≤ 32 → u < 128
     → ((x y : ℕ) → x < 64 → y < 64 → word_dot (get_or squares y 0) x ≡ line_dot lines (placed way 32 (y % 32)) (from + 64 * (y / 32) + x))
@@ -206,7 +172,3 @@ two_white way lines squares from i u few near dots white = elim (cases_lt i 32) 
       sym (rw (line, place) at (dots (u % 64) y (omega arith) (omega (arith, here)))) ∙ white (u % 64) y (omega arith) (omega (arith, here))
   | inr g ↦ no_line lines i (from + u) (omega (arith, g))
 ]
-
--- a dot is of a colour, or not
-pub same_colour : (here black : Bool) → not (beq here black) ≡ false → here ≡ black
-same_colour here black e = grind (arith, true≢false)

@@ -3,6 +3,7 @@ use Rattle.std.proofs.Common.{inl, inr, ◌≡◌, ℕ, ◌+◌, ◌-◌, ◌<�
 use Rattle.std.proofs.lemmas.Bool.{cases_lt, le-ltb, lt-ltb}
 use Rattle.std.proofs.lemmas.List.{get_or-take, length-take}
 use Rattle.vp_dots.specs.Dots.{dot, span}
+use Rattle.vp_page.specs.declared.line.TheConstants.{LINE_DOTS}
 use Rattle.vp_page.specs.Areas.{holds}
 use Rattle.vp_page.specs.Lines.{line_dot}
 use Rattle.vp_page.specs.Runs.{across_dot, along_of, depth_of, lines_across, AreDifferent, AreRuns}
@@ -57,20 +58,20 @@ pub different_lines : (lines these : List (List ℕ)) (begins : List ℕ) (v n i
     → get_or begins i 0 ≤ w → w < get_or begins (i + 1) 0 → line_dot (take n these) i u ≡ line_dot lines (w - v) u
 different_lines lines these begins v n i u w d h p q =
     let m : i < n = omega (arith, h, d.few, length-take n these) in
-    rw (get_or-take n these i [] m) (ap (λ b. ltb u 1664 && b) (d.same i u w m p q))
+    rw (get_or-take n these i [] m) (ap (λ b. ltb u LINE_DOTS && b) (d.same i u w m p q))
 
-shown_dot : (lines : List (List ℕ)) (long shown i u : ℕ) → shown ≡ min long 1664 → ((i u : ℕ) → long ≤ u → line_dot lines i u ≡ false) → (ltb u shown && line_dot lines i u) ≡ line_dot lines i u
+shown_dot : (lines : List (List ℕ)) (long shown i u : ℕ) → shown ≡ min long LINE_DOTS → ((i u : ℕ) → long ≤ u → line_dot lines i u ≡ false) → (ltb u shown && line_dot lines i u) ≡ line_dot lines i u
 shown_dot lines long shown i u e white = elim (cases_lt u long) [
-  | inl l ↦ elim (cases_lt u 1664) [
+  | inl l ↦ elim (cases_lt u LINE_DOTS) [
     | inl m ↦ rw (lt-ltb u shown (omega (arith, e, l, m))) refl
-    | inr g ↦ rw (le-ltb u 1664 g) (and_false _)
+    | inr g ↦ rw (le-ltb u LINE_DOTS g) (and_false _)
   ]
   | inr g ↦ rw (white i u g) (and_false _)
 ]
 
 -- all of them between their depths
 pub different_across : (a : Area) (way : Way) (lines these : List (List ℕ)) (begins : List ℕ) (v n long shown x y : ℕ) → AreDifferent lines v these begins n
-    → shown ≡ min long 1664 → ((i u : ℕ) → long ≤ u → line_dot lines i u ≡ false)
+    → shown ≡ min long LINE_DOTS → ((i u : ℕ) → long ≤ u → line_dot lines i u ≡ false)
     → across_dot a way (get_or begins 0 0) (get_or begins (length (take n these)) 0) (λ u w. ltb u shown && line_dot lines (w - v) u) x y ≡ lines_across a way v lines x y
 different_across a way lines these begins v n long shown x y d e white =
     let u = along_of a way y in

@@ -11,6 +11,7 @@ use Rattle.vp_dots.specs.Words.{word_dot}
 use Rattle.vp_dots.proofs.Paints.{painted_none}
 use Rattle.vp_dots.proofs.Rows.{dot_at}
 use Rattle.vp_dots.proofs.Words.{or_false}
+use Rattle.vp_page.specs.declared.page.TheConstants.{PAGE_ROWS}
 use Rattle.vp_page.proofs.WordsOnRows.{word_bytes}
 use Rattle.vp_dots.specs.Painting.{Painted}
 use Rattle.vp_dots.specs.declared.Op.TheVariants.{Black}
@@ -28,7 +29,7 @@ pub no_column : (ay dy k : ℕ) (e b : Bool) → (ay ≤ k → k < ay + dy → �
 no_column ay dy k e b h = grind (arith, lt-leb, and_false, le-leb, le-ltb)
 
 -- a column without a dot
-pub nothing : (f : ℕ → ℕ → Bool) (rows : List (List ℕ)) → ((d k : ℕ) → f d k ≡ false) → RowsPainted 1664 Black f rows rows
+pub nothing : (f : ℕ → ℕ → Bool) (rows : List (List ℕ)) → ((d k : ℕ) → f d k ≡ false) → RowsPainted PAGE_ROWS Black f rows rows
 nothing f rows none = record { rows_are = λ k h. painted_none Black _ (get_or rows k []) (λ d l. none d k) }
 
 gone : (a b c : Bool) → (a && (b && (c && false))) ≡ false

@@ -2,6 +2,8 @@
 use Rattle.std.proofs.Common.{inl, inr, ◌≡◌, ℕ, ◌+◌, ◌-◌, ◌<◌, ◌≤◌, Bool, true, false, min, ltb, leb, ◌&&◌, sym, ap, ◌∙◌, arith, List, [], length, get_or, take}
 use Rattle.std.proofs.lemmas.Bool.{cases_lt, lt-ltb, le-ltb, leb-true, false_from_ne_true}
 use Rattle.vp_dots.specs.Dots.{dot}
+use Rattle.vp_page.specs.declared.across.TheConstants.{AT_ONCE}
+use Rattle.vp_page.specs.declared.line.TheConstants.{LINE_BYTES, LINE_DOTS}
 use Rattle.vp_page.specs.declared.area.Area.{Area}
 use Rattle.vp_page.specs.declared.area.Direction.TheVariants.{LeftToRight, RightToLeft}
 use Rattle.vp_page.specs.Areas.{holds}
@@ -12,7 +14,7 @@ use Rattle.vp_page.proofs.Squares.{and_false, no_line}
 use Rattle.vp_page.specs.Lines.{line_dot}
 use Rattle.std.proofs.lemmas.List.{get_or-take, length-take}
 
-pub past_line : (line : List ℕ) (u : ℕ) → length line ≤ 208 → dot line u ≡ (ltb u 1664 && dot line u)
+pub past_line : (line : List ℕ) (u : ℕ) → length line ≤ LINE_BYTES → dot line u ≡ (ltb u LINE_DOTS && dot line u)
 past_line line u short = grind (arith, lt-ltb, le-ltb, dot_past)
 
 -- the first lines
@@ -30,14 +32,14 @@ module _ (lines : List (List ℕ)) (ink : ℕ → ℕ → Bool) (from width i u 
 
   pub ink_white : width ≤ u → line_dot lines i u ≡ false
   ink_white h = elim (cases_lt i (length lines)) [
-    | inl l ↦ ap (λ b. ltb u 1664 && b) (dots i u l ∙ none_past h (from + i)) ∙ and_false (ltb u 1664)
+    | inl l ↦ ap (λ b. ltb u LINE_DOTS && b) (dots i u l ∙ none_past h (from + i)) ∙ and_false (ltb u LINE_DOTS)
     | inr g ↦ no_line lines i u g
   ]
 
-  pub ink_line : width ≤ 1664 → i < length lines → line_dot lines i u ≡ ink u (from + i)
-  ink_line h l = elim (cases_lt u 1664) [
-    | inl m ↦ rw (lt-ltb u 1664 m) (dots i u l)
-    | inr g ↦ rw (le-ltb u 1664 g) (sym (none_past (omega arith) (from + i)))
+  pub ink_line : width ≤ LINE_DOTS → i < length lines → line_dot lines i u ≡ ink u (from + i)
+  ink_line h l = elim (cases_lt u LINE_DOTS) [
+    | inl m ↦ rw (lt-ltb u LINE_DOTS m) (dots i u l)
+    | inr g ↦ rw (le-ltb u LINE_DOTS g) (sym (none_past (omega arith) (from + i)))
   ]
 
 -- ink past its width
@@ -45,12 +47,12 @@ pub no_ink : (ink : ℕ → ℕ → Bool) (width u v : ℕ) → ((x y : ℕ) →
 no_ink ink width u v outside h = false_from_ne_true (ink u v) (λ t. absurd (let l = outside u v t in omega arith))
 
 -- a line that shows a line of ink
-pub ink_run : (lines : List (List ℕ)) (f : ℕ → Bool) (width i u : ℕ) → width ≤ 1664 → dot (get_or lines i []) u ≡ f u → (width ≤ u → f u ≡ false) → line_dot lines i u ≡ f u
+pub ink_run : (lines : List (List ℕ)) (f : ℕ → Bool) (width i u : ℕ) → width ≤ LINE_DOTS → dot (get_or lines i []) u ≡ f u → (width ≤ u → f u ≡ false) → line_dot lines i u ≡ f u
 ink_run lines f width i u h e white = grind (arith, lt-ltb, le-ltb)
 
 -- a line alone, as one of those of a mark
-line_marked : (lines : List (List ℕ)) (i u : ℕ) → length lines ≤ 192 → (i < length lines → length (get_or lines i []) ≤ 208)
-    → (ltb i (length lines) && dot (get_or lines i []) u) ≡ (ltb i 192 && (ltb u 1664 && dot (get_or lines i []) u))
+line_marked : (lines : List (List ℕ)) (i u : ℕ) → length lines ≤ AT_ONCE → (i < length lines → length (get_or lines i []) ≤ LINE_BYTES)
+    → (ltb i (length lines) && dot (get_or lines i []) u) ≡ (ltb i AT_ONCE && (ltb u LINE_DOTS && dot (get_or lines i []) u))
 line_marked lines i u few short = grind (arith, lt-ltb, past_line, le-ltb, no_line, and_false)
 
 -- one of those that have room
@@ -58,7 +60,7 @@ shown_dot : (lines : List (List ℕ)) (shown n i w u : ℕ) (p q r : Bool) → (
     → (p && (ltb n shown && (q && (r && dot (get_or (take shown lines) i []) u)))) ≡ (p && (ltb n shown && (q && (r && dot (get_or lines w []) u))))
 shown_dot lines shown n i w u p q r at = grind (arith, lt-ltb, get_or-take, le-ltb)
 
-module _ (a : Area) (v : ℕ) (lines : List (List ℕ)) (shown x y : ℕ) (few : length lines ≤ 192) (short : (i : ℕ) → i < length lines → length (get_or lines i []) ≤ 208) (deep : v < a.dy) (is : shown ≡ min (length lines) (a.dy - v)) where
+module _ (a : Area) (v : ℕ) (lines : List (List ℕ)) (shown x y : ℕ) (few : length lines ≤ AT_ONCE) (short : (i : ℕ) → i < length lines → length (get_or lines i []) ≤ LINE_BYTES) (deep : v < a.dy) (is : shown ≡ min (length lines) (a.dy - v)) where
   -- lines that run to the right
   pub right_mark : (leb (a.y + v) y && (ltb (y - (a.y + v)) (length (take shown lines)) && (leb a.x x && (ltb (x - a.x) a.dx && dot (get_or (take shown lines) (y - (a.y + v)) []) (x - a.x))))) ≡ mark_dot (lines_mark a LeftToRight v lines) x y
   right_mark =

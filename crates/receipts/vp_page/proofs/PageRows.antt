@@ -9,6 +9,7 @@ use Rattle.vp_dots.specs.Words.{word_dot}
 use Rattle.vp_dots.specs.Painting.{Painted}
 use Rattle.vp_dots.specs.declared.Op.TheVariants.{Black}
 use Rattle.vp_dots.proofs.Words.{word_shr}
+use Rattle.vp_page.specs.declared.page.TheConstants.{PAGE_ROWS, PAPER_DOTS}
 use Rattle.vp_page.proofs.Blank.{dot_white}
 use Rattle.vp_page.proofs.Rows.{dot_past}
 use Rattle.vp_page.proofs.WordsOnRows.{first_eight, word_bytes}
@@ -33,7 +34,7 @@ pub none_before : (first d : ℕ) (b : Bool) → (ltb d (64 * (first + 0)) && (l
 none_before first d b = grind (arith, lt-leb, and_false, le-ltb)
 
 -- what stands on a row that was white
-pub row_made : (ink : ℕ → Bool) (x : ℕ) (row : List ℕ) → Painted Black ink (replicate 72 0) row → x < 576 → dot row x ≡ ink x
+pub row_made : (ink : ℕ → Bool) (x : ℕ) (row : List ℕ) → Painted Black ink (replicate 72 0) row → x < PAPER_DOTS → dot row x ≡ ink x
 row_made ink x row p l = p.dots_are x (omega (arith, length-replicate {A = ℕ} 72 0)) ∙ on_white (ink x) _ (dot_white 72 x (omega arith))
 
 -- a word moved to the right
@@ -83,7 +84,7 @@ pub moved_left_word : (begin end i x : ℕ) (line : List ℕ) (word : ℕ) → b
 moved_left_word begin end i x line word h e = grind (arith, le-leb, lt-ltb, le-ltb)
 
 -- a row clipped where so many dots end, and where they begin
-pub clipped_right : (begin long words k x : ℕ) (b : Bool) → words ≤ 9 → words ≤ k → (words < 9 → begin + long ≤ 64 * words) → (words < 9 → k ≡ words) → x < 576
+pub clipped_right : (begin long words k x : ℕ) (b : Bool) → words ≤ 9 → words ≤ k → (words < 9 → begin + long ≤ 64 * words) → (words < 9 → k ≡ words) → x < PAPER_DOTS
     → cond (span (begin + long) (64 * words) x) false (ltb x (64 * k) && (leb (64 * (begin / 64)) x && (leb begin x && b))) ≡ (leb begin x && (ltb (x - begin) long && b))
 clipped_right begin long words k x b few more all same h = grind (arith, lt-leb, le-leb, lt-ltb, le-ltb)
 
@@ -92,12 +93,12 @@ pub whole_left : (line : List ℕ) (begin long x : ℕ) → begin % 8 ≡ 0 → 
     ≡ (ltb x (begin + long) && (ltb (begin + long - 1 - x) long && dot line (begin + long - 1 - x)))
 whole_left line begin long x b w there = grind (arith, length-take, lt-leb, le-ltb, and_false, le-leb, lt-ltb, front)
 
-pub clipped_left : (begin long words k x : ℕ) (b : Bool) → words ≤ k → (words < 9 → begin + long ≤ 64 * words) → x < 576
+pub clipped_left : (begin long words k x : ℕ) (b : Bool) → words ≤ k → (words < 9 → begin + long ≤ 64 * words) → x < PAPER_DOTS
     → cond (span (64 * (begin / 64)) begin x) false (ltb x (64 * k) && (leb (64 * (begin / 64)) x && (ltb x (begin + long) && b))) ≡ (ltb x (begin + long) && (ltb (begin + long - 1 - x) long && b))
 clipped_left begin long words k x b more all h = grind (arith, le-ltb, and_false, lt-ltb, lt-leb, le-leb)
 
 -- as many rows as there are below a place of the page
-pub as_many : (top i times k : ℕ) (b : Bool) → k < 1664 → i ≡ min times (1664 - top) → (ltb k (top + i) && (leb top k && b)) ≡ (leb top k && (ltb (k - top) times && b))
+pub as_many : (top i times k : ℕ) (b : Bool) → k < PAGE_ROWS → i ≡ min times (PAGE_ROWS - top) → (ltb k (top + i) && (leb top k && b)) ≡ (leb top k && (ltb (k - top) times && b))
 as_many top i times k b h e = grind (arith, nat_tests)
 
 pub below_top : (top k : ℕ) (a b : Bool) → top ≤ k → a ≡ b → a ≡ (leb top k && b)

@@ -2,6 +2,7 @@
 use Rattle.std.proofs.Common.{inl, inr, ◌≡◌, ℕ, ◌+◌, ◌-◌, ◌<◌, ◌≤◌, Bool, true, false, not, min, max, cond, ltb, leb, eqb, ◌&&◌, ◌||◌, refl, sym, ap, ◌∙◌, arith, List, [], ◌∷◌, length, get_or}
 use Rattle.std.proofs.lemmas.Bool.{cases_Bool, cases_lt, and_parts, false_from_ne_true, true≢false, le-leb, lt-ltb, leb-true, ltb-true}
 use Rattle.std.proofs.lemmas.Bool.Decides.{nat_tests}
+use Rattle.vp_page.specs.declared.across.TheConstants.{AT_ONCE}
 use Rattle.vp_page.specs.declared.page.TheConstants.{PAGE_ROWS, PAPER_DOTS}
 use Rattle.vp_dots.specs.Dots.{dot, span}
 use Rattle.vp_dots.specs.Places.{RowsPainted}
@@ -93,13 +94,13 @@ enough h w top n long b i e = grind (arith, nat_tests)
 pub rows_make_an_image : RowsMakeAnImage
 rows_make_an_image = grind (arith, nat_tests, nothing_laid, no_row, same_page, one_more, lies, within, enough)
 
-more_rows : (h q b p : Bool) (w top k n : ℕ) → n ≤ 192 → (h ≡ true → top + k ≤ w → w - (top + k) < n → q ≡ b) → (n ≤ w - (top + k) → q ≡ false)
-    → (h && (leb (top + k) w && (ltb (w - (top + k)) 192 && q)) || (h && (leb top w && (ltb (w - top) k && b)) || p))
+more_rows : (h q b p : Bool) (w top k n : ℕ) → n ≤ AT_ONCE → (h ≡ true → top + k ≤ w → w - (top + k) < n → q ≡ b) → (n ≤ w - (top + k) → q ≡ false)
+    → (h && (leb (top + k) w && (ltb (w - (top + k)) AT_ONCE && q)) || (h && (leb top w && (ltb (w - top) k && b)) || p))
     ≡ (h && (leb top w && (ltb (w - top) (k + n) && b)) || p)
 more_rows h q b p w top k n few same none = grind (arith, nat_tests)
 
 -- lines that are laid at once below the first k rows of a mark
-pub lines_more : (m : Mark) (k n : ℕ) (lines : List (List ℕ)) (layers : List Layer) (page : Paged) → n ≤ 192 → length lines ≡ n
+pub lines_more : (m : Mark) (k n : ℕ) (lines : List (List ℕ)) (layers : List Layer) (page : Paged) → n ≤ AT_ONCE → length lines ≡ n
     → ((u w : ℕ) → u < line_length m.area m.direction → w < n → line_dot lines w u ≡ m.dot u (k + w))
     → HasPage (Laid (lines_mark m.area m.direction (m.top + k) lines) ∷ Laid (first_rows k m) ∷ layers) page
     → HasPage (Laid (first_rows (k + n) m) ∷ layers) page

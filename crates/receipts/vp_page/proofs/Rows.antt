@@ -13,6 +13,7 @@ use Rattle.vp_dots.specs.declared.Op.{Op}
 use Rattle.vp_dots.specs.declared.Op.TheVariants.{Black}
 use Rattle.vp_dots.proofs.Bits.{bit_of_or}
 use Rattle.vp_dots.proofs.Paints.{painted_same, painted_byte_at}
+use Rattle.vp_page.specs.declared.page.TheConstants.{PAGE_ROWS}
 
 -- past the row there is no dot
 pub dot_past : (row : List ℕ) (d : ℕ) → length row ≤ d / 8 → dot row d ≡ false
@@ -28,11 +29,11 @@ met (pos a) d = elim (cases_lt d a) [
 met (negsuc a) d = inl (d + (a + 1), (omega (arith, ints)), (λ f. refl))
 
 -- the same ink in other words
-pub rows_same : (op : Op) (f g : ℕ → ℕ → Bool) (a b : List (List ℕ)) → ((x k : ℕ) → k < 1664 → f x k ≡ g x k) → RowsPainted 1664 op f a b → RowsPainted 1664 op g a b
+pub rows_same : (op : Op) (f g : ℕ → ℕ → Bool) (a b : List (List ℕ)) → ((x k : ℕ) → k < PAGE_ROWS → f x k ≡ g x k) → RowsPainted PAGE_ROWS op f a b → RowsPainted PAGE_ROWS op g a b
 rows_same op f g a b e p = grind arith
 
 -- ink on ink
-pub rows_then : (f g h : ℕ → ℕ → Bool) (a b c : List (List ℕ)) → ((x k : ℕ) → h x k ≡ (f x k || g x k)) → RowsPainted 1664 Black f a b → RowsPainted 1664 Black g b c → RowsPainted 1664 Black h a c
+pub rows_then : (f g h : ℕ → ℕ → Bool) (a b c : List (List ℕ)) → ((x k : ℕ) → h x k ≡ (f x k || g x k)) → RowsPainted PAGE_ROWS Black f a b → RowsPainted PAGE_ROWS Black g b c → RowsPainted PAGE_ROWS Black h a c
 rows_then f g h a b c e p q = grind arith
 
 take-row_from : (n m : ℕ) (f : ℕ → Bool) (at : ℕ) → n ≤ m → take n (row_from m f at) ≡ row_from n f at

@@ -7,6 +7,7 @@ use Rattle.vp_dots.specs.Dots.{dot, span}
 use Rattle.vp_dots.specs.Words.{word_dot}
 use Rattle.vp_dots.specs.Painting.{Painted}
 use Rattle.vp_dots.specs.declared.Op.TheVariants.{Black}
+use Rattle.vp_page.specs.declared.page.TheConstants.{PAPER_DOTS}
 use Rattle.vp_page.specs.Areas.{depth, holds}
 use Rattle.vp_page.specs.Layers.{mark_dot}
 use Rattle.vp_page.specs.Runs.{across, across_dot, along_of, between, depth_of, topmost}
@@ -42,7 +43,7 @@ module _ (b0 bi bn w : ℕ) (t : Bool) (from : b0 ≤ bi) (to : bi ≤ bn) where
     ]
   ]
 
-pub row_of_black : (ink : ℕ → Bool) (x : ℕ) (row : List ℕ) → Painted Black ink (replicate 72 0) row → x < 576 → dot row x ≡ ink x
+pub row_of_black : (ink : ℕ → Bool) (x : ℕ) (row : List ℕ) → Painted Black ink (replicate 72 0) row → x < PAPER_DOTS → dot row x ≡ ink x
 row_of_black ink x row p l = p.dots_are x (omega (arith, length-replicate {A = ℕ} 72 0)) ∙ on_white (ink x) _ (dot_white 72 x (omega arith))
 
 -- the line of a depth

@@ -3,6 +3,7 @@ use Rattle.std.proofs.Common.{inl, inr, min, ◌≡◌, ℕ, ◌+◌, ◌-◌, �
 use Rattle.std.proofs.lemmas.List.{get_or-drop, get_or-take, length-take}
 use Rattle.std.proofs.lemmas.Bool.{cases_lt, lt-ltb, le-ltb, lt-leb, le-leb, true≢false}
 use Rattle.vp_dots.specs.Dots.{dot}
+use Rattle.vp_page.specs.declared.page.TheConstants.{PAPER_DOTS}
 use Rattle.vp_page.specs.Lines.{line_dot}
 use Rattle.vp_page.proofs.Rows.{dot_past}
 use Rattle.vp_page.proofs.Squares.{and_false, no_line}
@@ -10,7 +11,7 @@ use Rattle.vp_page.proofs.Squares.{and_false, no_line}
 or_false : (b : Bool) → b ≡ (b || false)
 or_false b = grind arith
 
-pub narrow : (row : List ℕ) (x : ℕ) → length row ≡ 72 → dot row x ≡ true → x < 576
+pub narrow : (row : List ℕ) (x : ℕ) → length row ≡ 72 → dot row x ≡ true → x < PAPER_DOTS
 narrow row x n e = grind (arith, true≢false, dot_past)
 
 -- some of the lines
@@ -44,10 +45,6 @@ more_in p q a b c e = grind arith
 -- all groups
 pub groups_right : (lines : List (List ℕ)) (left x n u : ℕ) → length lines ≤ n → (leb left x && (ltb (x - left) n && line_dot lines (x - left) u)) ≡ (leb left x && line_dot lines (x - left) u)
 groups_right lines left x n u h = grind (arith, lt-ltb, le-ltb, no_line)
-
--- a line that is alike along some dots
-pub same_column : (lines : List (List ℕ)) (i u at : ℕ) → (i < length lines → line_dot lines i u ≡ line_dot lines i at) → line_dot lines i at ≡ line_dot lines i u
-same_column lines i u at same = grind (arith, no_line)
 
 -- no group yet
 pub no_group : (p q d n b : Bool) → n ≡ false → (p && (q && (d && (n && b)))) ≡ false

@@ -15,6 +15,7 @@ use Rattle.vp_dots.proofs.Blocks.{painted_block}
 use Rattle.vp_dots.proofs.Cuts.{all_bits}
 use Rattle.vp_dots.proofs.Rows.{dot_at}
 use Rattle.vp_dots.proofs.Words.{word_shr}
+use Rattle.vp_page.specs.declared.line.TheConstants.{LINE_DOTS}
 use Rattle.vp_page.proofs.Alike.{both_dot}
 use Rattle.vp_page.proofs.Squares.{no_line}
 use Rattle.vp_page.specs.Lines.{changes_at, line_dot}
@@ -70,7 +71,7 @@ pub black_then : (f g h : ℕ → Bool) (a b c : List ℕ) → Painted Black f a
 black_then f g h a b c p q u = grind arith
 
 -- a line that doesn't change
-pub same_eight : (lines : List (List ℕ)) (i u : ℕ) → 8 ≤ u → u < 1664 → changes_at (get_or lines i []) u ≡ false → line_dot lines i u ≡ line_dot lines i (u - 8)
+pub same_eight : (lines : List (List ℕ)) (i u : ℕ) → 8 ≤ u → u < LINE_DOTS → changes_at (get_or lines i []) u ≡ false → line_dot lines i u ≡ line_dot lines i (u - 8)
 same_eight lines i u g l e = grind (arith, lt-ltb, le-leb, true≢false)
 
 -- along dots that are as those eight before, behind eight that are alike
@@ -84,7 +85,7 @@ still_along (suc m) lines i at n u first same g l h = elim (cases_lt u (at + 8))
 
 -- a word that has all dots of a mask
 pub all_black : (line : List ℕ) (w m dots from k : ℕ) → bit_and w m ≡ m → ((x : ℕ) → word_dot m x ≡ ltb x dots)
-    → ((x : ℕ) → x < 64 → word_dot w x ≡ (ltb (from + x) 1664 && dot line (from + x))) → k < 64 → k < dots → from + k < 1664 → dot line (from + k) ≡ true
+    → ((x : ℕ) → x < 64 → word_dot w x ≡ (ltb (from + x) LINE_DOTS && dot line (from + x))) → k < 64 → k < dots → from + k < LINE_DOTS → dot line (from + k) ≡ true
 all_black line w m dots from k e p q h l r = grind (arith, lt-ltb, both_dot, and_parts)
 
 -- eight more bytes that are black

@@ -9,6 +9,7 @@ use Rattle.vp_dots.specs.Places.{RowsPainted}
 use Rattle.vp_dots.specs.declared.Op.TheVariants.{Black}
 use Rattle.vp_dots.proofs.Paints.{painted_same}
 use Rattle.vp_dots.proofs.Placing.{rows_more}
+use Rattle.vp_page.specs.declared.page.TheConstants.{PAGE_ROWS}
 use Rattle.vp_page.specs.Layers.{mark_dot, rows_mark}
 use Rattle.vp_page.specs.Lines.{row_in, AreWhole}
 use Rattle.vp_page.specs.declared.area.Area.{Area}
@@ -27,15 +28,15 @@ module _ (bytes line : List ℕ) (wide rows q top i : ℕ) (a b : List (List ℕ
   back x k = leb top k && (leb (8 * q) x && (ltb (x - 8 * q) (8 * wide) && dot (row_in bytes wide (rows - 1 - (k - top))) (8 * wide - 1 - (x - 8 * q))))
 
   -- one more row that is turned end for end
-  pub back_more : top + i < 1664 → top + i < length b → length line ≡ wide → line ≡ row_in bytes wide (rows - 1 - i)
-      → RowsPainted 1664 Black (λ x k. ltb k (top + i) && back x k) a b
+  pub back_more : top + i < PAGE_ROWS → top + i < length b → length line ≡ wide → line ≡ row_in bytes wide (rows - 1 - i)
+      → RowsPainted PAGE_ROWS Black (λ x k. ltb k (top + i) && back x k) a b
       → Painted Black (λ d. leb (8 * q) d && (ltb (d - 8 * q) (dots line) && dot line (dots line - 1 - (d - 8 * q)))) (get_or b (top + i) []) row
-      → RowsPainted 1664 Black (λ x k. ltb k (top + (i + 1)) && back x k) a (set b (top + i) row)
+      → RowsPainted PAGE_ROWS Black (λ x k. ltb k (top + (i + 1)) && back x k) a (set b (top + i) row)
   back_more h l long is p t =
       let u : top + i - top ≡ i = omega arith in
       let n : top + i + 1 ≡ top + (i + 1) = omega arith in
       rows_same Black _ _ _ _ (λ x k _. ap (λ m. ltb k m && back x k) n)
-      (rows_more 1664 Black back (top + i) a b row l h p
+      (rows_more PAGE_ROWS Black back (top + i) a b row l h p
       (painted_same Black _ _ _ _ (λ d _. rw (le-leb top (top + i) (omega arith), u, sym is, sym long) refl) t))
 
 module _ (ax ay dx dy v wide rows shown x y : ℕ) where

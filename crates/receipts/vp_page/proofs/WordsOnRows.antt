@@ -16,6 +16,7 @@ use Rattle.vp_dots.proofs.Words.{or_false, and_false, and_true, bit_shl, word_sh
 use Rattle.vp_dots.proofs.Spans.{bit_of_all, bit_of_and}
 use Rattle.vp_dots.proofs.Cuts.{bit_low64}
 use Rattle.vp_dots.proofs.Rows.{dot_at}
+use Rattle.vp_page.specs.declared.page.TheConstants.{PAPER_DOTS}
 use Rattle.vp_page.proofs.Rows.{dot_past}
 
 spanned : (i d : ℕ) (b : Bool) → (span i (i + 8) (d / 8) && (leb (8 * i) d && (ltb (d - 8 * i) 64 && b))) ≡ (leb (8 * i) d && (ltb (d - 8 * i) 64 && b))
@@ -200,7 +201,7 @@ pub no_sixteen : (i d : ℕ) (b : Bool) → (span i (i + 16 * 0) (d / 8) && b) �
 no_sixteen i d b = grind (arith, nat_tests)
 
 -- a dot that is black among those bytes alone
-pub among : (first bytes at n x top y : ℕ) (b c : Bool) → bytes ≤ 16 * n → at ≡ min first (72 - 16 * n) → n ≡ 2 → x < 576 → (b ≡ true → span first (first + bytes) (x / 8) ≡ true) → b ≡ c → top ≤ y
+pub among : (first bytes at n x top y : ℕ) (b c : Bool) → bytes ≤ 16 * n → at ≡ min first (72 - 16 * n) → n ≡ 2 → x < PAPER_DOTS → (b ≡ true → span first (first + bytes) (x / 8) ≡ true) → b ≡ c → top ≤ y
     → (span at (at + 16 * n) (x / 8) && b) ≡ (leb top y && c)
 among first bytes at n x top y b c e a few h s t l = grind (arith, nat_tests)
 

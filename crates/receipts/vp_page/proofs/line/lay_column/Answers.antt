@@ -11,7 +11,7 @@ pub loop-k-init : goal.loop-k-init
 loop-k-init g c =
     let a = c.args.area in
     let ink : ℕ → ℕ → Bool = λ d k. eqb d c.args.x && (span a.y (a.y + a.dy) k && dot c.args.line.now (along_of a c.args.way k)) in
-    rows_init 1664 Black ink _ c.args.band.now (λ d k h. no_column a.y a.dy k _ _ (λ p q. omega (arith, h)))
+    rows_init _ _ ink _ c.args.band.now (λ d k h. no_column a.y a.dy k _ _ (λ p q. omega (arith, h)))
 
 pub loop-k-preserved : goal.loop-k-preserved
 loop-k-preserved g c =
@@ -22,4 +22,4 @@ pub returns : goal.returns
 returns g c =
     let a = c.args.area in
     let ink : ℕ → ℕ → Bool = λ d k. eqb d c.args.x && (span a.y (a.y + a.dy) k && dot c.args.line.now (along_of a c.args.way k)) in
-    rows_all 1664 Black ink _ c.args.band.now c.loop-k.band (λ d k h l. no_column a.y a.dy k _ _ (λ p q. omega (arith, h, c.min-rows.ensures, l))) c.loop-k.invariant
+    rows_all _ _ ink _ c.args.band.now c.loop-k.band (λ d k h l. no_column a.y a.dy k _ _ (λ p q. omega (arith, h, c.min-rows.ensures, l))) c.loop-k.invariant
