@@ -35,18 +35,9 @@ pub none_black : (line : List ℕ) (w m dots from k : ℕ) → bit_and w m ≡ 0
     → ((x : ℕ) → x < 64 → word_dot w x ≡ (ltb (from + x) LINE_DOTS && dot line (from + x))) → k < 64 → k < dots → from + k < LINE_DOTS → dot line (from + k) ≡ false
 none_black line w m dots from k e p q h l r = grind (arith, lt-ltb, and_true, both_dot, white_dot)
 
--- a dot that is kept
-pub kept_dot : (a k : Bool) → (a && k) ≡ cond (not k) false a
-kept_dot a k = grind arith
-
 module _ (kept row : List ℕ) (i n : ℕ) (there : i + n ≤ length kept) (room : i + n ≤ length row) where
   kept_lane : (j k : ℕ) → j < n → k < 8 → bit (get_or (zip2 bit_and (chunk i n row) (chunk i n kept)) j 0) k ≡ cond (not (dot kept (8 * (i + j) + (7 - k)))) false (bit (get_or row (i + j) 0) k)
-  kept_lane j k m h =
-      ap (λ x. bit x k) (get_or-zip2 bit_and (chunk i n row) (chunk i n kept) j 0 0 0 (omega (arith, length-chunk i n row room)) (omega (arith, length-chunk i n kept there))
-      ∙ ap (λ x. bit_and x (get_or (chunk i n kept) j 0)) (get_or-chunk i n row j 0 m) ∙ ap (bit_and (get_or row (i + j) 0)) (get_or-chunk i n kept j 0 m))
-      ∙ bit_of_and (get_or row (i + j) 0) (get_or kept (i + j) 0) k
-      ∙ ap (λ b. bit (get_or row (i + j) 0) k && b) (sym (dot_at kept (i + j) k h))
-      ∙ kept_dot (bit (get_or row (i + j) 0) k) (dot kept (8 * (i + j) + (7 - k)))
+  kept_lane j k m h = grind (arith, get_or-zip2, get_or-chunk, length-chunk, bit_of_and, dot_at)
 
   -- some bytes of a row, of which the kept dots stay
   pub kept_bytes : Painted White (λ d. span i (i + n) (d / 8) && not (dot kept d)) row (put_chunk i row (zip2 bit_and (chunk i n row) (chunk i n kept)))

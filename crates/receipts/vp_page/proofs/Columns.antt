@@ -35,12 +35,7 @@ pub line_placed : (way : Way) (n : ℕ) (square : List ℕ) (lines : List (List 
     → ((x : ℕ) → x < 64 → word_dot word x ≡ line_dot lines k (from + x))
     → ((x y : ℕ) → x < 64 → y < n → word_dot (get_or square y 0) x ≡ (ltb (placed way n y) k && line_dot lines (placed way n y) (from + x)))
     → (x y : ℕ) → x < 64 → y < n → word_dot (get_or (set square p word) y 0) x ≡ (ltb (placed way n y) (k + 1) && line_dot lines (placed way n y) (from + x))
-line_placed way n square lines from p k word whole is small this before x y h l = elim (cases_eq y p) [
-  | inl e ↦ (let line : placed way n y ≡ k = placed_back way n y k small (e ∙ is) in
-      let here : placed way n k < n = placed_in way n k small in
-      rw (line, e, get_or-set_same square p word 0 (omega (arith, whole, is, here)), lt-ltb k (k + 1) (omega arith)) (this x h))
-  | inr m ↦ rw (get_or-set_other square p y word 0 m) (before x y h l ∙ other_rows (placed way n y) k _ (λ e. m (placed_there way n y k l e ∙ sym is)))
-]
+line_placed way n square lines from p k word whole is small this before x y h l = grind (arith, get_or-set_same, get_or-set_other, this x h, before x y h l)
 
 -- a dot is on the row that shows it
 pub ordered_back : (way : Way) (n k : ℕ) → k < n → ordered way n (ordered way n k) ≡ k
@@ -79,12 +74,7 @@ stretch_laid a way v lines from rows top wide row at deep few long e left shows 
 pub alike_laid : (a : Area) (way : Way) (v : ℕ) (lines : List (List ℕ)) (from rows top last x y : ℕ) → from + rows ≤ a.dy → top ≡ topmost a way from rows
     → ((i u : ℕ) → from ≤ u → u < from + rows → line_dot lines i last ≡ line_dot lines i u)
     → (leb top y && (ltb (y - top) rows && (span a.x (a.x + a.dx) x && (leb v (depth_of a way x) && line_dot lines (depth_of a way x - v) last)))) ≡ stretch_dot a way v lines from rows x y
-alike_laid a way v lines from rows top last x y long e same =
-    let u = along_of a way y in
-    in_stretch (leb top y) (ltb (y - top) rows) (span a.x (a.x + a.dx) x) (leb a.y y && ltb y (a.y + a.dy)) (span from (from + rows) u) _ (leb v (depth_of a way x) && line_dot lines (depth_of a way x - v) u)
-    (run_in a way from rows y top long e)
-    (λ p q. let r = row_along a way from rows top y long e (leb-true _ _ p) (ltb-true _ _ q) in
-    ap (λ b. span a.x (a.x + a.dx) x && (leb v (depth_of a way x) && b)) (same (depth_of a way x - v) u (omega (arith, r.2)) (omega (arith, r.1, r.2))))
+alike_laid a way v lines from rows top last x y long e same = grind (arith, nat_tests)
 
 -- along which they are white
 pub white_stretch : (a : Area) (way : Way) (v : ℕ) (lines : List (List ℕ)) (from rows x y : ℕ) → ((i u : ℕ) → from ≤ u → u < from + rows → line_dot lines i u ≡ false) → stretch_dot a way v lines from rows x y ≡ false
@@ -98,61 +88,21 @@ no_stretch from u b = grind (arith, nat_tests)
 pub part_on_page : (a : Area) (way : Way) (u n from rows : ℕ) → u + n ≤ a.dy → topmost a way u n + n ≤ PAGE_ROWS → u ≤ from → from + rows ≤ u + n → topmost a way from rows + rows ≤ PAGE_ROWS
 part_on_page a way u n from rows h e p q = grind arith
 
-short_of : (a : Area) (way : Way) (x y : ℕ) → holds a x y ≡ true → depth_of a way x < a.dx
-short_of a way x y e = grind (arith, and_parts, leb-true, ltb-true)
-
--- a line is one of those that are laid at once
-at_once : (lines : List (List ℕ)) (i u : ℕ) → length lines ≤ AT_ONCE → line_dot lines i u ≡ (ltb i AT_ONCE && line_dot lines i u)
-at_once lines i u few = grind (arith, lt-ltb, le-ltb, no_line)
-
-in_mark : (h d b c : Bool) → (h ≡ true → d ≡ true → b ≡ c) → (h && (d && b)) ≡ (h && (d && c))
-in_mark h d b c f = grind arith
-
--- the lines that have room, as a mark
-module _ (a : Area) (way : Way) (v n : ℕ) (lines : List (List ℕ)) (few : length lines ≤ AT_ONCE) (room : n ≡ min (length lines) (a.dx - v)) (x y : ℕ) where
-  shown_across : lines_across a way v (take n lines) x y ≡ (holds a x y && (leb v (depth_of a way x) && (ltb (depth_of a way x - v) AT_ONCE && line_dot lines (depth_of a way x - v) (along_of a way y))))
-  shown_across =
-      let i = depth_of a way x - v in
-      let u = along_of a way y in
-      in_mark (holds a x y) (leb v (depth_of a way x)) _ _ (λ h d.
-      let deep = short_of a way x y h in
-      let below = leb-true _ _ d in
-      shown_line lines n i u ∙ elim (cases_lt i n) [
-        | inl l ↦ rw (lt-ltb i n l) (at_once lines i u few)
-        | inr g ↦ rw (le-ltb i n g) (sym (ap (λ b. ltb i AT_ONCE && b) (no_line lines i u (omega (arith, g, room, deep, below))) ∙ and_false (ltb i AT_ONCE)))
-      ])
-
 pub across_mark : (a : Area) (way : Way) (v n : ℕ) (lines : List (List ℕ)) → length lines ≤ AT_ONCE → n ≡ min (length lines) (a.dx - v) → (x y : ℕ)
     → lines_across a way v (take n lines) x y ≡ mark_dot (lines_mark a (across way) v lines) x y
-across_mark a Up v n lines few room x y = shown_across a Up v n lines few room x y
-across_mark a Down v n lines few room x y = shown_across a Down v n lines few room x y
+across_mark a way v n lines few room x y = grind (arith, nat_tests, shown_line, no_line)
 
 -- a line that is there is on the columns of all
 module _ (lines : List (List ℕ)) (v w at : ℕ) where
   pub black_lines : ((i : ℕ) → i < length lines → line_dot lines i at ≡ true) → span v (v + length lines) w ≡ (leb v w && line_dot lines (w - v) at)
-  black_lines black = elim (cases_lt w v) [
-    | inl l ↦ rw (lt-leb v w l) refl
-    | inr g ↦ rw (le-leb v w g) (elim (cases_lt (w - v) (length lines)) [
-      | inl m ↦ rw (lt-ltb w (v + length lines) (omega arith)) (sym (black (w - v) m))
-      | inr n ↦ rw (le-ltb w (v + length lines) (omega arith)) (sym (no_line lines (w - v) at n))
-    ])
-  ]
+  black_lines black = grind (arith, nat_tests, no_line)
 
   pub white_lines : ((i : ℕ) → i < length lines → line_dot lines i at ≡ false) → (leb v w && line_dot lines (w - v) at) ≡ false
-  white_lines white = elim (cases_lt (w - v) (length lines)) [
-    | inl m ↦ ap (λ b. leb v w && b) (white (w - v) m) ∙ and_false (leb v w)
-    | inr n ↦ ap (λ b. leb v w && b) (no_line lines (w - v) at n) ∙ and_false (leb v w)
-  ]
+  white_lines white = grind (arith, no_line)
 
   -- all of them
   pub all_lines : (n : ℕ) → length lines ≤ n → (span v (v + n) w && line_dot lines (w - v) at) ≡ (leb v w && line_dot lines (w - v) at)
-  all_lines n h = elim (cases_lt w v) [
-    | inl l ↦ rw (lt-leb v w l) refl
-    | inr g ↦ rw (le-leb v w g) (elim (cases_lt w (v + n)) [
-      | inl m ↦ rw (lt-ltb w (v + n) m) refl
-      | inr o ↦ rw (le-ltb w (v + n) o) (sym (no_line lines (w - v) at (omega arith)))
-    ])
-  ]
+  all_lines n h = grind (arith, nat_tests, no_line)
 
 -- the bytes on which the dots of a row of lines stand
 pub bytes_across : (lines : List (List ℕ)) (v w at x left first : ℕ) (hx : Bool) → first ≡ left / 8 → span left (left + length lines) x ≡ (hx && span v (v + length lines) w)
@@ -163,12 +113,4 @@ bytes_across lines v w at x left first hx e is black = grind (arith, and_parts, 
 pub two_white : (way : Way) (lines : List (List ℕ)) (squares : List ℕ) (from i u : ℕ) → length lines ≤ 32 → u < 128
     → ((x y : ℕ) → x < 64 → y < 64 → word_dot (get_or squares y 0) x ≡ line_dot lines (placed way 32 (y % 32)) (from + 64 * (y / 32) + x))
     → ((x y : ℕ) → x < 64 → y < 64 → word_dot (get_or squares y 0) x ≡ false) → line_dot lines i (from + u) ≡ false
-two_white way lines squares from i u few near dots white = elim (cases_lt i 32) [
-  | inl l ↦
-      let here : placed way 32 i < 32 = placed_in way 32 i l in
-      let y = 32 * (u / 64) + placed way 32 i in
-      let line : placed way 32 (y % 32) ≡ i = placed_back way 32 (y % 32) i l (omega (arith, here)) in
-      let place : from + 64 * (y / 32) + u % 64 ≡ from + u = omega (arith, here) in
-      sym (rw (line, place) at (dots (u % 64) y (omega arith) (omega (arith, here)))) ∙ white (u % 64) y (omega arith) (omega (arith, here))
-  | inr g ↦ no_line lines i (from + u) (omega (arith, g))
-]
+two_white way lines squares from i u few near dots white = grind (arith, no_line, dots (u % 64) (32 * (u / 64) + placed way 32 i), white (u % 64) (32 * (u / 64) + placed way 32 i))

@@ -44,25 +44,16 @@ moved_right word s x fits h = grind (arith, lt-ltb, word_shr, lt-leb, le-leb)
 -- the dots of a line that begins behind the place
 pub begun : (line : List ℕ) (word far at x : ℕ) → word < 2 ^ 64 → at < far → x < 64 → ((u : ℕ) → u < 64 → word_dot word u ≡ dot line (0 + u))
     → word_dot (word / 2 ^ (far - at)) x ≡ (leb far (at + x) && dot line (at + x - far))
-begun line word far at x fits b h e = moved_right word (far - at) x fits h ∙ (elim (cases_lt x (far - at)) [
-  | inl l ↦ rw (lt-leb (far - at) x l, lt-leb far (at + x) (omega arith)) refl
-  | inr g ↦ rw (le-leb (far - at) x g, le-leb far (at + x) (omega arith)) (e (x - (far - at)) (omega arith) ∙ ap (dot line) (omega arith))
-])
+begun line word far at x fits b h e = grind (arith, nat_tests, moved_right)
 
 -- and of one that ends behind it, turned
 pub ended : (line : List ℕ) (word end at x : ℕ) → at < end → end < at + 64 → x < 64 → ((u : ℕ) → u < 64 → word_dot word u ≡ dot line (63 - u))
     → word_dot (word * 2 ^ (at + 64 - end) % 2 ^ 64) x ≡ (ltb (at + x) end && dot line (end - 1 - (at + x)))
-ended line word end at x b c h e =
-    let s = at + 64 - end in
-    let z : x - 0 ≡ x = omega arith in
-    (rw (le-leb 0 x (omega arith), z) at (first_eight word s x)) ∙ (elim (cases_lt (at + x) end) [
-      | inl l ↦ rw (lt-ltb (at + x) end l) (e (x + s) (omega arith) ∙ ap (dot line) (omega arith))
-      | inr g ↦ rw (le-ltb (at + x) end g, le-ltb (x + s) 64 (omega arith)) refl
-    ])
+ended line word end at x b c h e = grind (arith, first_eight word (at + 64 - end) x, e (x + (at + 64 - end)))
 
 -- the bytes of a word, turned
 pub turned_bytes : (word result x : ℕ) (bytes : List ℕ) → x < 64 → bytes ≡ to_be_bytes w64 word → word_dot result x ≡ dot bytes (8 * 0 + (63 - x)) → word_dot result x ≡ word_dot word (63 - x)
-turned_bytes word result x bytes h e r = r ∙ sym (ap (λ t. t && dot bytes (8 * 0 + (63 - x))) (lt-ltb (63 - x) 64 (omega arith))) ∙ word_bytes word (63 - x) bytes e
+turned_bytes word result x bytes h e r = grind (arith, word_bytes)
 
 -- the front of a line
 front : (line : List ℕ) (n u : ℕ) → dot (take n line) u ≡ (ltb u (8 * n) && dot line u)
@@ -115,15 +106,7 @@ no_lines top y b = grind (arith, lt-leb, and_false, le-ltb)
 -- as many more as are the same
 pub lines_more : (top i t y : ℕ) (ink : ℕ → Bool) → ((j : ℕ) → j < t → ink (i + j) ≡ ink i)
     → (ltb y (top + (i + t)) && (leb top y && ink (y - top))) ≡ (ltb y (top + i) && (leb top y && ink (y - top)) || leb (top + i) y && (ltb (y - (top + i)) t && ink i))
-lines_more top i t y ink same = elim (cases_lt y (top + i)) [
-  | inl l ↦ rw (lt-ltb y (top + i) l, lt-ltb y (top + (i + t)) (omega arith), lt-leb (top + i) y l) (or_false _)
-  | inr g ↦ rw (le-ltb y (top + i) g, le-leb (top + i) y g) (elim (cases_lt y (top + (i + t))) [
-    | inl l ↦ (let j = y - (top + i) in
-        let at : y - top ≡ i + j = omega arith in
-        rw (lt-ltb y (top + (i + t)) l, lt-ltb j t (omega arith), le-leb top y (omega arith)) (ap ink at ∙ same j (omega arith)))
-    | inr o ↦ rw (le-ltb y (top + (i + t)) o, le-ltb (y - (top + i)) t (omega arith)) refl
-  ])
-]
+lines_more top i t y ink same = grind (arith, same (y - (top + i)))
 
 -- lines that are laid one above the other: none yet
 pub none_below : (top n y : ℕ) (b : Bool) → (leb (top + (n - 0)) y && (ltb (y - top) n && b)) ≡ false
@@ -132,16 +115,7 @@ none_below top n y b = grind (arith, lt-leb, le-ltb, and_false)
 pub lines_back : (top n i t y : ℕ) (ink : ℕ → Bool) → i + t ≤ n → ((j : ℕ) → j < t → ink (i + j) ≡ ink i)
     → (leb (top + (n - (i + t))) y && (ltb (y - top) n && ink (n - 1 - (y - top))))
     ≡ (leb (top + (n - i)) y && (ltb (y - top) n && ink (n - 1 - (y - top))) || leb (top + (n - i - t)) y && (ltb (y - (top + (n - i - t))) t && ink i))
-lines_back top n i t y ink few same = elim (cases_lt y (top + (n - i))) [
-  | inl l ↦ rw (lt-leb (top + (n - i)) y l) (elim (cases_lt y (top + (n - i - t))) [
-    | inl m ↦ rw (lt-leb (top + (n - i - t)) y m, lt-leb (top + (n - (i + t))) y (omega arith)) refl
-    | inr g ↦ (let j = n - 1 - (y - top) - i in
-        let at : n - 1 - (y - top) ≡ i + j = omega arith in
-        rw (le-leb (top + (n - i - t)) y g, le-leb (top + (n - (i + t))) y (omega arith), lt-ltb (y - top) n (omega arith), lt-ltb (y - (top + (n - i - t))) t (omega arith))
-        (ap ink at ∙ same j (omega arith)))
-  ])
-  | inr g ↦ rw (le-leb (top + (n - i)) y g, le-leb (top + (n - (i + t))) y (omega arith), le-leb (top + (n - i - t)) y (omega arith), le-ltb (y - (top + (n - i - t))) t (omega arith)) (or_false _)
-]
+lines_back top n i t y ink few same = grind (arith, same (n - 1 - (y - top) - i))
 
 -- all of them
 pub all_lines : (top n i y : ℕ) (b : Bool) → n ≤ i → (leb (top + (n - i)) y && b) ≡ (leb top y && b)

@@ -10,20 +10,16 @@ use Rattle.vp_page.specs.Runs.{along_of}
 
 module _ (ax ay dx dy v x y : ℕ) where
   right_in : (b : Bool) → v < dy → (leb (ay + v) y && (ltb (y - (ay + v)) 1 && (leb ax x && (ltb (x - ax) dx && b)))) ≡ (leb ax x && ltb x (ax + dx) && (leb ay y && ltb y (ay + dy)) && (leb v (y - ay) && (eqb (y - ay - v) 0 && b)))
-  right_in true h = grind (arith, nat_tests)
-  right_in false h = grind (arith, nat_tests)
+  right_in b h = grind (arith, nat_tests)
 
   left_in : (b : Bool) → v < dy → (leb (ay + dy - 1 - v) y && (ltb (y - (ay + dy - 1 - v)) 1 && (ltb x (ax + dx) && (ltb (ax + dx - 1 - x) dx && b)))) ≡ (leb ax x && ltb x (ax + dx) && (leb ay y && ltb y (ay + dy)) && (leb v (ay + dy - 1 - y) && (eqb (ay + dy - 1 - y - v) 0 && b)))
-  left_in true h = grind (arith, nat_tests)
-  left_in false h = grind (arith, nat_tests)
+  left_in b h = grind (arith, nat_tests)
 
   up_in : (b : Bool) → v < dx → (eqb x (ax + v) && (span ay (ay + dy) y && b)) ≡ (leb ax x && ltb x (ax + dx) && (leb ay y && ltb y (ay + dy)) && (leb v (x - ax) && (eqb (x - ax - v) 0 && b)))
-  up_in true h = grind (arith, nat_tests)
-  up_in false h = grind (arith, nat_tests)
+  up_in b h = grind (arith, nat_tests)
 
   down_in : (b : Bool) → v < dx → (eqb x (ax + dx - 1 - v) && (span ay (ay + dy) y && b)) ≡ (leb ax x && ltb x (ax + dx) && (leb ay y && ltb y (ay + dy)) && (leb v (ax + dx - 1 - x) && (eqb (ax + dx - 1 - x - v) 0 && b)))
-  down_in true h = grind (arith, nat_tests)
-  down_in false h = grind (arith, nat_tests)
+  down_in b h = grind (arith, nat_tests)
 
 pub right_same : (a : Area) (v : ℕ) (row : ℕ → Bool) → v < a.dy → (x y : ℕ) → (leb (a.y + v) y && (ltb (y - (a.y + v)) 1 && (leb a.x x && (ltb (x - a.x) a.dx && row (x - a.x))))) ≡ mark_dot (row_mark a LeftToRight v row) x y
 right_same a v row h x y = right_in a.x a.y a.dx a.dy v x y (row (x - a.x)) h
@@ -40,8 +36,7 @@ down_same a v row h x y = down_in a.x a.y a.dx a.dy v x y (row (y - a.y)) h
 -- a row laid many times along the page
 module _ (ax ay dx dy v times shown x y : ℕ) (few : shown ≡ min times (dy - v)) where
   right_times_in : (b : Bool) → v < dy → (leb (ay + v) y && (ltb (y - (ay + v)) shown && (leb ax x && (ltb (x - ax) dx && b)))) ≡ (leb ax x && ltb x (ax + dx) && (leb ay y && ltb y (ay + dy)) && (leb v (y - ay) && (ltb (y - ay - v) times && b)))
-  right_times_in true h = grind (arith, nat_tests)
-  right_times_in false h = grind (arith, nat_tests)
+  right_times_in b h = grind (arith, nat_tests)
 
   left_times_in : (top : ℕ) (b : Bool) → top ≡ ay + (dy - v - shown) → v < dy → (leb top y && (ltb (y - top) shown && (ltb x (ax + dx) && (ltb (ax + dx - 1 - x) dx && b))))
       ≡ (leb ax x && ltb x (ax + dx) && (leb ay y && ltb y (ay + dy)) && (leb v (ay + dy - 1 - y) && (ltb (ay + dy - 1 - y - v) times && b)))

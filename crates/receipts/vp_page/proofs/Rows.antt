@@ -53,9 +53,7 @@ painted_in t x m row h e =
     (painted_byte_at Black (λ d. eqb d x && t) (x / 8) _ row h (λ k l. bit_of_or (get_or row (x / 8) 0) m k ∙ ap (λ b. cond b true (bit (get_or row (x / 8) 0) k)) (e k ∙ same_place k t l)))
   where
     in_byte : (d : ℕ) (t : Bool) → (eqb (d / 8) (x / 8) && (eqb d x && t)) ≡ (eqb d x && t)
-    in_byte d true = grind (arith, nat_tests)
-    in_byte d false = grind (arith, nat_tests)
+    in_byte d t = grind arith
 
     same_place : (k : ℕ) (t : Bool) → k < 8 → (eqb k (7 - x % 8) && t) ≡ (eqb (8 * (x / 8) + (7 - k)) x && t)
-    same_place k true l = grind (arith, nat_tests)
-    same_place k false l = grind (arith, nat_tests)
+    same_place k t l = grind arith

@@ -1,4 +1,5 @@
 -- Lines laid in groups, and lines that are alike along some dots.
+use Rattle.std.proofs.lemmas.Bool.Decides.{nat_tests}
 use Rattle.std.proofs.Common.{inl, inr, min, ◌≡◌, ℕ, ◌+◌, ◌-◌, ◌<◌, ◌≤◌, Bool, true, false, ltb, leb, ◌&&◌, ◌||◌, refl, arith, List, length, take, drop}
 use Rattle.std.proofs.lemmas.List.{get_or-drop, get_or-take, length-take}
 use Rattle.std.proofs.lemmas.Bool.{cases_lt, lt-ltb, le-ltb, lt-leb, le-leb, true≢false}
@@ -7,9 +8,6 @@ use Rattle.vp_page.specs.declared.page.TheConstants.{PAPER_DOTS}
 use Rattle.vp_page.specs.Lines.{line_dot}
 use Rattle.vp_page.proofs.Rows.{dot_past}
 use Rattle.vp_page.proofs.Squares.{and_false, no_line}
-
-or_false : (b : Bool) → b ≡ (b || false)
-or_false b = grind arith
 
 pub narrow : (row : List ℕ) (x : ℕ) → length row ≡ 72 → dot row x ≡ true → x < PAPER_DOTS
 narrow row x n e = grind (arith, true≢false, dot_past)
@@ -22,21 +20,7 @@ module _ (lines : List (List ℕ)) (a n u x : ℕ) (inside : a < length lines) (
   -- a group of lines on the right of those before it
   pub group_right : (left : ℕ) → (leb left x && (ltb (x - left) (a + 64) && line_dot lines (x - left) u))
       ≡ ((leb left x && (ltb (x - left) a && line_dot lines (x - left) u)) || (leb (left + a) x && line_dot (take n (drop a lines)) (x - (left + a)) u))
-  group_right left = rw (these_dot lines n a (x - (left + a)) u) (elim (cases_lt x left) [
-    | inl l ↦ rw (lt-leb left x l, lt-leb (left + a) x (omega arith)) refl
-    | inr g ↦ rw (le-leb left x g) (elim (cases_lt (x - left) a) [
-      | inl m ↦ rw (lt-ltb (x - left) a m, lt-ltb (x - left) (a + 64) (omega arith), lt-leb (left + a) x (omega arith)) (or_false _)
-      | inr m ↦
-          let place : a + (x - (left + a)) ≡ x - left = omega arith in
-          rw (le-ltb (x - left) a m, le-leb (left + a) x (omega arith), place) (elim (cases_lt (x - (left + a)) n) [
-            | inl o ↦ rw (lt-ltb (x - (left + a)) n o, lt-ltb (x - left) (a + 64) (omega arith)) refl
-            | inr o ↦ rw (le-ltb (x - (left + a)) n o) (elim (cases_lt (x - left) (a + 64)) [
-              | inl q ↦ rw (lt-ltb (x - left) (a + 64) q) (no_line lines (x - left) u (omega arith))
-              | inr q ↦ rw (le-ltb (x - left) (a + 64) q) refl
-            ])
-          ])
-    ])
-  ])
+  group_right left = grind (arith, nat_tests, no_line, these_dot)
 
 -- the same rows, of one more group
 pub more_in : (p q a b c : Bool) → a ≡ (b || c) → (p && (q && a)) ≡ ((p && (q && b)) || (p && (q && c)))

@@ -57,10 +57,7 @@ xor_here line w u fits is h = bit_of_xor w (w / 2 ^ 8) (63 - u) ∙ rw (word_shr
 -- the first eight bytes by their word
 pub first_changes : (line : List ℕ) (w u : ℕ) → w < 2 ^ 64 → ((x : ℕ) → x < 64 → word_dot w x ≡ dot line (8 * 0 + x))
     → (leb (8 * 0) u && word_dot (bit_xor w (w / 2 ^ 8)) (u - 8 * 0)) ≡ (ltb (u / 8) 8 && changes_at line u)
-first_changes line w u fits is = elim (cases_lt u 64) [
-  | inl l ↦ (let e = xor_here line w u fits is l in grind (arith, nat_tests, lt-ltb))
-  | inr g ↦ grind (arith, nat_tests, le-ltb)
-]
+first_changes line w u fits is = grind (arith, nat_tests, xor_here line w u fits is)
 
 -- these and the eight behind them
 pub first_eight : (u : ℕ) (b : Bool) → (ltb (u / 8) (16 * 1) && b) ≡ ((ltb (u / 8) 8 && b) || (span 8 (8 + 8) (u / 8) && b))
@@ -91,35 +88,20 @@ all_black line w m dots from k e p q h l r = grind (arith, lt-ltb, both_dot, and
 -- eight more bytes that are black
 pub word_of_black : (line : List ℕ) (k w : ℕ) → w ≡ 2 ^ 64 - 1 → ((x : ℕ) → x < 64 → word_dot w x ≡ dot line (8 * (8 * k) + x)) → ((u : ℕ) → u < 64 * k → dot line u ≡ true)
     → (u : ℕ) → u < 64 * (k + 1) → dot line u ≡ true
-word_of_black line k w e is before u h = elim (cases_lt u (64 * k)) [
-  | inl l ↦ before u l
-  | inr g ↦ (let place : 8 * (8 * k) + (u - 64 * k) ≡ u = omega (arith, g) in
-      let one : u - 64 * k < 64 = omega (arith, h, g) in
-      rw place at (sym (is (u - 64 * k) one)) ∙ ap (λ m. word_dot m (u - 64 * k)) e ∙ all_bits (u - 64 * k) ∙ lt-ltb (u - 64 * k) 64 one)
-]
+word_of_black line k w e is before u h = grind (arith, before u, is (u - 64 * k), all_bits)
 
 -- lines that are alike along some dots, where there is a line
 pub along_dots : (lines : List (List ℕ)) (at dots n : ℕ) → length lines ≤ n → ((i k : ℕ) → i < n → k < dots → line_dot lines i (at + k) ≡ line_dot lines i at)
     → (i u : ℕ) → at ≤ u → u < at + dots → line_dot lines i u ≡ line_dot lines i at
-along_dots lines at dots n all alike i u g l = elim (cases_lt i n) [
-  | inl h ↦ (let place : at + (u - at) ≡ u = omega (arith, g) in rw place at (alike i (u - at) h (omega (arith, g, l))))
-  | inr h ↦ no_line lines i u (omega (arith, h, all)) ∙ sym (no_line lines i at (omega (arith, h, all)))
-]
+along_dots lines at dots n all alike i u g l = grind (arith, alike i (u - at), no_line)
 
 -- the first of eight dots
 pub first_dot : (lines : List (List ℕ)) (i at : ℕ) (colour : Bool) → ((k : ℕ) → k < 8 → line_dot lines i (at + k) ≡ colour) → line_dot lines i at ≡ colour
-first_dot lines i at colour all = let place : at + 0 ≡ at = omega arith in rw place at (all 0 (omega arith))
+first_dot lines i at colour all = grind (arith, all 0)
 
 -- of some lines, and of those behind them
 pub parts_same : (lines : List (List ℕ)) (n i u : ℕ) → n ≤ length lines → i < length lines
     → ((i : ℕ) → i < length (take n lines) → line_dot (take n lines) i u ≡ line_dot (take n lines) i (u - 8))
     → ((i : ℕ) → i < length (take (length lines - n) (drop n lines)) → line_dot (take (length lines - n) (drop n lines)) i u ≡ line_dot (take (length lines - n) (drop n lines)) i (u - 8))
     → line_dot lines i u ≡ line_dot lines i (u - 8)
-parts_same lines n i u few h first rest = elim (cases_lt i n) [
-  | inl l ↦ (let f = first i (omega (arith, l, few, length-take n lines)) in rw (get_or-take n lines i [] l) at f)
-  | inr g ↦
-      let left : i - n < length lines - n = omega (arith, g, h) in
-      let r = rest (i - n) (omega (arith, left, length-drop n lines, length-take (length lines - n) (drop n lines))) in
-      let place : n + (i - n) ≡ i = omega (arith, g) in
-      rw (get_or-take (length lines - n) (drop n lines) (i - n) [] left, get_or-drop n lines (i - n) [], place) at r
-]
+parts_same lines n i u few h first rest = grind (arith, first i, rest (i - n), get_or-take, get_or-drop, length-take, length-drop)

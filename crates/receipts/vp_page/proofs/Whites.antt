@@ -12,29 +12,14 @@ use Rattle.vp_page.specs.Areas.{holds}
 use Rattle.vp_page.specs.Pages.{HasPage, IsWhiteBut, Paged}
 use Rattle.vp_page.proofs.Blank.{dot_white}
 
-pub and_no : (b : Bool) → (b && false) ≡ false
-and_no b = grind arith
-
 module _ (a : Area) (from to x k : ℕ) where
   -- above the rows that are wiped
   pub none_above : (top : ℕ) → (from ≤ k → a.y ≤ k → top ≤ k) → k < top → (span from to k && holds a x k) ≡ false
-  none_above top e h = elim (cases_lt k from) [
-    | inl l ↦ rw (lt-leb from k l) refl
-    | inr g ↦ elim (cases_lt k a.y) [
-      | inl l ↦ rw (lt-leb a.y k l, and_no (leb a.x x && ltb x (a.x + a.dx))) (and_no (span from to k))
-      | inr m ↦ absurd (let n = e g m in omega arith)
-    ]
-  ]
+  none_above top e h = grind arith
 
   -- below them
   pub none_below : (end : ℕ) → (k < to → k < a.y + a.dy → k < end) → end ≤ k → (span from to k && holds a x k) ≡ false
-  none_below end e h = elim (cases_lt k to) [
-    | inl l ↦ elim (cases_lt k (a.y + a.dy)) [
-      | inl m ↦ absurd (let n = e l m in omega arith)
-      | inr g ↦ rw (le-ltb k (a.y + a.dy) g, and_no (leb a.y k), and_no (leb a.x x && ltb x (a.x + a.dx))) (and_no (span from to k))
-    ]
-    | inr g ↦ rw (le-ltb k to g, and_no (leb from k)) refl
-  ]
+  none_below end e h = grind arith
 
 -- the area stays white but for rows among which all are that something is laid on
 pub laid_on : (area : Area) (was is : Rows) (ink : ℕ → ℕ → Bool) (old new : List (List ℕ)) → IsWhiteBut area was old → RowsPainted PAGE_ROWS Black ink old new

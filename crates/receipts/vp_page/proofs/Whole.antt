@@ -16,9 +16,6 @@ use Rattle.vp_page.specs.declared.area.Area.{Area}
 use Rattle.vp_page.specs.declared.area.Direction.TheVariants.{LeftToRight, RightToLeft}
 use Rattle.vp_page.proofs.Rows.{dot_past, rows_same}
 
-inside_same : (p q r s b c : Bool) → (p ≡ true → q ≡ true → r ≡ true → s ≡ true → b ≡ c) → (p && (q && (r && (s && b)))) ≡ (p && (q && (r && (s && c))))
-inside_same p q r s b c e = grind arith
-
 -- a row has no dot past its bytes
 short_row : (bytes : List ℕ) (wide i u : ℕ) → dot (row_in bytes wide i) u ≡ true → u < 8 * wide
 short_row bytes wide i u e = grind (arith, true≢false, dot_past, length-take)
@@ -39,18 +36,6 @@ module _ (bytes line : List ℕ) (wide rows q top i : ℕ) (a b : List (List ℕ
       (rows_more PAGE_ROWS Black back (top + i) a b row l h p
       (painted_same Black _ _ _ _ (λ d _. rw (le-leb top (top + i) (omega arith), u, sym is, sym long) refl) t))
 
-module _ (ax ay dx dy v wide rows shown x y : ℕ) where
-  right_in : (b : Bool) → v < dy → shown ≡ min rows (dy - v) → 8 * wide ≤ dx → (b ≡ true → x - ax < 8 * wide)
-      → (leb (ay + v) y && (ltb (y - (ay + v)) shown && (leb ax x && b))) ≡ (leb ax x && ltb x (ax + dx) && (leb ay y && ltb y (ay + dy)) && (leb v (y - ay) && (ltb (y - ay - v) rows && b)))
-  right_in true h s w near = let n = near refl in grind (arith, nat_tests)
-  right_in false h s w near = grind (arith, nat_tests)
-
-  left_in : (top left : ℕ) (b : Bool) → v < dy → shown ≡ min rows (dy - v) → 8 * wide ≤ dx → top ≡ ay + (dy - v - shown) → left + 8 * wide ≡ ax + dx → (b ≡ true → ax + dx - 1 - x < 8 * wide)
-      → (leb top y && (ltb (y - top) shown && (leb left x && (ltb (x - left) (8 * wide) && b))))
-      ≡ (leb ax x && ltb x (ax + dx) && (leb ay y && ltb y (ay + dy)) && (leb v (ay + dy - 1 - y) && (ltb (ay + dy - 1 - y - v) rows && b)))
-  left_in top left true h s w t e near = let n = near refl in grind (arith, nat_tests)
-  left_in top left false h s w t e near = grind (arith, nat_tests)
-
 -- rows that run to the right
 pub whole_right : (a : Area) (v wide rows shown q : ℕ) (bytes : List ℕ) → AreWhole a a.x wide → v < a.dy → shown ≡ min rows (a.dy - v) → q ≡ a.x / 8 → (x y : ℕ)
     → (leb (a.y + v) y && (ltb (y - (a.y + v)) shown && (leb (8 * q) x && dot (row_in bytes wide (y - (a.y + v))) (x - 8 * q)))) ≡ mark_dot (rows_mark a LeftToRight v wide rows bytes) x y
@@ -61,16 +46,4 @@ pub whole_left : (a : Area) (v wide rows shown q top : ℕ) (bytes : List ℕ) �
     → top ≡ a.y + (a.dy - v - shown) → (x y : ℕ)
     → (leb top y && (ltb (y - top) shown && (leb (8 * q) x && (ltb (x - 8 * q) (8 * wide) && dot (row_in bytes wide (shown - 1 - (y - top))) (8 * wide - 1 - (x - 8 * q))))))
     ≡ mark_dot (rows_mark a RightToLeft v wide rows bytes) x y
-whole_left a v wide rows shown q top bytes fit h s e t x y =
-    let right : 8 * q + 8 * wide ≡ a.x + a.dx = omega (arith, fit.begins, fit.short) in
-    let u = a.x + a.dx - 1 - x in
-    let w = a.y + a.dy - 1 - y - v in
-    inside_same (leb top y) (ltb (y - top) shown) (leb (8 * q) x) (ltb (x - 8 * q) (8 * wide)) _ (dot (row_in bytes wide w) u) (λ i j k l.
-    let i' = leb-true top y i in
-    let j' = ltb-true (y - top) shown j in
-    let k' = leb-true (8 * q) x k in
-    let l' = ltb-true (x - 8 * q) (8 * wide) l in
-    let row : shown - 1 - (y - top) ≡ w = omega (arith, s, t, i', j') in
-    let dot_at : 8 * wide - 1 - (x - 8 * q) ≡ u = omega (arith, right, k', l') in
-    ap (λ n. dot (row_in bytes wide n) (8 * wide - 1 - (x - 8 * q))) row ∙ ap (dot (row_in bytes wide w)) dot_at)
-    ∙ left_in a.x a.y a.dx a.dy v wide rows shown x y top (8 * q) (dot (row_in bytes wide w) u) h s fit.short t right (short_row bytes wide w u)
+whole_left a v wide rows shown q top bytes fit h s e t x y = grind (arith, nat_tests, short_row)

@@ -16,8 +16,7 @@ module _ (layers : List Layer) (a : Area) where
   row_white y (suc x) h = rw (h x (omega arith)) (row_white y x (λ u l. h u (omega arith)))
 
   at_most_one : (b : Bool) → (if b then 1 else 0) ≤ 1
-  at_most_one true = omega arith
-  at_most_one false = omega arith
+  at_most_one b = grind arith
 
   -- where all that is black in the area lies on some rows
   pub few_black : (from to n : ℕ) → n ≤ PAGE_ROWS → ((x y : ℕ) → x < PAPER_DOTS → y < PAGE_ROWS → span from to y ≡ false → (holds a x y && page_dot layers x y) ≡ false)

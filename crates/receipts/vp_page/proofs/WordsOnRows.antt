@@ -29,20 +29,12 @@ byte_painted mask i row h = painted_byte_at Black (λ d. bit mask (7 - d % 8)) i
 
 -- what a word loses on the right
 pub lost_bit : (word s k : ℕ) → s < 8 → k < 8 → bit (bit_and (word * 2 ^ (8 - s) % 2 ^ 64) 255) k ≡ (leb (8 - s) k && bit word (k - (8 - s)))
-lost_bit word s k p h =
-    bit_of_and _ 255 k ∙ ap (λ b. bit (word * 2 ^ (8 - s) % 2 ^ 64) k && b) (bit_of_all k h) ∙ and_true _
-    ∙ bit_low64 _ k (omega arith) ∙ bit_shl word (8 - s) k
+lost_bit word s k p h = grind (arith, bit_of_and, bit_of_all, bit_low64, bit_shl)
 
 -- a word that begins in the last eight bytes of a row
 pub last_eight : (word at far d : ℕ) → word < 2 ^ 64 → at ≤ far → d < at + 64
     → (leb at d && word_dot (word / 2 ^ (far - at)) (d - at)) ≡ (leb far d && word_dot word (d - far))
-last_eight word at far d fits from h = elim (cases_lt d at) [
-  | inl l ↦ rw (lt-leb at d l, lt-leb far d (omega arith)) refl
-  | inr g ↦ rw (le-leb at d g, lt-ltb (d - at) 64 (omega arith)) (word_shr word (far - at) (d - at) fits (omega arith) ∙ elim (cases_lt d far) [
-    | inl b ↦ rw (lt-leb (far - at) (d - at) (omega arith), lt-leb far d b) refl
-    | inr a ↦ rw (le-leb (far - at) (d - at) (omega arith), le-leb far d a, lt-ltb (d - far) 64 (omega arith)) (ap (bit word) (omega arith))
-  ])
-]
+last_eight word at far d fits from h = grind (arith, nat_tests, word_shr)
 
 -- a word that begins before a row
 pub first_eight : (word far d : ℕ) → (leb 0 d && word_dot (word * 2 ^ far % 2 ^ 64) (d - 0)) ≡ word_dot word (d + far)
@@ -50,22 +42,7 @@ first_eight word far d = grind (arith, le-leb, lt-ltb, bit_low64, bit_shl, lt-le
 
 -- half a word, from one of its dots on
 pub half_dot : (word mask skip x : ℕ) → ((d : ℕ) → word_dot mask d ≡ ltb d 32) → word_dot (bit_and (word * 2 ^ skip % 2 ^ 64) mask) x ≡ (ltb x 32 && word_dot word (x + skip))
-half_dot word mask skip x left = elim (cases_lt x 64) [
-  | inl l ↦ rw (lt-ltb x 64 l) (bit_of_and (word * 2 ^ skip % 2 ^ 64) mask (63 - x) ∙ elim (cases_lt x 32) [
-    | inl m ↦ rw (lt-ltb x 32 m) (ap (λ b. bit (word * 2 ^ skip % 2 ^ 64) (63 - x) && b) (masked m) ∙ and_true _ ∙ moved l)
-    | inr g ↦ rw (le-ltb x 32 g) (ap (λ b. bit (word * 2 ^ skip % 2 ^ 64) (63 - x) && b) (unmasked g l) ∙ and_false _)
-  ])
-  | inr g ↦ rw (le-ltb x 64 g, le-ltb x 32 (omega arith)) refl
-]
-  where
-    masked : x < 32 → bit mask (63 - x) ≡ true
-    masked m = rw (lt-ltb x 64 (omega arith), lt-ltb x 32 m) at (left x)
-
-    unmasked : 32 ≤ x → x < 64 → bit mask (63 - x) ≡ false
-    unmasked g l = rw (lt-ltb x 64 l, le-ltb x 32 g) at (left x)
-
-    moved : x < 64 → bit (word * 2 ^ skip % 2 ^ 64) (63 - x) ≡ word_dot word (x + skip)
-    moved l = rw (le-leb 0 x (omega arith), (let e : x - 0 ≡ x = omega arith in e), lt-ltb x 64 l) at (first_eight word skip x)
+half_dot word mask skip x left = grind (arith, bit_of_and, bit_low64, bit_shl, left x)
 
 module _ (line : List ℕ) (j i : ℕ) (row : List ℕ) (there : j + 8 ≤ length line) (room : i + 8 ≤ length row) where
   byte_lane : (n k : ℕ) → n < 8 → k < 8
@@ -96,21 +73,11 @@ module _ (line : List ℕ) (q k d : ℕ) where
   -- eight more bytes of a line
   pub words_more : (ltb d (8 * q + 64 * (k + 1)) && (leb (8 * q) d && dot line (d - 8 * q)))
       ≡ (ltb d (8 * q + 64 * k) && (leb (8 * q) d && dot line (d - 8 * q)) || leb (8 * (q + 8 * k)) d && (ltb (d - 8 * (q + 8 * k)) 64 && dot line (8 * (8 * k) + (d - 8 * (q + 8 * k)))))
-  words_more = elim (cases_lt d (8 * q + 64 * k)) [
-    | inl l ↦ rw (lt-ltb d (8 * q + 64 * k) l, lt-ltb d (8 * q + 64 * (k + 1)) (omega arith), lt-leb (8 * (q + 8 * k)) d (omega arith)) (or_false _)
-    | inr g ↦ rw (le-ltb d (8 * q + 64 * k) g, le-leb (8 * (q + 8 * k)) d (omega arith)) (elim (cases_lt d (8 * q + 64 * (k + 1))) [
-      | inl m ↦ rw (lt-ltb d (8 * q + 64 * (k + 1)) m, le-leb (8 * q) d (omega arith), lt-ltb (d - 8 * (q + 8 * k)) 64 (omega arith))
-          (ap (dot line) (let e : d - 8 * q ≡ 8 * (8 * k) + (d - 8 * (q + 8 * k)) = omega arith in e))
-      | inr o ↦ rw (le-ltb d (8 * q + 64 * (k + 1)) o, le-ltb (d - 8 * (q + 8 * k)) 64 (omega arith)) refl
-    ])
-  ]
+  words_more = grind arith
 
   -- after the last ones
   pub words_all : length line ≤ 8 * k → (ltb d (8 * q + 64 * k) && (leb (8 * q) d && dot line (d - 8 * q))) ≡ (leb (8 * q) d && dot line (d - 8 * q))
-  words_all all = elim (cases_lt d (8 * q + 64 * k)) [
-    | inl l ↦ rw (lt-ltb d (8 * q + 64 * k) l) refl
-    | inr g ↦ rw (le-ltb d (8 * q + 64 * k) g, dot_past line (d - 8 * q) (omega arith)) (sym (and_false _))
-  ]
+  words_all all = grind (arith, nat_tests, dot_past)
 
 -- a word behind the ones before it
 pub words_apart : (q k d : ℕ) (m b : Bool) → (ltb d (8 * q + 64 * k) && m && (leb (8 * (q + 8 * k)) d && b)) ≡ false
@@ -151,26 +118,14 @@ module _ (q n d : ℕ) (line : List ℕ) where
 
   pub reversed_more : (k m next : ℕ) (b : Bool) → next ≡ k + m → next ≤ n → (8 * (q + k) ≤ d → d < 8 * (q + k) + 8 * m → b ≡ dot line (8 * n - 1 - (d - 8 * q)))
       → (ltb d (8 * q + 8 * next) && reversed d) ≡ (ltb d (8 * q + 8 * k) && reversed d || leb (8 * (q + k)) d && (ltb (d - 8 * (q + k)) (8 * m) && b))
-  reversed_more k m next b e h w = elim (cases_lt d (8 * q + 8 * k)) [
-    | inl l ↦ rw (lt-ltb d (8 * q + 8 * k) l, lt-ltb d (8 * q + 8 * next) (omega arith), lt-leb (8 * (q + k)) d (omega arith)) (or_false _)
-    | inr g ↦ rw (le-ltb d (8 * q + 8 * k) g, le-leb (8 * (q + k)) d (omega arith)) (elim (cases_lt d (8 * q + 8 * next)) [
-      | inl s ↦ rw (lt-ltb d (8 * q + 8 * next) s, le-leb (8 * q) d (omega arith), lt-ltb (d - 8 * q) (8 * n) (omega arith), lt-ltb (d - 8 * (q + k)) (8 * m) (omega arith)) (sym (w (omega arith) (omega arith)))
-      | inr o ↦ rw (le-ltb d (8 * q + 8 * next) o, le-ltb (d - 8 * (q + k)) (8 * m) (omega arith)) refl
-    ])
-  ]
+  reversed_more k m next b e h w = grind (arith, nat_tests)
 
   pub reversed_apart : (k : ℕ) (b : Bool) → (ltb d (8 * q + 8 * k) && reversed d && (leb (8 * (q + k)) d && b)) ≡ false
-  reversed_apart k b = elim (cases_lt d (8 * q + 8 * k)) [
-    | inl l ↦ rw (lt-leb (8 * (q + k)) d (omega arith)) (and_false _)
-    | inr g ↦ rw (le-ltb d (8 * q + 8 * k) g) refl
-  ]
+  reversed_apart k b = grind arith
 
   -- after the last ones
   pub reversed_all : (k : ℕ) → n ≤ k → (ltb d (8 * q + 8 * k) && reversed d) ≡ reversed d
-  reversed_all k all = elim (cases_lt d (8 * q + 8 * k)) [
-    | inl l ↦ rw (lt-ltb d (8 * q + 8 * k) l) refl
-    | inr g ↦ rw (le-ltb d (8 * q + 8 * k) g, le-ltb (d - 8 * q) (8 * n) (omega arith)) (sym (and_false _))
-  ]
+  reversed_all k all = grind arith
 
 -- before the first ones
 pub words_none : (q d : ℕ) (b : Bool) → (ltb d (8 * q + 64 * 0) && (leb (8 * q) d && b)) ≡ false
