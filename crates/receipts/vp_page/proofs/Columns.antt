@@ -1,24 +1,21 @@
 -- Lines laid across the page, upward or downward.
-use Rattle.std.proofs.Common.{inl, inr, ◌≡◌, ℕ, ◌+◌, ◌-◌, ◌*◌, ◌/◌, ◌%◌, ◌<◌, ◌≤◌, min, not, Bool, true, false, ltb, leb, ◌&&◌, refl, sym, ap, ◌∙◌, arith, List, length, take, get_or, set, get_or-set_same, get_or-set_other, ℤ}
+use Rattle.std.proofs.Common.{◌≡◌, ℕ, ◌+◌, ◌-◌, ◌*◌, ◌/◌, ◌%◌, ◌<◌, ◌≤◌, min, Bool, true, false, ltb, leb, ◌&&◌, ap, ◌∙◌, arith, List, length, take, get_or, set, get_or-set_same, get_or-set_other, ℤ}
 use Rattle.vp_page.specs.declared.across.TheConstants.{AT_ONCE}
 use Rattle.vp_page.specs.declared.page.TheConstants.{PAGE_ROWS}
 use Rattle.vp_page.proofs.Rows.{met}
 use Rattle.std.proofs.lemmas.Int.{ints}
-use Rattle.std.proofs.lemmas.Bool.{cases_eq, cases_lt, lt-ltb, le-ltb, lt-leb, le-leb, and_parts, ltb-true, leb-true, true≢false}
+use Rattle.std.proofs.lemmas.Bool.{lt-ltb, le-ltb, le-leb, and_parts, ltb-true, leb-true, true≢false}
 use Rattle.std.proofs.lemmas.Bool.Decides.{nat_tests}
-use Rattle.std.proofs.Math.Bool.{beq}
 use Rattle.vp_dots.specs.Dots.{shifted, span}
 use Rattle.vp_dots.specs.Words.{word_dot}
-use Rattle.vp_page.specs.Areas.{holds}
 use Rattle.vp_page.specs.Layers.{mark_dot, lines_mark}
 use Rattle.vp_page.specs.Lines.{line_dot}
 use Rattle.vp_page.specs.Runs.{across, along_of, depth_of, lines_across, ordered, placed, stretch_dot, topmost, IsLeft}
 use Rattle.vp_page.specs.declared.area.Area.{Area}
 use Rattle.vp_page.specs.declared.area.Way.{Way}
-use Rattle.vp_page.specs.declared.area.Way.TheVariants.{Up, Down}
 use Rattle.vp_page.proofs.Marks.{shown_line}
 use Rattle.vp_page.proofs.RunRows.{run_in}
-use Rattle.vp_page.proofs.Squares.{and_false, no_line, other_rows}
+use Rattle.vp_page.proofs.Squares.{and_false, no_line}
 
 -- and back
 pub placed_back : (way : Way) (n i k : ℕ) → k < n → i ≡ placed way n k → placed way n i ≡ k

@@ -1,16 +1,13 @@
 -- Lines of which many are as the one before.
-use Rattle.std.proofs.Common.{inl, inr, ◌≡◌, ℕ, ◌+◌, ◌-◌, ◌<◌, ◌≤◌, false, min, ltb, ◌&&◌, refl, sym, ap, ◌∙◌, arith, List, [], length, take, get_or, set, get_or-set_same, get_or-set_other}
-use Rattle.std.proofs.lemmas.Bool.{cases_lt, le-ltb, lt-ltb}
+use Rattle.std.proofs.Common.{◌≡◌, ℕ, ◌+◌, ◌-◌, ◌<◌, ◌≤◌, false, min, ltb, ◌&&◌, arith, List, [], length, take, get_or, set, get_or-set_same, get_or-set_other}
 use Rattle.std.proofs.lemmas.List.{get_or-take, length-take}
-use Rattle.vp_dots.specs.Dots.{dot, span}
+use Rattle.vp_dots.specs.Dots.{dot}
 use Rattle.vp_page.specs.declared.line.TheConstants.{LINE_DOTS}
-use Rattle.vp_page.specs.Areas.{holds}
 use Rattle.vp_page.specs.Lines.{line_dot}
-use Rattle.vp_page.specs.Runs.{across_dot, along_of, depth_of, lines_across, AreDifferent, AreRuns}
+use Rattle.vp_page.specs.Runs.{across_dot, lines_across, AreDifferent, AreRuns}
 use Rattle.vp_page.specs.declared.area.Area.{Area}
 use Rattle.vp_page.specs.declared.area.Way.{Way}
 use Rattle.vp_page.proofs.Columns.{all_lines}
-use Rattle.vp_page.proofs.Squares.{and_false}
 
 -- one more line begins where the last one ends
 module _ (begins : List ℕ) (n end next : ℕ) (count : length begins ≡ 65) (few : n < 32) (last : get_or begins n 0 ≡ end) (on : end ≤ next) where

@@ -1,10 +1,10 @@
 -- A line of an image, and a line alone that is laid across the page.
-use Rattle.std.proofs.Common.{inl, inr, ◌≡◌, ℕ, ◌+◌, ◌-◌, ◌*◌, ◌<◌, ◌≤◌, min, Bool, true, false, eqb, leb, ltb, ◌&&◌, ◌||◌, refl, sym, ap, ◌∙◌, arith, List, [], get_or, replicate, pos}
-use Rattle.std.specs.Int.{bit_at, to_be_bytes, w64}
+use Rattle.std.proofs.Common.{◌≡◌, ℕ, ◌+◌, ◌-◌, ◌*◌, ◌<◌, ◌≤◌, min, Bool, true, false, leb, ltb, ◌&&◌, ◌||◌, refl, arith, List, [], get_or, replicate, pos}
+use Rattle.std.specs.Int.{to_be_bytes, w64}
 use Rattle.std.proofs.lemmas.Bool.Decides.{nat_tests}
 use Rattle.std.proofs.lemmas.Nat.Bits.{bit_at-zero}
 use Rattle.std.proofs.lemmas.List.{length-replicate}
-use Rattle.std.proofs.lemmas.Bool.{cases_lt, false_from_ne_true, lt-ltb, le-ltb, lt-leb, le-leb}
+use Rattle.std.proofs.lemmas.Bool.{false_from_ne_true, lt-ltb, le-ltb, lt-leb, le-leb}
 use Rattle.vp_dots.specs.Dots.{bit, dot, shifted, span}
 use Rattle.vp_dots.specs.Places.{RowsPainted}
 use Rattle.vp_dots.specs.Words.{word_dot}

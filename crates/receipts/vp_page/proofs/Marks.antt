@@ -1,17 +1,15 @@
 -- Lines laid across an area, as a mark.
 use Rattle.std.proofs.lemmas.Bool.Decides.{nat_tests}
-use Rattle.std.proofs.Common.{inl, inr, ◌≡◌, ℕ, ◌+◌, ◌-◌, ◌<◌, ◌≤◌, Bool, true, false, min, ltb, leb, ◌&&◌, sym, ap, ◌∙◌, arith, List, [], length, get_or, take}
-use Rattle.std.proofs.lemmas.Bool.{cases_lt, lt-ltb, le-ltb, leb-true, false_from_ne_true}
+use Rattle.std.proofs.Common.{◌≡◌, ℕ, ◌+◌, ◌-◌, ◌<◌, ◌≤◌, Bool, true, false, min, ltb, leb, ◌&&◌, arith, List, [], length, get_or, take}
+use Rattle.std.proofs.lemmas.Bool.{lt-ltb, le-ltb, false_from_ne_true}
 use Rattle.vp_dots.specs.Dots.{dot}
 use Rattle.vp_page.specs.declared.across.TheConstants.{AT_ONCE}
 use Rattle.vp_page.specs.declared.line.TheConstants.{LINE_BYTES, LINE_DOTS}
 use Rattle.vp_page.specs.declared.area.Area.{Area}
 use Rattle.vp_page.specs.declared.area.Direction.TheVariants.{LeftToRight, RightToLeft}
-use Rattle.vp_page.specs.Areas.{holds}
 use Rattle.vp_page.specs.Layers.{mark_dot, lines_mark}
-use Rattle.vp_page.proofs.RowMarks.{left_times, right_times}
 use Rattle.vp_page.proofs.Rows.{dot_past}
-use Rattle.vp_page.proofs.Squares.{and_false, no_line}
+use Rattle.vp_page.proofs.Squares.{no_line}
 use Rattle.vp_page.specs.Lines.{line_dot}
 use Rattle.std.proofs.lemmas.List.{get_or-take, length-take}
 

@@ -1,6 +1,6 @@
 -- Squares laid across the page.
-use Rattle.std.proofs.Common.{◌≡◌, ℕ, ◌+◌, ◌-◌, ◌<◌, ◌≤◌, Bool, false, ltb, ◌&&◌, ap, ◌∙◌, arith, List, [], length, get_or, take, drop, reverse, replicate}
-use Rattle.std.proofs.lemmas.List.{get_or_past, get_or-replicate, get_or-reverse, get_or-drop, get_or-take}
+use Rattle.std.proofs.Common.{◌≡◌, ℕ, ◌+◌, ◌<◌, ◌≤◌, Bool, false, ltb, ◌&&◌, ap, ◌∙◌, arith, List, [], length, get_or, replicate}
+use Rattle.std.proofs.lemmas.List.{get_or_past, get_or-replicate}
 use Rattle.std.proofs.lemmas.Bool.{lt-ltb, le-ltb}
 use Rattle.std.proofs.lemmas.Nat.Bits.{bit_at-zero}
 use Rattle.vp_dots.specs.Dots.{bit}

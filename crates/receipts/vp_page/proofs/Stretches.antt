@@ -1,8 +1,8 @@
 -- Lines laid in groups, and lines that are alike along some dots.
 use Rattle.std.proofs.lemmas.Bool.Decides.{nat_tests}
-use Rattle.std.proofs.Common.{inl, inr, min, ◌≡◌, ℕ, ◌+◌, ◌-◌, ◌<◌, ◌≤◌, Bool, true, false, ltb, leb, ◌&&◌, ◌||◌, refl, arith, List, length, take, drop}
+use Rattle.std.proofs.Common.{min, ◌≡◌, ℕ, ◌+◌, ◌-◌, ◌<◌, ◌≤◌, Bool, true, false, ltb, leb, ◌&&◌, ◌||◌, arith, List, length, take, drop}
 use Rattle.std.proofs.lemmas.List.{get_or-drop, get_or-take, length-take}
-use Rattle.std.proofs.lemmas.Bool.{cases_lt, lt-ltb, le-ltb, lt-leb, le-leb, true≢false}
+use Rattle.std.proofs.lemmas.Bool.{lt-ltb, le-ltb, true≢false}
 use Rattle.vp_dots.specs.Dots.{dot}
 use Rattle.vp_page.specs.declared.page.TheConstants.{PAPER_DOTS}
 use Rattle.vp_page.specs.Lines.{line_dot}

@@ -1,6 +1,6 @@
 -- Rows on whole words of the page, as a mark.
-use Rattle.std.proofs.Common.{◌≡◌, ℕ, ◌+◌, ◌-◌, ◌*◌, ◌/◌, ◌<◌, ◌≤◌, Bool, true, false, min, ltb, leb, ◌&&◌, refl, sym, ap, ◌∙◌, arith, List, length, get_or, set, []}
-use Rattle.std.proofs.lemmas.Bool.{le-leb, leb-true, ltb-true, true≢false}
+use Rattle.std.proofs.Common.{◌≡◌, ℕ, ◌+◌, ◌-◌, ◌*◌, ◌/◌, ◌<◌, Bool, true, min, ltb, leb, ◌&&◌, refl, sym, ap, arith, List, length, get_or, set, []}
+use Rattle.std.proofs.lemmas.Bool.{le-leb, true≢false}
 use Rattle.std.proofs.lemmas.Bool.Decides.{nat_tests}
 use Rattle.std.proofs.lemmas.List.{length-take}
 use Rattle.vp_dots.specs.Dots.{dot, dots}

@@ -1,9 +1,9 @@
 -- Words painted on rows of the page.
-use Rattle.std.proofs.Common.{min, inl, inr, ◌≡◌, ℕ, ◌+◌, ◌-◌, ◌*◌, ◌/◌, ◌%◌, ◌^◌, ◌<◌, ◌≤◌, Bool, true, false, cond, eqb, ltb, leb, ◌&&◌, ◌||◌, refl, sym, ap, ◌∙◌, arith, List, bit_and, bit_or, length, get_or, set}
+use Rattle.std.proofs.Common.{min, ◌≡◌, ℕ, ◌+◌, ◌-◌, ◌*◌, ◌/◌, ◌%◌, ◌^◌, ◌<◌, ◌≤◌, Bool, true, false, cond, eqb, ltb, leb, ◌&&◌, ◌||◌, refl, sym, ap, ◌∙◌, arith, List, bit_and, bit_or, length, get_or, set}
 use lib.Lanes.{zip2, chunk, put_chunk}
 use Rattle.std.specs.Int.{to_be_bytes, w64}
 use Rattle.std.proofs.lemmas.Simd.{get_or-zip2, get_or-chunk, length-zip2, length-chunk}
-use Rattle.std.proofs.lemmas.Bool.{cases_lt, lt-ltb, le-ltb, lt-leb, le-leb}
+use Rattle.std.proofs.lemmas.Bool.{lt-ltb, le-ltb, lt-leb, le-leb}
 use Rattle.std.proofs.lemmas.Bool.Decides.{nat_tests}
 use Rattle.vp_dots.specs.Dots.{bit, dot, span}
 use Rattle.vp_dots.specs.Words.{word_dot}
@@ -12,7 +12,7 @@ use Rattle.vp_dots.specs.declared.Op.TheVariants.{Black}
 use Rattle.vp_dots.proofs.Bits.{bit_of_or}
 use Rattle.vp_dots.proofs.Blocks.{painted_block}
 use Rattle.vp_dots.proofs.Paints.{painted_same, painted_byte_at}
-use Rattle.vp_dots.proofs.Words.{or_false, and_false, and_true, bit_shl, word_shr, word_row}
+use Rattle.vp_dots.proofs.Words.{and_false, bit_shl, word_shr, word_row}
 use Rattle.vp_dots.proofs.Spans.{bit_of_all, bit_of_and}
 use Rattle.vp_dots.proofs.Cuts.{bit_low64}
 use Rattle.vp_dots.proofs.Rows.{dot_at}

@@ -1,6 +1,5 @@
 use Rattle.std.proofs.Common.{ℕ, Bool, ◌+◌, ◌&&◌, eqb, arith}
 use Rattle.vp_dots.specs.Dots.{dot, span}
-use Rattle.vp_dots.specs.declared.Op.TheVariants.{Black}
 use Rattle.vp_dots.proofs.Placing.{rows_init, rows_all}
 use Rattle.vp_page.specs.Runs.{along_of}
 use Rattle.vp_page.proofs.Lines.{no_column, word_of_column}
