@@ -1,22 +1,16 @@
-use Rattle.std.proofs.Common.{◌≡◌, ◌+◌, ◌-◌, ◌*◌, ◌<◌, ◌&&◌, leb, ltb, ap, length, arith}
+use Rattle.std.proofs.lemmas.Bool.Decides.{nat_tests}
+use Rattle.std.proofs.Common.{◌≡◌, ◌+◌, ◌-◌, ◌*◌, ◌<◌, ◌&&◌, ap, length, arith}
 use Rattle.std.proofs.lemmas.Bool.{le-ltb}
 use Rattle.vp_dots.specs.Dots.{span}
 use Rattle.vp_dots.specs.declared.Op.TheVariants.{Black}
 use Rattle.vp_page.specs.Areas.{holds}
-use Rattle.vp_page.specs.Lines.{line_dot}
 use Rattle.vp_page.specs.Runs.{along_of, depth_of}
 use Rattle.vp_page.proofs.Rows.{rows_same, rows_then}
-use Rattle.vp_page.proofs.Squares.{nothing_painted}
 use Rattle.vp_page.proofs.Stretches.{group_right, more_in, groups_right, no_group}
 use Rattle.vp_page.proofs.across.lay_groups.Goals as goal
 
 pub loop-k-init : goal.loop-k-init
-loop-k-init g c =
-    let a = c.args.area in
-    let way = c.args.way in
-    let v = c.args.v in
-    nothing_painted _ c.args.band.now (λ x y h. no_group (span c.args.from (c.args.from + c.args.rows) (along_of a way y)) (holds a x y) (leb v (depth_of a way x)) (ltb (depth_of a way x - v) (64 * 0))
-    (line_dot c.args.lines.now (depth_of a way x - v) (along_of a way y)) (le-ltb (depth_of a way x - v) (64 * 0) (omega arith)))
+loop-k-init g c = grind (arith, nat_tests, le-ltb, no_group)
 
 pub loop-k-preserved : goal.loop-k-preserved
 loop-k-preserved g c =

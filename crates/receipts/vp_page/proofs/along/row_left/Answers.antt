@@ -1,7 +1,7 @@
-use Rattle.std.proofs.Common.{◌≡◌, ◌+◌, ◌-◌, ◌*◌, ◌/◌, ◌&&◌, Bool, ℕ, false, cond, leb, ltb, ap, arith, length, ◌∙◌}
+use Rattle.std.proofs.lemmas.Bool.Decides.{nat_tests}
+use Rattle.std.proofs.Common.{◌≡◌, ◌+◌, ◌-◌, ◌*◌, ◌/◌, false, cond, ap, arith, length, ◌∙◌}
 use Rattle.vp_dots.specs.Dots.{dot, span}
-use Rattle.vp_dots.specs.declared.Op.TheVariants.{Black}
-use Rattle.vp_dots.proofs.Paints.{painted_none, painted_then}
+use Rattle.vp_dots.proofs.Paints.{painted_none}
 use Rattle.vp_page.proofs.PageRows.{clipped_left, none_before, moved_left_word, row_made, whole_left, word_apart, word_more}
 use Rattle.vp_page.proofs.along.row_left.Goals as goal
 
@@ -14,14 +14,7 @@ pub loop-i-init : goal.loop-i-init
 loop-i-init c = painted_none _ _ _ (λ d l. none_before (c.args.begin / 64) d _)
 
 pub loop-i-preserved : goal.loop-i-preserved
-loop-i-preserved c =
-    let end = c.args.begin + c.args.long in
-    let ink : ℕ → Bool = (λ d. leb (64 * (c.args.begin / 64)) d && (ltb d end && dot c.args.line.now (end - 1 - d))) in
-    let k = c.args.begin / 64 + c.loop-i.i in
-    let next : c.args.begin / 64 + (c.loop-i.i + 1) ≡ k + 1 = omega arith in
-    rw next (painted_then Black _ _ _ _ _ _ c.loop-i.invariant c.or_eight.ensures
-    (λ d l. word_more ink c.word_left.result k d (λ x m. moved_left_word c.args.begin end c.loop-i.i x c.args.line.now c.word_left.result (omega arith) (c.word_left.ensures x m)))
-    (λ d l. word_apart k d (ink d) _))
+loop-i-preserved c = grind (arith, nat_tests, moved_left_word, word_apart, word_more)
 
 pub returns : goal.returns
 returns c = λ x h.

@@ -1,18 +1,16 @@
+use Rattle.std.proofs.lemmas.Bool.Decides.{nat_tests}
 use Rattle.std.proofs.Common.{◌≡◌, ◌+◌, ◌&&◌, ◌∙◌, sym, ap, arith, [], length, get_or}
 use Rattle.vp_dots.specs.Dots.{dot, span}
 use Rattle.vp_dots.specs.declared.Op.TheVariants.{White}
 use Rattle.vp_dots.proofs.Paints.{painted_same}
-use Rattle.vp_dots.proofs.Placing.{rows_init, rows_more, rows_all}
+use Rattle.vp_dots.proofs.Placing.{rows_more}
 use Rattle.vp_page.proofs.Alike.{wiped_dot}
 use Rattle.vp_page.specs.Areas.{holds}
 use Rattle.vp_page.proofs.Whites.{none_above, none_below}
 use Rattle.vp_page.proofs.line.whiten.Goals as goal
 
 pub loop-i-init : goal.loop-i-init
-loop-i-init g c =
-    let a = c.args.area in
-    let r = c.args.rows in
-    rows_init _ _ (λ x k. span r.from r.to k && holds a x k) _ c.args.band.now (λ x k h. none_above a r.from r.to x k (c.max-top.result + 0) (λ p q. omega (arith, c.max-top.ensures)) h)
+loop-i-init g c = grind (arith, nat_tests, none_above)
 
 pub loop-i-preserved : goal.loop-i-preserved
 loop-i-preserved g c =
@@ -27,7 +25,4 @@ loop-i-preserved g c =
     (rw (sym c.row_mut.ensures.value) c.keep.ensures)))
 
 pub returns : goal.returns
-returns g c =
-    let a = c.args.area in
-    let r = c.args.rows in
-    rows_all _ _ (λ x k. span r.from r.to k && holds a x k) (c.max-top.result + c.loop-i.i) c.args.band.now c.loop-i.band (λ x k h l. none_below a r.from r.to x k _ (λ p q. omega (arith, c.min-below.ensures, c.saturating_sub-i-end.ensures)) h) c.loop-i.invariant
+returns g c = grind (arith, nat_tests, none_below)

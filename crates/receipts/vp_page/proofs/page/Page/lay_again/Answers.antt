@@ -1,3 +1,4 @@
+use Rattle.std.proofs.lemmas.Bool.Decides.{nat_tests}
 use Rattle.std.proofs.Common.{refl, sym, arith}
 use Rattle.std.proofs.lemmas.Bool.{lt-ltb, and_parts, ltb-true}
 use Rattle.vp_dots.specs.Dots.{dot}
@@ -12,6 +13,4 @@ loop-k-preserved g c = λ layers page.
     (c.lay_row.ensures _ (c.loop-k.invariant layers page))
 
 pub returns : goal.returns
-returns g c = λ layers page.
-    rows_make_an_image.all (times_mark c.args.area c.args.direction c.args.v c.args.times (dot c.args.row.now)) c.loop-k.k layers _
-    (λ u w e k. let p = ltb-true w c.args.times (and_parts _ _ e).0 in omega (arith, p)) (omega arith) (c.loop-k.invariant layers page)
+returns g c = λ layers page. grind (arith, nat_tests, and_parts, ltb-true, rows_make_an_image)
