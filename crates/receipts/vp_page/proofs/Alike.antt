@@ -1,8 +1,8 @@
 -- Lines that are alike along some dots, and the rows of the page that are.
-use Rattle.std.proofs.Common.{◌≡◌, ℕ, ◌+◌, ◌-◌, ◌*◌, ◌/◌, ◌%◌, ◌<◌, ◌≤◌, Bool, true, false, not, cond, eqb, ltb, ◌&&◌, ◌||◌, refl, sym, ap, ◌∙◌, arith, List, length, get_or, replicate, bit_and}
+use Rattle.std.proofs.Common.{◌≡◌, ℕ, ◌+◌, ◌-◌, ◌*◌, ◌/◌, ◌%◌, ◌<◌, ◌≤◌, Bool, true, false, not, cond, eqb, ltb, ◌&&◌, ◌||◌, refl, ap, ◌∙◌, arith, List, length, get_or, replicate, bit_and}
 use Rattle.std.specs.Int.{bit_at}
 use lib.Lanes.{zip2, chunk, put_chunk}
-use Rattle.std.proofs.lemmas.Simd.{get_or-zip2, get_or-chunk, length-zip2, length-chunk}
+use Rattle.std.proofs.lemmas.Simd.{get_or-zip2, get_or-chunk, length-chunk}
 use Rattle.std.proofs.lemmas.Bool.Decides.{nat_tests}
 use Rattle.std.proofs.lemmas.Nat.Bits.{bit_at-zero}
 use Rattle.std.proofs.lemmas.List.{get_or-replicate, length-replicate}
@@ -21,6 +21,7 @@ use Rattle.vp_dots.proofs.Words.{and_true}
 use Rattle.vp_page.specs.declared.line.TheConstants.{LINE_DOTS}
 use Rattle.vp_page.specs.declared.page.TheConstants.{PAPER_DOTS}
 use Rattle.vp_page.specs.Areas.{holds}
+use Rattle.vp_page.proofs.WordsOnRows.{long_on}
 use Rattle.vp_page.specs.declared.area.Area.{Area}
 
 -- what was painted black nowhere
@@ -35,14 +36,11 @@ pub none_black : (line : List ℕ) (w m dots from k : ℕ) → bit_and w m ≡ 0
     → ((x : ℕ) → x < 64 → word_dot w x ≡ (ltb (from + x) LINE_DOTS && dot line (from + x))) → k < 64 → k < dots → from + k < LINE_DOTS → dot line (from + k) ≡ false
 none_black line w m dots from k e p q h l r = grind (arith, lt-ltb, and_true, both_dot, white_dot)
 
-module _ (kept row : List ℕ) (i n : ℕ) (there : i + n ≤ length kept) (room : i + n ≤ length row) where
-  kept_lane : (j k : ℕ) → j < n → k < 8 → bit (get_or (zip2 bit_and (chunk i n row) (chunk i n kept)) j 0) k ≡ cond (not (dot kept (8 * (i + j) + (7 - k)))) false (bit (get_or row (i + j) 0) k)
-  kept_lane j k m h = grind (arith, get_or-zip2, get_or-chunk, length-chunk, bit_of_and, dot_at)
-
-  -- some bytes of a row, of which the kept dots stay
-  pub kept_bytes : Painted White (λ d. span i (i + n) (d / 8) && not (dot kept d)) row (put_chunk i row (zip2 bit_and (chunk i n row) (chunk i n kept)))
-  kept_bytes = painted_block White (λ d. not (dot kept d)) i n row _
-      (length-zip2 bit_and (chunk i n row) (chunk i n kept) (length-chunk i n row room ∙ sym (length-chunk i n kept there)) ∙ length-chunk i n row room) room (λ j m k h. kept_lane j k m h)
+-- some bytes of a row, of which the kept dots stay
+pub kept_bytes : (kept row : List ℕ) (i n : ℕ) → i + n ≤ length kept → i + n ≤ length row
+    → Painted White (λ d. span i (i + n) (d / 8) && not (dot kept d)) row (put_chunk i row (zip2 bit_and (chunk i n row) (chunk i n kept)))
+kept_bytes kept row i n there room = painted_block White (λ d. not (dot kept d)) i n row _ (long_on bit_and row _ i n room (length-chunk i n kept there)) room
+    (λ j m k h. grind (arith, get_or-zip2, get_or-chunk, length-chunk, bit_of_and, dot_at))
 
 -- sixteen more bytes
 pub kept_more : (k d : ℕ) (b : Bool) → (ltb (d / 8) (16 * (k + 1)) && b) ≡ ((ltb (d / 8) (16 * k) && b) || (span (16 * k) (16 * k + 16) (d / 8) && b))

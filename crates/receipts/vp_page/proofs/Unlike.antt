@@ -1,52 +1,33 @@
 -- Where lines change along themselves.
-use Rattle.std.proofs.Common.{bit_or, bit_and, ◌≡◌, ℕ, ◌+◌, ◌-◌, ◌*◌, ◌/◌, ◌<◌, ◌≤◌, ◌^◌, Bool, inl, inr, true, false, cond, ltb, leb, ◌&&◌, ◌||◌, refl, sym, ap, ◌∙◌, arith, List, [], length, get_or, take, drop, zero, suc}
+use Rattle.std.proofs.Common.{bit_or, bit_and, ◌≡◌, ℕ, ◌+◌, ◌-◌, ◌*◌, ◌/◌, ◌<◌, ◌≤◌, ◌^◌, Bool, inl, inr, true, false, ltb, leb, ◌&&◌, ◌||◌, refl, ap, ◌∙◌, arith, List, [], length, get_or, take, drop, zero, suc}
 use Rattle.std.specs.Int.RustNames.{bit_xor}
 use lib.Lanes.{zip2, chunk, put_chunk}
 use Rattle.std.proofs.lemmas.List.{get_or-drop, get_or-take, length-drop, length-take}
-use Rattle.std.proofs.lemmas.Simd.{get_or-zip2, get_or-chunk, length-zip2, length-chunk}
+use Rattle.std.proofs.lemmas.Simd.{get_or-chunk, length-chunk}
 use Rattle.std.proofs.lemmas.Bool.Decides.{nat_tests}
 use Rattle.std.proofs.lemmas.Bool.{and_parts, cases_lt, lt-ltb, le-leb, true≢false}
 use Rattle.vp_dots.specs.Dots.{bit, dot, span}
 use Rattle.vp_dots.specs.Words.{word_dot}
 use Rattle.vp_dots.specs.Painting.{Painted}
 use Rattle.vp_dots.specs.declared.Op.TheVariants.{Black}
-use Rattle.vp_dots.proofs.Bits.{bit_of_or, bit_of_xor}
-use Rattle.vp_dots.proofs.Blocks.{painted_block}
+use Rattle.vp_dots.proofs.Bits.{bit_of_xor}
 use Rattle.vp_dots.proofs.Cuts.{all_bits}
 use Rattle.vp_dots.proofs.Rows.{dot_at}
 use Rattle.vp_dots.proofs.Words.{word_shr}
 use Rattle.vp_page.specs.declared.line.TheConstants.{LINE_DOTS}
 use Rattle.vp_page.proofs.Alike.{both_dot}
 use Rattle.vp_page.proofs.Squares.{no_line}
+use Rattle.vp_page.proofs.WordsOnRows.{byte_on, bytes_on, long_on}
 use Rattle.vp_page.specs.Lines.{changes_at, line_dot}
 
 -- n bytes of a row, blackened where a line isn't as the byte before
-module _ (line row : List ℕ) (i n : ℕ) (behind : 0 < i) (there : i + n ≤ length line) (room : i + n ≤ length row) where
-  abbrev differ : List ℕ
-  differ = zip2 bit_xor (chunk i n line) (chunk (i - 1) n line)
-
-  long_before : length (chunk (i - 1) n line) ≡ n
-  long_before = length-chunk (i - 1) n line (omega arith)
-
-  long_differ : length differ ≡ n
-  long_differ = length-zip2 bit_xor (chunk i n line) (chunk (i - 1) n line) (length-chunk i n line there ∙ sym long_before) ∙ length-chunk i n line there
-
-  differs : (j : ℕ) → j < n → get_or differ j 0 ≡ bit_xor (get_or line (i + j) 0) (get_or line (i - 1 + j) 0)
-  differs j p = get_or-zip2 bit_xor (chunk i n line) (chunk (i - 1) n line) j 0 0 0 (omega (arith, length-chunk i n line there)) (omega (arith, long_before))
-      ∙ ap (λ x. bit_xor x (get_or (chunk (i - 1) n line) j 0)) (get_or-chunk i n line j 0 p) ∙ ap (bit_xor (get_or line (i + j) 0)) (get_or-chunk (i - 1) n line j 0 p)
-
-  changed_lane : (j k : ℕ) → j < n → k < 8 → bit (get_or (zip2 bit_or (chunk i n row) differ) j 0) k ≡ cond (changes_at line (8 * (i + j) + (7 - k))) true (bit (get_or row (i + j) 0) k)
-  changed_lane j k p h =
-      let before : 8 * (i + j) + (7 - k) - 8 ≡ 8 * (i - 1 + j) + (7 - k) = omega arith in
-      ap (λ x. bit x k) (get_or-zip2 bit_or (chunk i n row) differ j 0 0 0 (omega (arith, length-chunk i n row room)) (omega (arith, long_differ))
-      ∙ ap (λ x. bit_or x (get_or differ j 0)) (get_or-chunk i n row j 0 p) ∙ ap (bit_or (get_or row (i + j) 0)) (differs j p))
-      ∙ bit_of_or (get_or row (i + j) 0) (bit_xor (get_or line (i + j) 0) (get_or line (i - 1 + j) 0)) k
-      ∙ ap (λ b. cond b true (bit (get_or row (i + j) 0) k)) (bit_of_xor (get_or line (i + j) 0) (get_or line (i - 1 + j) 0) k
-      ∙ rw (le-leb 8 (8 * (i + j) + (7 - k)) (omega arith), before, dot_at line (i + j) k h, dot_at line (i - 1 + j) k h) refl)
-
-  pub changes_painted : Painted Black (λ u. span i (i + n) (u / 8) && changes_at line u) row (put_chunk i row (zip2 bit_or (chunk i n row) differ))
-  changes_painted = painted_block Black (changes_at line) i n row _
-      (length-zip2 bit_or (chunk i n row) differ (length-chunk i n row room ∙ sym long_differ) ∙ length-chunk i n row room) room (λ j m k h. changed_lane j k m h)
+pub changes_painted : (line row : List ℕ) (i n : ℕ) → 0 < i → i + n ≤ length line → i + n ≤ length row
+    → Painted Black (λ u. span i (i + n) (u / 8) && changes_at line u) row (put_chunk i row (zip2 bit_or (chunk i n row) (zip2 bit_xor (chunk i n line) (chunk (i - 1) n line))))
+changes_painted line row i n behind there room =
+    let long = length-chunk (i - 1) n line (omega arith) in
+    bytes_on (changes_at line) row _ i n room (long_on bit_xor line _ i n there long)
+    (λ j k p h. ap (λ x. bit x k) (byte_on bit_xor line _ i n there long j p ∙ ap (bit_xor (get_or line (i + j) 0)) (get_or-chunk (i - 1) n line j 0 p))
+    ∙ bit_of_xor (get_or line (i + j) 0) (get_or line (i - 1 + j) 0) k ∙ grind (arith, le-leb, dot_at line (i + j) k h, dot_at line (i - 1 + j) k h))
 
 word_here : (line : List ℕ) (w x : ℕ) → ((x : ℕ) → x < 64 → word_dot w x ≡ dot line (8 * 0 + x)) → x < 64 → bit w (63 - x) ≡ dot line x
 word_here line w x is h = let e = is x h in grind (arith, lt-ltb)

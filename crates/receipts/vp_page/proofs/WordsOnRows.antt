@@ -1,5 +1,5 @@
 -- Words painted on rows of the page.
-use Rattle.std.proofs.Common.{min, ◌≡◌, ℕ, ◌+◌, ◌-◌, ◌*◌, ◌/◌, ◌%◌, ◌^◌, ◌<◌, ◌≤◌, Bool, true, false, cond, eqb, ltb, leb, ◌&&◌, ◌||◌, refl, sym, ap, ◌∙◌, arith, List, bit_and, bit_or, length, get_or, set}
+use Rattle.std.proofs.Common.{min, ◌≡◌, ℕ, ◌+◌, ◌-◌, ◌*◌, ◌/◌, ◌%◌, ◌^◌, ◌<◌, ◌≤◌, Bool, true, false, cond, eqb, ltb, leb, ◌&&◌, ◌||◌, sym, ap, ◌∙◌, arith, List, bit_and, bit_or, length, get_or, set}
 use lib.Lanes.{zip2, chunk, put_chunk}
 use Rattle.std.specs.Int.{to_be_bytes, w64}
 use Rattle.std.proofs.lemmas.Simd.{get_or-zip2, get_or-chunk, length-zip2, length-chunk}
@@ -19,8 +19,38 @@ use Rattle.vp_dots.proofs.Rows.{dot_at}
 use Rattle.vp_page.specs.declared.page.TheConstants.{PAPER_DOTS}
 use Rattle.vp_page.proofs.Rows.{dot_past}
 
-spanned : (i d : ℕ) (b : Bool) → (span i (i + 8) (d / 8) && (leb (8 * i) d && (ltb (d - 8 * i) 64 && b))) ≡ (leb (8 * i) d && (ltb (d - 8 * i) 64 && b))
-spanned i d b = grind (arith, nat_tests)
+-- some bytes of a row, each with a byte on it
+module _ (f : ℕ → ℕ → ℕ) (row ys : List ℕ) (i n : ℕ) (room : i + n ≤ length row) (long : length ys ≡ n) where
+  pub long_on : length (zip2 f (chunk i n row) ys) ≡ n
+  long_on = length-zip2 f (chunk i n row) ys (length-chunk i n row room ∙ sym long) ∙ length-chunk i n row room
+
+  pub byte_on : (j : ℕ) → j < n → get_or (zip2 f (chunk i n row) ys) j 0 ≡ f (get_or row (i + j) 0) (get_or ys j 0)
+  byte_on j h = grind (arith, get_or-zip2, get_or-chunk, length-chunk)
+
+-- some bytes of a row, blackened where others are black
+pub bytes_on : (ink : ℕ → Bool) (row ys : List ℕ) (i n : ℕ) → i + n ≤ length row → length ys ≡ n → ((j k : ℕ) → j < n → k < 8 → bit (get_or ys j 0) k ≡ ink (8 * (i + j) + (7 - k)))
+    → Painted Black (λ d. span i (i + n) (d / 8) && ink d) row (put_chunk i row (zip2 bit_or (chunk i n row) ys))
+bytes_on ink row ys i n room long e = painted_block Black ink i n row _ (long_on bit_or row ys i n room long) room (λ j m k h. ap (λ x. bit x k) (byte_on bit_or row ys i n room long j m)
+    ∙ bit_of_or (get_or row (i + j) 0) (get_or ys j 0) k ∙ ap (λ b. cond b true (bit (get_or row (i + j) 0) k)) (e j k m h))
+
+-- eight bytes with eight bytes of a line on them
+pub bytes_painted : (line : List ℕ) (j i : ℕ) (row : List ℕ) → j + 8 ≤ length line → i + 8 ≤ length row
+    → Painted Black (λ d. leb (8 * i) d && (ltb (d - 8 * i) 64 && dot line (8 * j + (d - 8 * i)))) row (put_chunk i row (zip2 bit_or (chunk i 8 row) (chunk j 8 line)))
+bytes_painted line j i row there room = painted_same Black _ _ _ _ (λ d l. grind (arith, nat_tests))
+    (bytes_on (λ d. leb (8 * i) d && (ltb (d - 8 * i) 64 && dot line (8 * j + (d - 8 * i)))) row _ i 8 room (length-chunk j 8 line there) (λ n k p h. ap (λ x. bit x k) (get_or-chunk j 8 line n 0 p)
+    ∙ grind (arith, nat_tests, dot_at line (j + n) k h)))
+
+-- sixteen bytes with those of other bytes on them
+pub sixteen_painted : (line : List ℕ) (i : ℕ) (row : List ℕ) → i + 16 ≤ length line → i + 16 ≤ length row
+    → Painted Black (λ d. span i (i + 16) (d / 8) && dot line d) row (put_chunk i row (zip2 bit_or (chunk i 16 row) (chunk i 16 line)))
+sixteen_painted line i row there room = bytes_on (dot line) row _ i 16 room (length-chunk i 16 line there) (λ n k p h. ap (λ x. bit x k) (get_or-chunk i 16 line n 0 p) ∙ sym (dot_at line (i + n) k h))
+
+-- sixteen bytes with sixteen bytes of a line on them, turned end for end
+pub turned_painted : (line lanes : List ℕ) (j i : ℕ) (row : List ℕ) → j + 16 ≤ length line → i + 16 ≤ length row → length lanes ≡ 16
+    → ((n k : ℕ) → n < 16 → k < 8 → bit (get_or lanes n 0) k ≡ bit (get_or line (j + (15 - n)) 0) (7 - k))
+    → Painted Black (λ d. leb (8 * i) d && (ltb (d - 8 * i) 128 && dot line (8 * j + (127 - (d - 8 * i))))) row (put_chunk i row (zip2 bit_or (chunk i 16 row) lanes))
+turned_painted line lanes j i row there room sixteen turned = painted_same Black _ _ _ _ (λ d l. grind (arith, nat_tests))
+    (bytes_on (λ d. leb (8 * i) d && (ltb (d - 8 * i) 128 && dot line (8 * j + (127 - (d - 8 * i))))) row lanes i 16 room sixteen (λ n k p h. grind (arith, nat_tests, turned n k, dot_at line (j + (15 - n)) (7 - k))))
 
 -- a byte with a mask on it
 pub byte_painted : (mask i : ℕ) (row : List ℕ) → i < length row → Painted Black (λ d. eqb (d / 8) i && bit mask (7 - d % 8)) row (set row i (bit_or (get_or row i 0) mask))
@@ -44,27 +74,6 @@ first_eight word far d = grind (arith, le-leb, lt-ltb, bit_low64, bit_shl, lt-le
 pub half_dot : (word mask skip x : ℕ) → ((d : ℕ) → word_dot mask d ≡ ltb d 32) → word_dot (bit_and (word * 2 ^ skip % 2 ^ 64) mask) x ≡ (ltb x 32 && word_dot word (x + skip))
 half_dot word mask skip x left = grind (arith, bit_of_and, bit_low64, bit_shl, left x)
 
-module _ (line : List ℕ) (j i : ℕ) (row : List ℕ) (there : j + 8 ≤ length line) (room : i + 8 ≤ length row) where
-  byte_lane : (n k : ℕ) → n < 8 → k < 8
-      → bit (get_or (zip2 bit_or (chunk i 8 row) (chunk j 8 line)) n 0) k ≡ cond (leb (8 * i) (8 * (i + n) + (7 - k)) && (ltb (8 * (i + n) + (7 - k) - 8 * i) 64 && dot line (8 * j + (8 * (i + n) + (7 - k) - 8 * i)))) true (bit (get_or row (i + n) 0) k)
-  byte_lane n k p h =
-      let place : 8 * (i + n) + (7 - k) - 8 * i ≡ 8 * n + (7 - k) = omega arith in
-      let ink : (leb (8 * i) (8 * (i + n) + (7 - k)) && (ltb (8 * (i + n) + (7 - k) - 8 * i) 64 && dot line (8 * j + (8 * (i + n) + (7 - k) - 8 * i)))) ≡ dot line (8 * j + (8 * n + (7 - k))) =
-      rw (le-leb (8 * i) (8 * (i + n) + (7 - k)) (omega arith), place, lt-ltb (8 * n + (7 - k)) 64 (omega arith)) refl in
-      let here : 8 * (j + n) + (7 - k) ≡ 8 * j + (8 * n + (7 - k)) = omega arith in
-      ap (λ x. bit x k) (get_or-zip2 bit_or (chunk i 8 row) (chunk j 8 line) n 0 0 0 (omega (arith, length-chunk i 8 row room)) (omega (arith, length-chunk j 8 line there))
-      ∙ ap (λ x. bit_or x (get_or (chunk j 8 line) n 0)) (get_or-chunk i 8 row n 0 p) ∙ ap (bit_or (get_or row (i + n) 0)) (get_or-chunk j 8 line n 0 p))
-      ∙ bit_of_or (get_or row (i + n) 0) (get_or line (j + n) 0) k
-      ∙ ap (λ b. cond b true (bit (get_or row (i + n) 0) k)) (sym (dot_at line (j + n) k h) ∙ ap (dot line) here ∙ sym ink)
-
-  bytes_long : length (zip2 bit_or (chunk i 8 row) (chunk j 8 line)) ≡ 8
-  bytes_long = length-zip2 bit_or (chunk i 8 row) (chunk j 8 line) (length-chunk i 8 row room ∙ sym (length-chunk j 8 line there)) ∙ length-chunk i 8 row room
-
-  -- eight bytes with eight bytes of a line on them
-  pub bytes_painted : Painted Black (λ d. leb (8 * i) d && (ltb (d - 8 * i) 64 && dot line (8 * j + (d - 8 * i)))) row (put_chunk i row (zip2 bit_or (chunk i 8 row) (chunk j 8 line)))
-  bytes_painted = painted_same Black _ _ _ _ (λ d l. spanned i d (dot line (8 * j + (d - 8 * i))))
-      (painted_block Black (λ d. leb (8 * i) d && (ltb (d - 8 * i) 64 && dot line (8 * j + (d - 8 * i)))) i 8 row _ bytes_long room (λ n l k m. byte_lane n k l m))
-
 -- the bytes of a word, eight of a row
 pub word_bytes : (word x : ℕ) (bytes : List ℕ) → bytes ≡ to_be_bytes w64 word → (ltb x 64 && dot bytes (8 * 0 + x)) ≡ word_dot word x
 word_bytes word x bytes e = grind (arith, word_row)
@@ -82,34 +91,6 @@ module _ (line : List ℕ) (q k d : ℕ) where
 -- a word behind the ones before it
 pub words_apart : (q k d : ℕ) (m b : Bool) → (ltb d (8 * q + 64 * k) && m && (leb (8 * (q + 8 * k)) d && b)) ≡ false
 words_apart q k d m b = grind (arith, lt-leb, and_false, le-ltb)
-
-module _ (line lanes : List ℕ) (j i : ℕ) (row : List ℕ) (there : j + 16 ≤ length line) (room : i + 16 ≤ length row) (sixteen : length lanes ≡ 16)
-    (turned : (n k : ℕ) → n < 16 → k < 8 → bit (get_or lanes n 0) k ≡ bit (get_or line (j + (15 - n)) 0) (7 - k)) where
-  turned_ink : ℕ → Bool
-  turned_ink d = leb (8 * i) d && (ltb (d - 8 * i) 128 && dot line (8 * j + (127 - (d - 8 * i))))
-
-  turned_lane : (n k : ℕ) → n < 16 → k < 8 → bit (get_or (zip2 bit_or (chunk i 16 row) lanes) n 0) k ≡ cond (turned_ink (8 * (i + n) + (7 - k))) true (bit (get_or row (i + n) 0) k)
-  unfolding turned_ink
-  turned_lane n k p h =
-      let place : 8 * (i + n) + (7 - k) - 8 * i ≡ 8 * n + (7 - k) = omega arith in
-      let here : 8 * (j + (15 - n)) + (7 - (7 - k)) ≡ 8 * j + (127 - (8 * n + (7 - k))) = omega arith in
-      let ink : (leb (8 * i) (8 * (i + n) + (7 - k)) && (ltb (8 * (i + n) + (7 - k) - 8 * i) 128 && dot line (8 * j + (127 - (8 * (i + n) + (7 - k) - 8 * i))))) ≡ dot line (8 * j + (127 - (8 * n + (7 - k)))) =
-      rw (le-leb (8 * i) (8 * (i + n) + (7 - k)) (omega arith), place, lt-ltb (8 * n + (7 - k)) 128 (omega arith)) refl in
-      ap (λ x. bit x k) (get_or-zip2 bit_or (chunk i 16 row) lanes n 0 0 0 (omega (arith, length-chunk i 16 row room)) (omega (arith, sixteen)) ∙ ap (λ x. bit_or x (get_or lanes n 0)) (get_or-chunk i 16 row n 0 p))
-      ∙ bit_of_or (get_or row (i + n) 0) (get_or lanes n 0) k
-      ∙ ap (λ b. cond b true (bit (get_or row (i + n) 0) k)) (turned n k p h ∙ sym (dot_at line (j + (15 - n)) (7 - k) (omega arith)) ∙ ap (dot line) here ∙ sym ink)
-
-  turned_spanned : (d : ℕ) (b : Bool) → (span i (i + 16) (d / 8) && (leb (8 * i) d && (ltb (d - 8 * i) 128 && b))) ≡ (leb (8 * i) d && (ltb (d - 8 * i) 128 && b))
-  turned_spanned d b = grind (arith, nat_tests)
-
-  turned_long : length (zip2 bit_or (chunk i 16 row) lanes) ≡ 16
-  turned_long = length-zip2 bit_or (chunk i 16 row) lanes (length-chunk i 16 row room ∙ sym sixteen) ∙ length-chunk i 16 row room
-
-  -- sixteen bytes with sixteen bytes of a line on them, turned end for end
-  pub turned_painted : Painted Black (λ d. leb (8 * i) d && (ltb (d - 8 * i) 128 && dot line (8 * j + (127 - (d - 8 * i))))) row (put_chunk i row (zip2 bit_or (chunk i 16 row) lanes))
-  unfolding turned_ink
-  turned_painted = painted_same Black _ _ _ _ (λ d l. turned_spanned d (dot line (8 * j + (127 - (d - 8 * i)))))
-      (painted_block Black turned_ink i 16 row _ turned_long room (λ n l k m. turned_lane n k l m))
 
 -- bytes of a line that is turned end for end: those before a place, and more
 module _ (q n d : ℕ) (line : List ℕ) where
@@ -130,19 +111,6 @@ module _ (q n d : ℕ) (line : List ℕ) where
 -- before the first ones
 pub words_none : (q d : ℕ) (b : Bool) → (ltb d (8 * q + 64 * 0) && (leb (8 * q) d && b)) ≡ false
 words_none q d b = grind (arith, nat_tests)
-
--- sixteen bytes with those of other bytes on them
-module _ (line : List ℕ) (i : ℕ) (row : List ℕ) (there : i + 16 ≤ length line) (room : i + 16 ≤ length row) where
-  line_lane : (n k : ℕ) → n < 16 → k < 8 → bit (get_or (zip2 bit_or (chunk i 16 row) (chunk i 16 line)) n 0) k ≡ cond (dot line (8 * (i + n) + (7 - k))) true (bit (get_or row (i + n) 0) k)
-  line_lane n k p h =
-      ap (λ x. bit x k) (get_or-zip2 bit_or (chunk i 16 row) (chunk i 16 line) n 0 0 0 (omega (arith, length-chunk i 16 row room)) (omega (arith, length-chunk i 16 line there))
-      ∙ ap (λ x. bit_or x (get_or (chunk i 16 line) n 0)) (get_or-chunk i 16 row n 0 p) ∙ ap (bit_or (get_or row (i + n) 0)) (get_or-chunk i 16 line n 0 p))
-      ∙ bit_of_or (get_or row (i + n) 0) (get_or line (i + n) 0) k
-      ∙ ap (λ b. cond b true (bit (get_or row (i + n) 0) k)) (sym (dot_at line (i + n) k h))
-
-  pub sixteen_painted : Painted Black (λ d. span i (i + 16) (d / 8) && dot line d) row (put_chunk i row (zip2 bit_or (chunk i 16 row) (chunk i 16 line)))
-  sixteen_painted = painted_block Black (dot line) i 16 row _
-      (length-zip2 bit_or (chunk i 16 row) (chunk i 16 line) (length-chunk i 16 row room ∙ sym (length-chunk i 16 line there)) ∙ length-chunk i 16 row room) room (λ n l k m. line_lane n k l m)
 
 -- sixteen more bytes
 pub sixteen_more : (i k d : ℕ) (b : Bool) → (span i (i + 16 * (k + 1)) (d / 8) && b) ≡ ((span i (i + 16 * k) (d / 8) && b) || (span (i + 16 * k) (i + 16 * k + 16) (d / 8) && b))

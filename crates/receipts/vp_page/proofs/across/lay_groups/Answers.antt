@@ -1,16 +1,14 @@
 use Rattle.std.proofs.lemmas.Bool.Decides.{nat_tests}
-use Rattle.std.proofs.Common.{◌≡◌, ◌+◌, ◌-◌, ◌*◌, ◌<◌, ◌&&◌, ap, length, arith}
-use Rattle.std.proofs.lemmas.Bool.{le-ltb}
+use Rattle.std.proofs.Common.{◌≡◌, ◌+◌, ◌-◌, ◌*◌, ◌<◌, length, arith}
 use Rattle.vp_dots.specs.Dots.{span}
-use Rattle.vp_dots.specs.declared.Op.TheVariants.{Black}
 use Rattle.vp_page.specs.Areas.{holds}
 use Rattle.vp_page.specs.Runs.{along_of, depth_of}
-use Rattle.vp_page.proofs.Rows.{rows_same, rows_then}
-use Rattle.vp_page.proofs.Stretches.{group_right, more_in, groups_right, no_group}
+use Rattle.vp_page.proofs.Rows.{rows_then}
+use Rattle.vp_page.proofs.Stretches.{group_right, more_in, groups_right}
 use Rattle.vp_page.proofs.across.lay_groups.Goals as goal
 
 pub loop-k-init : goal.loop-k-init
-loop-k-init g c = grind (arith, nat_tests, le-ltb, no_group)
+loop-k-init g c = grind arith
 
 pub loop-k-preserved : goal.loop-k-preserved
 loop-k-preserved g c =
@@ -26,5 +24,4 @@ loop-k-preserved g c =
     rw next (rows_then _ _ _ _ _ _ (λ x y. more_in (span from (from + c.args.rows) (along_of a way y)) (holds a x y) _ _ _ (group_right lines at n (along_of a way y) (depth_of a way x) some (omega (arith, c.min.ensures)) v)) c.loop-k.invariant c.lay_group.ensures)
 
 pub returns : goal.returns
-returns g c = rows_same Black _ _ _ _ (λ x y _. ap (λ b. span c.args.from (c.args.from + c.args.rows) (along_of c.args.area c.args.way y) && (holds c.args.area x y && b))
-    (groups_right c.args.lines.now c.args.v (depth_of c.args.area c.args.way x) (64 * c.loop-k.k) (along_of c.args.area c.args.way y) (omega arith))) c.loop-k.invariant
+returns g c = grind (arith, nat_tests, groups_right)

@@ -2,7 +2,7 @@ use Rattle.std.proofs.lemmas.Bool.Decides.{nat_tests}
 use Rattle.std.proofs.Common.{◌≡◌, ◌+◌, ◌-◌, ◌*◌, ◌/◌, false, cond, ap, arith, length, ◌∙◌}
 use Rattle.vp_dots.specs.Dots.{dot, span}
 use Rattle.vp_dots.proofs.Paints.{painted_none}
-use Rattle.vp_page.proofs.PageRows.{clipped_left, none_before, moved_left_word, row_made, whole_left, word_apart, word_more}
+use Rattle.vp_page.proofs.PageRows.{clipped_left, none_before, row_made, whole_left}
 use Rattle.vp_page.proofs.along.row_left.Goals as goal
 
 pub returns-then-is_whole : goal.returns-then-is_whole
@@ -14,7 +14,7 @@ pub loop-i-init : goal.loop-i-init
 loop-i-init c = painted_none _ _ _ (λ d l. none_before (c.args.begin / 64) d _)
 
 pub loop-i-preserved : goal.loop-i-preserved
-loop-i-preserved c = grind (arith, nat_tests, moved_left_word, word_apart, word_more)
+loop-i-preserved c = grind (arith, nat_tests)
 
 pub returns : goal.returns
 returns c = λ x h.

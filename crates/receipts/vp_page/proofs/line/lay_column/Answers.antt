@@ -1,13 +1,12 @@
 use Rattle.std.proofs.lemmas.Bool.Decides.{nat_tests}
 use Rattle.std.proofs.Common.{arith}
-use Rattle.vp_page.proofs.Lines.{no_column, word_of_column}
 use Rattle.vp_page.proofs.line.lay_column.Goals as goal
 
 pub loop-k-init : goal.loop-k-init
-loop-k-init g c = grind (arith, nat_tests, no_column)
+loop-k-init g c = grind arith
 
 pub loop-k-preserved : goal.loop-k-preserved
-loop-k-preserved g c = grind (arith, nat_tests, word_of_column)
+loop-k-preserved g c = grind (arith, nat_tests)
 
 pub returns : goal.returns
-returns g c = grind (arith, nat_tests, no_column)
+returns g c = grind arith

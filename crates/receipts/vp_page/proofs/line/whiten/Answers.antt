@@ -1,4 +1,3 @@
-use Rattle.std.proofs.lemmas.Bool.Decides.{nat_tests}
 use Rattle.std.proofs.Common.{◌≡◌, ◌+◌, ◌&&◌, ◌∙◌, sym, ap, arith, [], length, get_or}
 use Rattle.vp_dots.specs.Dots.{dot, span}
 use Rattle.vp_dots.specs.declared.Op.TheVariants.{White}
@@ -6,11 +5,10 @@ use Rattle.vp_dots.proofs.Paints.{painted_same}
 use Rattle.vp_dots.proofs.Placing.{rows_more}
 use Rattle.vp_page.proofs.Alike.{wiped_dot}
 use Rattle.vp_page.specs.Areas.{holds}
-use Rattle.vp_page.proofs.Whites.{none_above, none_below}
 use Rattle.vp_page.proofs.line.whiten.Goals as goal
 
 pub loop-i-init : goal.loop-i-init
-loop-i-init g c = grind (arith, nat_tests, none_above)
+loop-i-init g c = grind arith
 
 pub loop-i-preserved : goal.loop-i-preserved
 loop-i-preserved g c =
@@ -25,4 +23,4 @@ loop-i-preserved g c =
     (rw (sym c.row_mut.ensures.value) c.keep.ensures)))
 
 pub returns : goal.returns
-returns g c = grind (arith, nat_tests, none_below)
+returns g c = grind arith

@@ -1,4 +1,3 @@
-use Rattle.std.proofs.lemmas.Bool.Decides.{nat_tests}
 use Rattle.std.proofs.Common.{◌∙◌, sym, arith}
 use Rattle.std.proofs.lemmas.Bool.{lt-ltb}
 use Rattle.vp_dots.proofs.Columns.{white_dot}
@@ -12,4 +11,4 @@ pub returns-in-Black : goal.returns-in-Black
 returns-in-Black c = λ i h. all_bits i ∙ lt-ltb i 64 (omega (arith, h, c.requires.few)) ∙ sym ((rw c.in-Black.is at c.requires.shade) i h)
 
 pub returns-in-Mixed : goal.returns-in-Mixed
-returns-in-Mixed c = λ i h. grind (arith, nat_tests)
+returns-in-Mixed c = λ i h. grind arith

@@ -1,6 +1,5 @@
-use Rattle.std.proofs.lemmas.Bool.Decides.{nat_tests}
 use Rattle.std.proofs.Common.{refl, sym, arith}
-use Rattle.std.proofs.lemmas.Bool.{lt-ltb, and_parts, ltb-true}
+use Rattle.std.proofs.lemmas.Bool.{lt-ltb}
 use Rattle.vp_dots.specs.Dots.{dot}
 use Rattle.vp_page.specs.Layers.{times_mark}
 use Rattle.vp_page.proofs.Pages.{rows_make_an_image}
@@ -13,4 +12,4 @@ loop-k-preserved g c = λ layers page.
     (c.lay_row.ensures _ (c.loop-k.invariant layers page))
 
 pub returns : goal.returns
-returns g c = λ layers page. grind (arith, nat_tests, and_parts, ltb-true, rows_make_an_image)
+returns g c = λ layers page. grind arith

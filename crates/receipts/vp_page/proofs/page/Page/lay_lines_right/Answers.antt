@@ -1,7 +1,6 @@
-use Rattle.std.proofs.lemmas.Bool.Decides.{nat_tests}
 use Rattle.std.proofs.Common.{arith}
 use Rattle.vp_page.proofs.Marks.{right_mark}
 use Rattle.vp_page.proofs.page.Page.lay_lines_right.Goals as goal
 
 pub returns : goal.returns
-returns g c = λ layers page. grind (arith, nat_tests, right_mark)
+returns g c = λ layers page. grind (arith, right_mark)

@@ -1,3 +1,4 @@
+use Rattle.std.proofs.lemmas.Bool.Decides.{nat_tests}
 use Rattle.std.proofs.Common.{◌≡◌, ◌∙◌, ap, sym, subst, refl, arith}
 use Rattle.vp_page.proofs.Pages.{laid}
 use Rattle.vp_page.proofs.Columns.{across_mark}
@@ -8,7 +9,6 @@ use Rattle.vp_page.specs.Layers.{lines_mark}
 use Rattle.vp_page.specs.Pages.{HasPage}
 use Rattle.vp_page.specs.declared.area.Direction.TheVariants.{BottomToTop, TopToBottom}
 use Rattle.vp_page.specs.declared.area.Way.TheVariants.{Up, Down}
-use Rattle.vp_page.proofs.Whites.{laid_on}
 use Rattle.vp_page.proofs.page.Page.lay_long.Goals as goal
 
 pub returns-in-BottomToTop : goal.returns-in-BottomToTop
@@ -28,12 +28,10 @@ returns-in-TopToBottom g c = λ layers page.
     c.lay_lines-in-TopToBottom.ensures (omega (arith, c.saturating_add-count.ensures, c.min-shown.ensures, room)) refl)
 
 pub invariant_of-self : goal.invariant_of-self
-invariant_of-self g c = laid_on _ c.self.inside.laid _ _ c.self.inside.band _ c.self.invariant c.lay_lines.ensures c.with-self-inside.ensures.within c.with-self-inside.ensures.these
-    (λ x y h e. c.with-self-inside.ensures.others y h (rw c.of.ensures (in_area c.args.area x y _ e)))
+invariant_of-self g c = grind (arith, nat_tests, in_area)
 
 pub invariant_of-self-in-TopToBottom : goal.invariant_of-self-in-TopToBottom
-invariant_of-self-in-TopToBottom g c = laid_on _ c.self.inside.laid _ _ c.self.inside.band _ c.self.invariant c.lay_lines-in-TopToBottom.ensures c.with-self-inside-in-TopToBottom.ensures.within c.with-self-inside-in-TopToBottom.ensures.these
-    (λ x y h e. c.with-self-inside-in-TopToBottom.ensures.others y h (rw c.of-in-TopToBottom.ensures (in_area c.args.area x y _ e)))
+invariant_of-self-in-TopToBottom g c = grind (arith, nat_tests, in_area)
 
 pub lay_lines-requires-clause-white : goal.lay_lines-requires-clause-white
 lay_lines-requires-clause-white g c = λ i u h. shown_white c.args.lines.now _ i u (c.requires.white i u h)

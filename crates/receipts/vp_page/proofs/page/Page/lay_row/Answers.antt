@@ -19,7 +19,7 @@ invariant_of-self g c =
     (λ x y h e. c.with-self-inside.ensures.others y h (rw c.in-LeftToRight.is at c.fallen.ensures row x y (sym (right_same a c.args.v row deep x y) ∙ e)))
 
 pub returns-in-LeftToRight : goal.returns-in-LeftToRight
-returns-in-LeftToRight g c = λ layers page. grind (arith, nat_tests, right_same)
+returns-in-LeftToRight g c = λ layers page. grind (arith, nat_tests)
 
 pub invariant_of-self-in-BottomToTop : goal.invariant_of-self-in-BottomToTop
 invariant_of-self-in-BottomToTop g c =
@@ -30,7 +30,7 @@ invariant_of-self-in-BottomToTop g c =
     (λ x y h e. c.with-self-inside.ensures.others y h (rw c.in-BottomToTop.is at c.fallen.ensures row x y (sym (up_same a c.args.v row deep x y) ∙ e)))
 
 pub returns-in-BottomToTop : goal.returns-in-BottomToTop
-returns-in-BottomToTop g c = λ layers page. grind (arith, nat_tests, up_same)
+returns-in-BottomToTop g c = λ layers page. grind (arith, nat_tests)
 
 pub invariant_of-self-in-RightToLeft : goal.invariant_of-self-in-RightToLeft
 invariant_of-self-in-RightToLeft g c =
@@ -41,7 +41,7 @@ invariant_of-self-in-RightToLeft g c =
     (λ x y h e. c.with-self-inside.ensures.others y h (rw c.in-RightToLeft.is at c.fallen.ensures row x y (sym (left_same a c.args.v row deep x y) ∙ e)))
 
 pub returns-in-RightToLeft : goal.returns-in-RightToLeft
-returns-in-RightToLeft g c = λ layers page. grind (arith, nat_tests, left_same)
+returns-in-RightToLeft g c = λ layers page. grind (arith, nat_tests)
 
 pub invariant_of-self-in-TopToBottom : goal.invariant_of-self-in-TopToBottom
 invariant_of-self-in-TopToBottom g c =
@@ -52,4 +52,4 @@ invariant_of-self-in-TopToBottom g c =
     (λ x y h e. c.with-self-inside.ensures.others y h (rw c.in-TopToBottom.is at c.fallen.ensures row x y (sym (down_same a c.args.v row deep x y) ∙ e)))
 
 pub returns-in-TopToBottom : goal.returns-in-TopToBottom
-returns-in-TopToBottom g c = λ layers page. grind (arith, nat_tests, down_same)
+returns-in-TopToBottom g c = λ layers page. grind (arith, nat_tests)
