@@ -46,14 +46,6 @@ kept_bytes kept row i n there room = painted_block White (λ d. not (dot kept d)
 pub kept_more : (k d : ℕ) (b : Bool) → (ltb (d / 8) (16 * (k + 1)) && b) ≡ ((ltb (d / 8) (16 * k) && b) || (span (16 * k) (16 * k + 16) (d / 8) && b))
 kept_more k d b = grind (arith, nat_tests)
 
--- some bytes behind the ones before them
-pub kept_apart : (i n d : ℕ) (b : Bool) → ((ltb (d / 8) i && b) && (span i (i + n) (d / 8) && b)) ≡ false
-kept_apart i n d b = grind (arith, nat_tests)
-
--- the last eight
-pub kept_last : (d : ℕ) (b : Bool) → d < PAPER_DOTS → b ≡ ((ltb (d / 8) 64 && b) || (span 64 72 (d / 8) && b))
-kept_last d b h = grind (arith, nat_tests)
-
 pub none_kept : (d : ℕ) (b : Bool) → (ltb (d / 8) (16 * 0) && b) ≡ false
 none_kept d b = grind (arith, nat_tests)
 
@@ -84,10 +76,3 @@ and_all b = grind arith
 pub white_block : (i : ℕ) (row : List ℕ) → i + 64 ≤ length row → Painted White (λ d. span i (i + 64) (d / 8)) row (put_chunk i row (replicate 64 0))
 white_block i row room = painted_same White (λ d. span i (i + 64) (d / 8) && true) (λ d. span i (i + 64) (d / 8)) row _ (λ d l. and_all (span i (i + 64) (d / 8)))
     (painted_block White (λ d. true) i 64 row (replicate 64 0) (length-replicate {A = ℕ} 64 0) room (λ j m k h. white_lane j k m))
-
--- the first eight bytes, where some dots are kept, and those behind them, where none is
-pub first_kept : (d : ℕ) (k : Bool) → (64 ≤ d → k ≡ false) → d < PAPER_DOTS → not k ≡ ((span 0 (0 + 8) (d / 8) && not k) || span 8 (8 + 64) (d / 8))
-first_kept d k e h = grind (arith, nat_tests, true≢false)
-
-pub first_apart : (d : ℕ) (b : Bool) → ((span 0 (0 + 8) (d / 8) && b) && span 8 (8 + 64) (d / 8)) ≡ false
-first_apart d b = grind (arith, nat_tests)

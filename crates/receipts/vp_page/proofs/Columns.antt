@@ -77,14 +77,6 @@ alike_laid a way v lines from rows top last x y long e same = grind (arith, nat_
 pub white_stretch : (a : Area) (way : Way) (v : ℕ) (lines : List (List ℕ)) (from rows x y : ℕ) → ((i u : ℕ) → from ≤ u → u < from + rows → line_dot lines i u ≡ false) → stretch_dot a way v lines from rows x y ≡ false
 white_stretch a way v lines from rows x y white = grind (arith, and_parts, leb-true, ltb-true, and_false)
 
--- a stretch of no dots
-pub no_stretch : (from u : ℕ) (b : Bool) → (span from from u && b) ≡ false
-no_stretch from u b = grind (arith, nat_tests)
-
--- some rows of a stretch are on the page if all are
-pub part_on_page : (a : Area) (way : Way) (u n from rows : ℕ) → u + n ≤ a.dy → topmost a way u n + n ≤ PAGE_ROWS → u ≤ from → from + rows ≤ u + n → topmost a way from rows + rows ≤ PAGE_ROWS
-part_on_page a way u n from rows h e p q = grind arith
-
 pub across_mark : (a : Area) (way : Way) (v n : ℕ) (lines : List (List ℕ)) → length lines ≤ AT_ONCE → n ≡ min (length lines) (a.dx - v) → (x y : ℕ)
     → lines_across a way v (take n lines) x y ≡ mark_dot (lines_mark a (across way) v lines) x y
 across_mark a way v n lines few room x y = grind (arith, nat_tests, shown_line, no_line)

@@ -24,10 +24,6 @@ pub drawn : (n width : ℕ) (f : ℕ → Bool) (old new : List ℕ) → old ≡ 
     → Painted Black (shifted (pos 0) f) old new → (x : ℕ) → dot new x ≡ f x
 drawn n width f old new e w o p x = grind (arith, length-replicate, dot_white, le-leb, dot_past, false_from_ne_true)
 
--- a column has no dot where its area has no row
-pub no_column : (ay dy k : ℕ) (e b : Bool) → (ay ≤ k → k < ay + dy → ⊥) → (e && (span ay (ay + dy) k && b)) ≡ false
-no_column ay dy k e b h = grind (arith, lt-leb, and_false, le-leb, le-ltb)
-
 -- a column without a dot
 pub nothing : (f : ℕ → ℕ → Bool) (rows : List (List ℕ)) → ((d k : ℕ) → f d k ≡ false) → RowsPainted PAGE_ROWS Black f rows rows
 nothing f rows none = record { rows_are = λ k h. painted_none Black _ (get_or rows k []) (λ d l. none d k) }
@@ -56,10 +52,3 @@ pub byte_more : (word top n m k : ℕ) (bytes : List ℕ) (e : Bool) → bytes �
     → (ltb k (top + (8 * n + m)) && (e && (leb top k && word_dot word (k - top))))
     ≡ (ltb k (top + 8 * n) && (e && (leb top k && word_dot word (k - top))) || e && (leb (top + 8 * n) k && (ltb (k - (top + 8 * n)) m && bit (get_or bytes n 0) (7 - (k - (top + 8 * n))))))
 byte_more word top n m k bytes e is h few = grind (arith, nat_tests, word_bytes word (k - top) bytes is, dot_at bytes n)
-
--- a word of a column more
-pub word_of_column : (word ay dy rows j n k : ℕ) (e : Bool) (ink : ℕ → Bool) → rows ≤ dy → 64 * j < rows → n ≡ min (rows - 64 * j) 64
-    → ((i : ℕ) → i < 64 → 64 * j + i < dy → word_dot word i ≡ ink (ay + (64 * j + i)))
-    → (ltb k (ay + min rows (64 * (j + 1))) && (e && (span ay (ay + dy) k && ink k)))
-    ≡ (ltb k (ay + min rows (64 * j)) && (e && (span ay (ay + dy) k && ink k)) || e && (leb (ay + 64 * j) k && (ltb (k - (ay + 64 * j)) n && word_dot word (k - (ay + 64 * j)))))
-word_of_column word ay dy rows j n k e ink few some is dots = grind (arith, lt-ltb, lt-leb, and_false, or_false, le-ltb, le-leb)

@@ -15,17 +15,6 @@ use Rattle.vp_page.proofs.Rows.{dot_past}
 use Rattle.vp_page.proofs.WordsOnRows.{first_eight, word_bytes}
 use Rattle.vp_page.proofs.Squares.{and_false}
 
-or_false : (b : Bool) → b ≡ (b || false)
-or_false b = grind arith
-
--- one more word of a row
-pub word_more : (ink : ℕ → Bool) (word k d : ℕ) → ((x : ℕ) → x < 64 → word_dot word x ≡ ink (64 * k + x))
-    → (ltb d (64 * (k + 1)) && ink d) ≡ ((ltb d (64 * k) && ink d) || (leb (8 * (8 * k)) d && word_dot word (d - 8 * (8 * k))))
-word_more ink word k d e = grind (arith, lt-ltb, lt-leb, or_false, le-ltb, le-leb)
-
-pub word_apart : (k d : ℕ) (a b : Bool) → ((ltb d (64 * k) && a) && (leb (8 * (8 * k)) d && b)) ≡ false
-word_apart k d a b = grind (arith, lt-leb, and_false, le-ltb)
-
 pub on_white : (b o : Bool) → o ≡ false → cond b true o ≡ b
 on_white b o e = grind arith
 
@@ -64,15 +53,6 @@ front line n u = grind (arith, lt-ltb, get_or-take, le-ltb, dot_past, length-tak
 pub whole_right : (line : List ℕ) (begin long x : ℕ) → begin % 8 ≡ 0 → long % 64 ≡ 0
     → (leb (8 * (begin / 8)) x && dot (take (long / 8) line) (x - 8 * (begin / 8))) ≡ (leb begin x && (ltb (x - begin) long && dot line (x - begin)))
 whole_right line begin long x b w = grind (arith, front)
-
--- a word of a row, counted from the first one that a line reaches
-pub moved_right_word : (begin i x : ℕ) (line : List ℕ) (word : ℕ) → word_dot word x ≡ (leb (begin % 64) (64 * i + x) && dot line (64 * i + x - begin % 64))
-    → word_dot word x ≡ (leb (64 * (begin / 64)) (64 * (begin / 64 + i) + x) && (leb begin (64 * (begin / 64 + i) + x) && dot line (64 * (begin / 64 + i) + x - begin)))
-moved_right_word begin i x line word e = grind (arith, le-leb, lt-leb)
-
-pub moved_left_word : (begin end i x : ℕ) (line : List ℕ) (word : ℕ) → begin ≤ end → word_dot word x ≡ (ltb (64 * i + x) (end - 64 * (begin / 64)) && dot line (end - 64 * (begin / 64) - 1 - (64 * i + x)))
-    → word_dot word x ≡ (leb (64 * (begin / 64)) (64 * (begin / 64 + i) + x) && (ltb (64 * (begin / 64 + i) + x) end && dot line (end - 1 - (64 * (begin / 64 + i) + x))))
-moved_left_word begin end i x line word h e = grind (arith, le-leb, lt-ltb, le-ltb)
 
 -- a row clipped where so many dots end, and where they begin
 pub clipped_right : (begin long words k x : ℕ) (b : Bool) → words ≤ 9 → words ≤ k → (words < 9 → begin + long ≤ 64 * words) → (words < 9 → k ≡ words) → x < PAPER_DOTS

@@ -32,21 +32,3 @@ left_same a v row h x y = left_in a.x a.y a.dx a.dy v x y (row (a.x + a.dx - 1 -
 
 pub down_same : (a : Area) (v : ℕ) (row : ℕ → Bool) → v < a.dx → (x y : ℕ) → (eqb x (a.x + a.dx - 1 - v) && (span a.y (a.y + a.dy) y && row (along_of a Down y))) ≡ mark_dot (row_mark a TopToBottom v row) x y
 down_same a v row h x y = down_in a.x a.y a.dx a.dy v x y (row (y - a.y)) h
-
--- a row laid many times along the page
-module _ (ax ay dx dy v times shown x y : ℕ) (few : shown ≡ min times (dy - v)) where
-  right_times_in : (b : Bool) → v < dy → (leb (ay + v) y && (ltb (y - (ay + v)) shown && (leb ax x && (ltb (x - ax) dx && b)))) ≡ (leb ax x && ltb x (ax + dx) && (leb ay y && ltb y (ay + dy)) && (leb v (y - ay) && (ltb (y - ay - v) times && b)))
-  right_times_in b h = grind (arith, nat_tests)
-
-  left_times_in : (top : ℕ) (b : Bool) → top ≡ ay + (dy - v - shown) → v < dy → (leb top y && (ltb (y - top) shown && (ltb x (ax + dx) && (ltb (ax + dx - 1 - x) dx && b))))
-      ≡ (leb ax x && ltb x (ax + dx) && (leb ay y && ltb y (ay + dy)) && (leb v (ay + dy - 1 - y) && (ltb (ay + dy - 1 - y - v) times && b)))
-  left_times_in top true e h = grind (arith, nat_tests)
-  left_times_in top false e h = grind (arith, nat_tests)
-
-pub right_times : (a : Area) (v times shown : ℕ) (row : ℕ → Bool) → shown ≡ min times (a.dy - v) → v < a.dy → (x y : ℕ)
-    → (leb (a.y + v) y && (ltb (y - (a.y + v)) shown && (leb a.x x && (ltb (x - a.x) a.dx && row (x - a.x))))) ≡ mark_dot (times_mark a LeftToRight v times row) x y
-right_times a v times shown row few h x y = right_times_in a.x a.y a.dx a.dy v times shown x y few (row (x - a.x)) h
-
-pub left_times : (a : Area) (v times shown top : ℕ) (row : ℕ → Bool) → shown ≡ min times (a.dy - v) → top ≡ a.y + (a.dy - v - shown) → v < a.dy → (x y : ℕ)
-    → (leb top y && (ltb (y - top) shown && (ltb x (a.x + a.dx) && (ltb (a.x + a.dx - 1 - x) a.dx && row (a.x + a.dx - 1 - x))))) ≡ mark_dot (times_mark a RightToLeft v times row) x y
-left_times a v times shown top row few e h x y = left_times_in a.x a.y a.dx a.dy v times shown x y few top (row (a.x + a.dx - 1 - x)) e h

@@ -29,7 +29,3 @@ more_in p q a b c e = grind arith
 -- all groups
 pub groups_right : (lines : List (List ℕ)) (left x n u : ℕ) → length lines ≤ n → (leb left x && (ltb (x - left) n && line_dot lines (x - left) u)) ≡ (leb left x && line_dot lines (x - left) u)
 groups_right lines left x n u h = grind (arith, lt-ltb, le-ltb, no_line)
-
--- no group yet
-pub no_group : (p q d n b : Bool) → n ≡ false → (p && (q && (d && (n && b)))) ≡ false
-no_group p q d n b e = rw (e, and_false d, and_false q) (and_false p)

@@ -12,15 +12,6 @@ use Rattle.vp_page.specs.Areas.{holds}
 use Rattle.vp_page.specs.Pages.{HasPage, IsWhiteBut, Paged}
 use Rattle.vp_page.proofs.Blank.{dot_white}
 
-module _ (a : Area) (from to x k : ℕ) where
-  -- above the rows that are wiped
-  pub none_above : (top : ℕ) → (from ≤ k → a.y ≤ k → top ≤ k) → k < top → (span from to k && holds a x k) ≡ false
-  none_above top e h = grind arith
-
-  -- below them
-  pub none_below : (end : ℕ) → (k < to → k < a.y + a.dy → k < end) → end ≤ k → (span from to k && holds a x k) ≡ false
-  none_below end e h = grind arith
-
 -- the area stays white but for rows among which all are that something is laid on
 pub laid_on : (area : Area) (was is : Rows) (ink : ℕ → ℕ → Bool) (old new : List (List ℕ)) → IsWhiteBut area was old → RowsPainted PAGE_ROWS Black ink old new
     → is.to ≤ PAGE_ROWS → ((y : ℕ) → span was.from was.to y ≡ true → span is.from is.to y ≡ true)

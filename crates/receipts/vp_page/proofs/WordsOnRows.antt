@@ -79,30 +79,14 @@ pub word_bytes : (word x : ℕ) (bytes : List ℕ) → bytes ≡ to_be_bytes w64
 word_bytes word x bytes e = grind (arith, word_row)
 
 module _ (line : List ℕ) (q k d : ℕ) where
-  -- eight more bytes of a line
-  pub words_more : (ltb d (8 * q + 64 * (k + 1)) && (leb (8 * q) d && dot line (d - 8 * q)))
-      ≡ (ltb d (8 * q + 64 * k) && (leb (8 * q) d && dot line (d - 8 * q)) || leb (8 * (q + 8 * k)) d && (ltb (d - 8 * (q + 8 * k)) 64 && dot line (8 * (8 * k) + (d - 8 * (q + 8 * k)))))
-  words_more = grind arith
-
   -- after the last ones
   pub words_all : length line ≤ 8 * k → (ltb d (8 * q + 64 * k) && (leb (8 * q) d && dot line (d - 8 * q))) ≡ (leb (8 * q) d && dot line (d - 8 * q))
   words_all all = grind (arith, nat_tests, dot_past)
-
--- a word behind the ones before it
-pub words_apart : (q k d : ℕ) (m b : Bool) → (ltb d (8 * q + 64 * k) && m && (leb (8 * (q + 8 * k)) d && b)) ≡ false
-words_apart q k d m b = grind (arith, lt-leb, and_false, le-ltb)
 
 -- bytes of a line that is turned end for end: those before a place, and more
 module _ (q n d : ℕ) (line : List ℕ) where
   abbrev reversed : ℕ → Bool
   reversed e = leb (8 * q) e && (ltb (e - 8 * q) (8 * n) && dot line (8 * n - 1 - (e - 8 * q)))
-
-  pub reversed_more : (k m next : ℕ) (b : Bool) → next ≡ k + m → next ≤ n → (8 * (q + k) ≤ d → d < 8 * (q + k) + 8 * m → b ≡ dot line (8 * n - 1 - (d - 8 * q)))
-      → (ltb d (8 * q + 8 * next) && reversed d) ≡ (ltb d (8 * q + 8 * k) && reversed d || leb (8 * (q + k)) d && (ltb (d - 8 * (q + k)) (8 * m) && b))
-  reversed_more k m next b e h w = grind (arith, nat_tests)
-
-  pub reversed_apart : (k : ℕ) (b : Bool) → (ltb d (8 * q + 8 * k) && reversed d && (leb (8 * (q + k)) d && b)) ≡ false
-  reversed_apart k b = grind arith
 
   -- after the last ones
   pub reversed_all : (k : ℕ) → n ≤ k → (ltb d (8 * q + 8 * k) && reversed d) ≡ reversed d
