@@ -1,7 +1,6 @@
 -- Lines laid across the page, upward or downward.
 use Rattle.std.proofs.Common.{◌≡◌, ℕ, ◌+◌, ◌-◌, ◌*◌, ◌/◌, ◌%◌, ◌<◌, ◌≤◌, min, Bool, true, false, ltb, leb, ◌&&◌, ap, ◌∙◌, arith, List, length, take, get_or, set, get_or-set_same, get_or-set_other, ℤ}
 use Rattle.vp_page.specs.declared.across.TheConstants.{AT_ONCE}
-use Rattle.vp_page.specs.declared.page.TheConstants.{PAGE_ROWS}
 use Rattle.vp_page.proofs.Rows.{met}
 use Rattle.std.proofs.lemmas.Int.{ints}
 use Rattle.std.proofs.lemmas.Bool.{lt-ltb, le-ltb, le-leb, and_parts, ltb-true, leb-true, true≢false}

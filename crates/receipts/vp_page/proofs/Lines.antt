@@ -1,16 +1,15 @@
 -- A line of an image, and a line alone that is laid across the page.
-use Rattle.std.proofs.Common.{◌≡◌, ℕ, ◌+◌, ◌-◌, ◌*◌, ◌<◌, ◌≤◌, min, Bool, true, false, leb, ltb, ◌&&◌, ◌||◌, refl, arith, List, [], get_or, replicate, pos}
+use Rattle.std.proofs.Common.{◌≡◌, ℕ, ◌+◌, ◌-◌, ◌*◌, ◌<◌, ◌≤◌, Bool, true, false, leb, ltb, ◌&&◌, ◌||◌, refl, arith, List, [], get_or, replicate, pos}
 use Rattle.std.specs.Int.{to_be_bytes, w64}
 use Rattle.std.proofs.lemmas.Bool.Decides.{nat_tests}
 use Rattle.std.proofs.lemmas.Nat.Bits.{bit_at-zero}
 use Rattle.std.proofs.lemmas.List.{length-replicate}
-use Rattle.std.proofs.lemmas.Bool.{false_from_ne_true, lt-ltb, le-ltb, lt-leb, le-leb}
-use Rattle.vp_dots.specs.Dots.{bit, dot, shifted, span}
+use Rattle.std.proofs.lemmas.Bool.{false_from_ne_true, lt-leb, le-leb}
+use Rattle.vp_dots.specs.Dots.{bit, dot, shifted}
 use Rattle.vp_dots.specs.Places.{RowsPainted}
 use Rattle.vp_dots.specs.Words.{word_dot}
 use Rattle.vp_dots.proofs.Paints.{painted_none}
 use Rattle.vp_dots.proofs.Rows.{dot_at}
-use Rattle.vp_dots.proofs.Words.{or_false}
 use Rattle.vp_page.specs.declared.page.TheConstants.{PAGE_ROWS}
 use Rattle.vp_page.proofs.WordsOnRows.{word_bytes}
 use Rattle.vp_dots.specs.Painting.{Painted}

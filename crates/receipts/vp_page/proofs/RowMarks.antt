@@ -1,11 +1,11 @@
 -- A row laid in each direction, said by the places of the page.
-use Rattle.std.proofs.Common.{min, ◌≡◌, ℕ, ◌+◌, ◌-◌, ◌<◌, Bool, true, false, eqb, ltb, leb, ◌&&◌, arith}
+use Rattle.std.proofs.Common.{◌≡◌, ℕ, ◌+◌, ◌-◌, ◌<◌, Bool, eqb, ltb, leb, ◌&&◌, arith}
 use Rattle.std.proofs.lemmas.Bool.Decides.{nat_tests}
 use Rattle.vp_dots.specs.Dots.{span}
 use Rattle.vp_page.specs.declared.area.Area.{Area}
 use Rattle.vp_page.specs.declared.area.Way.TheVariants.{Up, Down}
 use Rattle.vp_page.specs.declared.area.Direction.TheVariants.{LeftToRight, BottomToTop, RightToLeft, TopToBottom}
-use Rattle.vp_page.specs.Layers.{mark_dot, row_mark, times_mark}
+use Rattle.vp_page.specs.Layers.{mark_dot, row_mark}
 use Rattle.vp_page.specs.Runs.{along_of}
 
 module _ (ax ay dx dy v x y : ℕ) where

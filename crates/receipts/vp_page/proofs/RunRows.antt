@@ -7,10 +7,11 @@ use Rattle.vp_dots.specs.Dots.{dot, span}
 use Rattle.vp_dots.specs.Words.{word_dot}
 use Rattle.vp_dots.specs.Painting.{Painted}
 use Rattle.vp_dots.specs.declared.Op.TheVariants.{Black}
+use Rattle.vp_dots.proofs.Paints.{painted_same, painted_then}
 use Rattle.vp_page.specs.declared.page.TheConstants.{PAPER_DOTS}
 use Rattle.vp_page.specs.Areas.{depth, holds}
 use Rattle.vp_page.specs.Layers.{mark_dot}
-use Rattle.vp_page.specs.Runs.{across, across_dot, along_of, between, depth_of, topmost}
+use Rattle.vp_page.specs.Runs.{AreRuns, across, across_dot, along_of, between, depth_of, topmost}
 use Rattle.vp_page.specs.declared.area.Area.{Area}
 use Rattle.vp_page.specs.declared.area.Way.{Way}
 use Rattle.vp_page.proofs.Blank.{dot_white}
@@ -101,6 +102,23 @@ run_is begins (suc n) i w h r p q = elim (cases_lt i n) [
       rw (lt-leb (get_or begins n 0) w later) (run_is begins n i w l (λ j m. r j (omega (arith, m))) p q)
   | inr g ↦ grind (arith, get_or, le-leb)
 ]
+
+-- the lines rise from one to another
+pub rises : (begins : List ℕ) (n end f i : ℕ) → AreRuns begins n end → f ≤ i → i ≤ n → get_or begins f 0 ≤ get_or begins i 0
+rises begins n end f i runs h l = let place : f + (i - f) ≡ i = omega (arith, h) in rw place at (risen begins f (i - f) (λ j k. runs.rise j (omega (arith, k, place, l))))
+
+-- a run of lines that are black, behind those before it
+pub run_more : (begins : List ℕ) (word f i n end : ℕ) (deep : ℕ → ℕ) (inside columns ink : ℕ → Bool) (a b c : List ℕ) → AreRuns begins n end → f ≤ i → i ≤ n
+    → ((k : ℕ) → f ≤ k → k < i → word_dot word k ≡ true) → ((k w : ℕ) → k < n → get_or begins k 0 ≤ w → w < get_or begins (k + 1) 0 → word_dot word k ≡ ink w)
+    → ((x : ℕ) → columns x ≡ (inside x && span (get_or begins f 0) (get_or begins i 0) (deep x)))
+    → Painted Black (λ x. inside x && (span (get_or begins 0 0) (get_or begins f 0) (deep x) && ink (deep x))) a b → Painted Black columns b c
+    → Painted Black (λ x. inside x && (span (get_or begins 0 0) (get_or begins i 0) (deep x) && ink (deep x))) a c
+run_more begins word f i n end deep inside columns ink a b c runs h l black same are p q =
+    let first = runs.from_first f (omega (arith, h, l)) in
+    let to = rises begins n end f i runs h l in
+    painted_then Black _ _ _ _ _ _ p (painted_same Black _ _ _ _ (λ d m. are d) q)
+    (λ d m. more_black (get_or begins 0 0) (get_or begins f 0) (get_or begins i 0) (deep d) (inside d) first to (ink (deep d)) (λ r s. black_between begins word f i n (deep d) ink h l black same r s))
+    (λ d m. black_apart (get_or begins 0 0) (get_or begins f 0) (get_or begins i 0) (deep d) (inside d) first to (ink (deep d)))
 
 -- ink between two depths, as a mark
 pub between_dot : (a : Area) (way : Way) (long from to : ℕ) (ink : ℕ → ℕ → Bool) (x y : ℕ) → ((u w : ℕ) → long ≤ u → ink u w ≡ false)

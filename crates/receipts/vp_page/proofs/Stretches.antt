@@ -1,13 +1,13 @@
 -- Lines laid in groups, and lines that are alike along some dots.
 use Rattle.std.proofs.lemmas.Bool.Decides.{nat_tests}
-use Rattle.std.proofs.Common.{min, ◌≡◌, ℕ, ◌+◌, ◌-◌, ◌<◌, ◌≤◌, Bool, true, false, ltb, leb, ◌&&◌, ◌||◌, arith, List, length, take, drop}
+use Rattle.std.proofs.Common.{min, ◌≡◌, ℕ, ◌+◌, ◌-◌, ◌<◌, ◌≤◌, Bool, true, ltb, leb, ◌&&◌, ◌||◌, arith, List, length, take, drop}
 use Rattle.std.proofs.lemmas.List.{get_or-drop, get_or-take, length-take}
 use Rattle.std.proofs.lemmas.Bool.{lt-ltb, le-ltb, true≢false}
 use Rattle.vp_dots.specs.Dots.{dot}
 use Rattle.vp_page.specs.declared.page.TheConstants.{PAPER_DOTS}
 use Rattle.vp_page.specs.Lines.{line_dot}
 use Rattle.vp_page.proofs.Rows.{dot_past}
-use Rattle.vp_page.proofs.Squares.{and_false, no_line}
+use Rattle.vp_page.proofs.Squares.{no_line}
 
 pub narrow : (row : List ℕ) (x : ℕ) → length row ≡ 72 → dot row x ≡ true → x < PAPER_DOTS
 narrow row x n e = grind (arith, true≢false, dot_past)

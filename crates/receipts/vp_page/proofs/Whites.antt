@@ -1,5 +1,5 @@
 -- What is known to be white.
-use Rattle.std.proofs.Common.{◌≡◌, ℕ, ◌+◌, ◌<◌, ◌≤◌, Bool, true, false, ◌&&◌, refl, ap, ◌∙◌, arith, List, [], length, get_or, replicate, if◌then◌else◌}
+use Rattle.std.proofs.Common.{◌≡◌, ℕ, ◌<◌, ◌≤◌, Bool, true, false, refl, ap, ◌∙◌, arith, List, [], length, get_or, replicate, if◌then◌else◌}
 use Rattle.std.proofs.lemmas.Bool.{true≢false, false_from_ne_true}
 use Rattle.std.proofs.lemmas.List.{length-replicate}
 use Rattle.vp_dots.specs.Dots.{dot, span}
@@ -8,7 +8,6 @@ use Rattle.vp_dots.specs.declared.Op.TheVariants.{Black}
 use Rattle.vp_page.specs.declared.area.Area.{Area}
 use Rattle.vp_page.specs.declared.page.TheConstants.{PAGE_ROWS, PAPER_BYTES, PAPER_DOTS}
 use Rattle.vp_page.specs.declared.white.Rows.{Rows}
-use Rattle.vp_page.specs.Areas.{holds}
 use Rattle.vp_page.specs.Pages.{HasPage, IsWhiteBut, Paged}
 use Rattle.vp_page.proofs.Blank.{dot_white}
 

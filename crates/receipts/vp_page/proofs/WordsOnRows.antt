@@ -12,7 +12,7 @@ use Rattle.vp_dots.specs.declared.Op.TheVariants.{Black}
 use Rattle.vp_dots.proofs.Bits.{bit_of_or}
 use Rattle.vp_dots.proofs.Blocks.{painted_block}
 use Rattle.vp_dots.proofs.Paints.{painted_same, painted_byte_at}
-use Rattle.vp_dots.proofs.Words.{and_false, bit_shl, word_shr, word_row}
+use Rattle.vp_dots.proofs.Words.{bit_shl, word_shr, word_row}
 use Rattle.vp_dots.proofs.Spans.{bit_of_all, bit_of_and}
 use Rattle.vp_dots.proofs.Cuts.{bit_low64}
 use Rattle.vp_dots.proofs.Rows.{dot_at}

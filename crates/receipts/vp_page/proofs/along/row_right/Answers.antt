@@ -1,6 +1,6 @@
 use Rattle.std.proofs.lemmas.Bool.Decides.{nat_tests}
-use Rattle.std.proofs.Common.{◌≡◌, ◌+◌, ◌-◌, ◌*◌, ◌/◌, false, cond, ap, arith, length, ◌∙◌}
-use Rattle.vp_dots.specs.Dots.{dot, span}
+use Rattle.std.proofs.Common.{◌≡◌, ◌+◌, ◌*◌, ◌/◌, false, cond, ap, arith, length, ◌∙◌}
+use Rattle.vp_dots.specs.Dots.{span}
 use Rattle.vp_dots.proofs.Paints.{painted_none}
 use Rattle.vp_page.proofs.PageRows.{clipped_right, none_before, row_made, whole_right}
 use Rattle.vp_page.proofs.along.row_right.Goals as goal
@@ -18,9 +18,7 @@ loop-i-preserved c = grind (arith, nat_tests)
 pub returns : goal.returns
 returns c = λ x h.
     let begin = c.args.begin in
-    let words = c.min-words.result in
-    let k = begin / 64 + c.loop-i.i in
     let long : length c.loop-i.row ≡ 72 = c.loop-i-test.array_long in
-    c.fill_dots.ensures.dots_are x (omega (arith, h, long)) ∙ ap (λ b. cond (span (begin + c.args.long) (64 * words) x) false b) (row_made _ x c.loop-i.row c.loop-i.invariant h)
-    ∙ clipped_right begin c.args.long words k x (dot c.args.line.now (x - begin)) (omega (arith, c.min-words.ensures)) (omega (arith, c.saturating_sub-i-end.ensures))
+    c.fill_dots.ensures.dots_are x (omega (arith, h, long)) ∙ ap (λ b. cond (span (begin + c.args.long) (64 * c.min-words.result) x) false b) (row_made _ x c.loop-i.row c.loop-i.invariant h)
+    ∙ clipped_right begin c.args.long c.min-words.result (begin / 64 + c.loop-i.i) x _ (omega (arith, c.min-words.ensures)) (omega (arith, c.saturating_sub-i-end.ensures))
     (λ m. omega (arith, c.min-words.ensures, c.div_ceil.ensures, m)) (λ m. omega (arith, c.min-words.ensures, c.div_ceil.ensures, c.saturating_sub-i-end.ensures, m)) h
