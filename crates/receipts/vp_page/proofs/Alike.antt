@@ -58,7 +58,7 @@ whitened s = grind arith
 
 -- a black row that is made white along an area
 pub kept_row : (from to x : ℕ) (new : List ℕ) → Painted White (span from to) (replicate 72 255) new → x < PAPER_DOTS → dot new x ≡ not (span from to x)
-kept_row from to x new p h = p.dots_are x (omega (arith, length-replicate {A = ℕ} 72 255)) ∙ ap (λ b. cond (span from to x) false b) (black_row 72 x (omega arith)) ∙ whitened (span from to x)
+kept_row from to x new p h = grind (arith, length-replicate, black_row 72 x)
 
 -- and what is not kept of a row that an area has
 pub wiped_dot : (a : Area) (from to x y : ℕ) (k : Bool) → k ≡ not (span a.x (a.x + a.dx) x) → from ≤ y → y < to → a.y ≤ y → y < a.y + a.dy
@@ -74,5 +74,5 @@ and_all b = grind arith
 
 -- 64 white bytes
 pub white_block : (i : ℕ) (row : List ℕ) → i + 64 ≤ length row → Painted White (λ d. span i (i + 64) (d / 8)) row (put_chunk i row (replicate 64 0))
-white_block i row room = painted_same White (λ d. span i (i + 64) (d / 8) && true) (λ d. span i (i + 64) (d / 8)) row _ (λ d l. and_all (span i (i + 64) (d / 8)))
+white_block i row room = painted_same White (λ d. span i (i + 64) (d / 8) && true) _ row _ (λ d l. grind arith)
     (painted_block White (λ d. true) i 64 row (replicate 64 0) (length-replicate {A = ℕ} 64 0) room (λ j m k h. white_lane j k m))

@@ -1,9 +1,9 @@
 -- Lines laid across the page, upward or downward.
-use Rattle.std.proofs.Common.{◌≡◌, ℕ, ◌+◌, ◌-◌, ◌*◌, ◌/◌, ◌%◌, ◌<◌, ◌≤◌, min, Bool, true, false, ltb, leb, ◌&&◌, ap, ◌∙◌, arith, List, length, take, get_or, set, get_or-set_same, get_or-set_other, ℤ}
+use Rattle.std.proofs.Common.{inl, inr, ◌≡◌, ℕ, ◌+◌, ◌-◌, ◌*◌, ◌/◌, ◌%◌, ◌<◌, ◌≤◌, min, Bool, true, false, ltb, leb, ◌&&◌, ap, ◌∙◌, arith, List, length, take, get_or, set, get_or-set_same, get_or-set_other, ℤ, length-set}
 use Rattle.vp_page.specs.declared.across.TheConstants.{AT_ONCE}
 use Rattle.vp_page.proofs.Rows.{met}
 use Rattle.std.proofs.lemmas.Int.{ints}
-use Rattle.std.proofs.lemmas.Bool.{lt-ltb, le-ltb, le-leb, and_parts, ltb-true, leb-true, true≢false}
+use Rattle.std.proofs.lemmas.Bool.{lt-ltb, le-ltb, le-leb, and_parts, ltb-true, leb-true, true≢false, cases_eq}
 use Rattle.std.proofs.lemmas.Bool.Decides.{nat_tests}
 use Rattle.vp_dots.specs.Dots.{shifted, span}
 use Rattle.vp_dots.specs.Words.{word_dot}
@@ -33,6 +33,19 @@ pub line_placed : (way : Way) (n : ℕ) (square : List ℕ) (lines : List (List 
     → (x y : ℕ) → x < 64 → y < n → word_dot (get_or (set square p word) y 0) x ≡ (ltb (placed way n y) (k + 1) && line_dot lines (placed way n y) (from + x))
 line_placed way n square lines from p k word whole is small this before x y h l = grind (arith, get_or-set_same, get_or-set_other, this x h, before x y h l)
 
+-- one line more of two squares of half as many lines
+pub two_placed : (way : Way) (squares : List ℕ) (lines : List (List ℕ)) (from p k upper lower : ℕ) → length squares ≡ 64 → p ≡ placed way 32 k → k < 32
+    → ((x : ℕ) → x < 64 → word_dot upper x ≡ line_dot lines k (from + x)) → ((x : ℕ) → x < 64 → word_dot lower x ≡ line_dot lines k (from + 64 + x))
+    → ((x y : ℕ) → x < 64 → y < 64 → word_dot (get_or squares y 0) x ≡ (ltb (placed way 32 (y % 32)) k && line_dot lines (placed way 32 (y % 32)) (from + 64 * (y / 32) + x)))
+    → (x y : ℕ) → x < 64 → y < 64 → word_dot (get_or (set (set squares p upper) (32 + p) lower) y 0) x ≡ (ltb (placed way 32 (y % 32)) (k + 1) && line_dot lines (placed way 32 (y % 32)) (from + 64 * (y / 32) + x))
+two_placed way squares lines from p k upper lower whole is small first second before x y h l = elim (cases_eq y (32 + p)) [
+  | inl e ↦ grind (arith, length-set, get_or-set_same, second x h)
+  | inr n ↦ rw (get_or-set_other (set squares p upper) (32 + p) y lower 0 n) (elim (cases_eq y p) [
+    | inl e ↦ grind (arith, get_or-set_same, first x h)
+    | inr m ↦ grind (arith, get_or-set_other, before x y h l)
+  ])
+]
+
 -- a dot is on the row that shows it
 pub ordered_back : (way : Way) (n k : ℕ) → k < n → ordered way n (ordered way n k) ≡ k
 ordered_back way n k h = grind arith
@@ -45,7 +58,7 @@ columns_row a way v n wide x ink row at deep few e none same past = grind (arith
 
 -- what stands on rows of the page, as dots of a stretch
 in_stretch : (p1 p2 hx hy s q r : Bool) → (p1 && p2) ≡ (hy && s) → (p1 ≡ true → p2 ≡ true → q ≡ (hx && r)) → (p1 && (p2 && q)) ≡ (s && ((hx && hy) && r))
-in_stretch p1 p2 hx hy s q r e f = grind (arith, true≢false, and_false)
+in_stretch p1 p2 hx hy s q r e f = grind arith
 
 -- where a row of a stretch is along the lines
 row_along : (a : Area) (way : Way) (from rows top y : ℕ) → from + rows ≤ a.dy → top ≡ topmost a way from rows → top ≤ y → y - top < rows

@@ -73,7 +73,7 @@ pub as_many : (top i times k : ℕ) (b : Bool) → k < PAGE_ROWS → i ≡ min t
 as_many top i times k b h e = grind (arith, nat_tests)
 
 pub below_top : (top k : ℕ) (a b : Bool) → top ≤ k → a ≡ b → a ≡ (leb top k && b)
-below_top top k a b h e = e ∙ sym (ap (λ t. t && b) (le-leb top k h))
+below_top top k a b h e = grind arith
 
 -- a line has no dots past the bytes of its row
 pub reach : (n dx u : ℕ) (row : List ℕ) (b : Bool) → n ≤ dx → (u < dx → u < 8 * length row → u < n) → b ≡ dot row u → (ltb u n && b) ≡ (ltb u dx && dot row u)
@@ -92,11 +92,6 @@ lines_more top i t y ink same = grind (arith, same (y - (top + i)))
 pub none_below : (top n y : ℕ) (b : Bool) → (leb (top + (n - 0)) y && (ltb (y - top) n && b)) ≡ false
 none_below top n y b = grind (arith, lt-leb, le-ltb, and_false)
 
-pub lines_back : (top n i t y : ℕ) (ink : ℕ → Bool) → i + t ≤ n → ((j : ℕ) → j < t → ink (i + j) ≡ ink i)
-    → (leb (top + (n - (i + t))) y && (ltb (y - top) n && ink (n - 1 - (y - top))))
-    ≡ (leb (top + (n - i)) y && (ltb (y - top) n && ink (n - 1 - (y - top))) || leb (top + (n - i - t)) y && (ltb (y - (top + (n - i - t))) t && ink i))
-lines_back top n i t y ink few same = grind (arith, same (n - 1 - (y - top) - i))
-
 -- all of them
 pub all_lines : (top n i y : ℕ) (b : Bool) → n ≤ i → (leb (top + (n - i)) y && b) ≡ (leb top y && b)
-all_lines top n i y b h = ap (λ m. leb m y && b) (let e : top + (n - i) ≡ top = omega arith in e)
+all_lines top n i y b h = grind arith

@@ -66,7 +66,7 @@ pub nothing_laid : (m : Mark) (layers : List Layer) (page : Paged) → ((x y : �
 nothing_laid m layers page e n h = grind arith
 
 no_row : (h t : Bool) (w : ℕ) (b : Bool) → (h && (t && (ltb w 0 && b))) ≡ false
-no_row h t w b = grind (arith, nat_tests)
+no_row h t w b = grind arith
 
 one_more : (h r p : Bool) (w top k : ℕ) (f : ℕ → Bool) → (h ≡ true → r ≡ f k)
     → (h && (leb (top + k) w && (eqb (w - (top + k)) 0 && r)) || (h && (leb top w && (ltb (w - top) k && f (w - top))) || p)) ≡ (h && (leb top w && (ltb (w - top) (k + 1) && f (w - top))) || p)
@@ -94,11 +94,8 @@ pub times_more : (m : Mark) (k n v : ℕ) (row : ℕ → Bool) (layers : List La
     → ((u i : ℕ) → u < line_length m.area m.direction → i < n → row u ≡ m.dot u (k + i))
     → HasPage (Laid (times_mark m.area m.direction v n row) ∷ Laid (first_rows k m) ∷ layers) page
     → HasPage (Laid (first_rows (k + n) m) ∷ layers) page
-times_more m k n v row layers page place same has = same_page _ _ page (λ x y.
-    let u = along m.area m.direction x y in
-    let w = down m.area m.direction x y in
-    rw place (more_times (holds m.area x y) (row u) (page_dot layers x y) w m.top k n (m.dot u)
-    (λ t i l. same u i (lies m.area m.direction x y (within m.area x y t)).in_line l))) (record { laid = omega (arith, place); most = refl; least = refl }) has
+times_more m k n v row layers page place same has = same_page _ _ page (λ x y. rw place (more_times (holds m.area x y) (row (along m.area m.direction x y)) (page_dot layers x y) (down m.area m.direction x y) m.top k n (m.dot (along m.area m.direction x y))
+    (λ t i l. same (along m.area m.direction x y) i (lies m.area m.direction x y (within m.area x y t)).in_line l))) (record { laid = omega (arith, place); most = refl; least = refl }) has
 
 -- ink that is laid between two depths, below the first k rows of a mark
 pub between_more : (m : Mark) (k from to next : ℕ) (ink : ℕ → ℕ → Bool) (layers : List Layer) (page : Paged) → from ≡ m.top + k → next + m.top ≡ to → from ≤ to

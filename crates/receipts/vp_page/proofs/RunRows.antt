@@ -74,7 +74,7 @@ none_laid a way at t b0 bn ink x y white = grind arith
 
 -- one more stretch of the lines
 pub stretch_more : (from to next al : ℕ) (b : Bool) → from ≤ to → to ≤ next → (span from next al && b) ≡ ((span from to al && b) || (span to next al && b))
-stretch_more from to next al b h k = grind (arith, nat_tests)
+stretch_more from to next al b h k = grind arith
 
 -- all dots of the lines that fall on the page
 pub all_runs : (a : Area) (way : Way) (long from below at b0 bn : ℕ) (ink : ℕ → ℕ → Bool) (x y : ℕ) → (span a.y (a.y + a.dy) y ≡ true → span from below (along_of a way y) ≡ true)

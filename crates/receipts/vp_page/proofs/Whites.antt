@@ -19,7 +19,7 @@ laid_on area was is ink old new w p few these others = grind (arith, false_from_
 
 -- a white page
 pub all_white : (area : Area) (rows : Rows) (page : Paged) → rows.to ≤ PAGE_ROWS → HasPage [] page → IsWhiteBut area rows page.rows
-all_white area rows page few h = record { within = few; rows_are = h.rows_are; white = λ x y k l t f. h.dots_are x y k l }
+all_white area rows page few h = grind arith
 
 -- rows outside of which the page is white made white
 pub cleared : (rows : Rows) (old new : List (List ℕ)) (n : ℕ) → n ≤ PAGE_ROWS → ((y : ℕ) → y < PAGE_ROWS → length (get_or old y []) ≡ PAPER_BYTES)

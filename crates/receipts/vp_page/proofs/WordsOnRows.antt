@@ -22,7 +22,7 @@ use Rattle.vp_page.proofs.Rows.{dot_past}
 -- some bytes of a row, each with a byte on it
 module _ (f : ℕ → ℕ → ℕ) (row ys : List ℕ) (i n : ℕ) (room : i + n ≤ length row) (long : length ys ≡ n) where
   pub long_on : length (zip2 f (chunk i n row) ys) ≡ n
-  long_on = length-zip2 f (chunk i n row) ys (length-chunk i n row room ∙ sym long) ∙ length-chunk i n row room
+  long_on = grind (arith, length-zip2, length-chunk)
 
   pub byte_on : (j : ℕ) → j < n → get_or (zip2 f (chunk i n row) ys) j 0 ≡ f (get_or row (i + j) 0) (get_or ys j 0)
   byte_on j h = grind (arith, get_or-zip2, get_or-chunk, length-chunk)
