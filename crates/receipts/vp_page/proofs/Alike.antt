@@ -1,8 +1,8 @@
 -- Lines that are alike along some dots, and the rows of the page that are.
-use Rattle.std.proofs.Common.{◌≡◌, ℕ, ◌+◌, ◌-◌, ◌*◌, ◌/◌, ◌%◌, ◌<◌, ◌≤◌, Bool, true, false, not, cond, eqb, ltb, ◌&&◌, ◌||◌, refl, sym, ap, ◌∙◌, arith, List, length, get_or, replicate, bit_and}
+use Rattle.std.proofs.Common.{◌≡◌, ℕ, ◌+◌, ◌-◌, ◌*◌, ◌/◌, ◌%◌, ◌<◌, ◌≤◌, Bool, true, false, not, cond, eqb, ltb, ◌&&◌, ◌||◌, refl, ap, ◌∙◌, arith, List, length, get_or, replicate, bit_and}
 use Rattle.std.specs.Int.{bit_at}
 use lib.Lanes.{zip2, chunk, put_chunk}
-use Rattle.std.proofs.lemmas.Simd.{get_or-zip2, get_or-chunk, length-zip2, length-chunk}
+use Rattle.std.proofs.lemmas.Simd.{get_or-zip2, get_or-chunk, length-chunk}
 use Rattle.std.proofs.lemmas.Bool.Decides.{nat_tests}
 use Rattle.std.proofs.lemmas.Nat.Bits.{bit_at-zero}
 use Rattle.std.proofs.lemmas.List.{get_or-replicate, length-replicate}
@@ -18,7 +18,10 @@ use Rattle.vp_dots.proofs.Rows.{dot_at}
 use Rattle.vp_dots.proofs.Spans.{bit_of_and}
 use Rattle.vp_dots.proofs.Swaps.{every_at}
 use Rattle.vp_dots.proofs.Words.{and_true}
+use Rattle.vp_page.specs.declared.line.TheConstants.{LINE_DOTS}
+use Rattle.vp_page.specs.declared.page.TheConstants.{PAPER_DOTS}
 use Rattle.vp_page.specs.Areas.{holds}
+use Rattle.vp_page.proofs.WordsOnRows.{long_on}
 use Rattle.vp_page.specs.declared.area.Area.{Area}
 
 -- what was painted black nowhere
@@ -30,38 +33,18 @@ pub both_dot : (w m k : ℕ) → k < 64 → word_dot (bit_and w m) k ≡ (word_d
 both_dot w m k h = rw (lt-ltb k 64 h) (bit_of_and w m (63 - k))
 
 pub none_black : (line : List ℕ) (w m dots from k : ℕ) → bit_and w m ≡ 0 → ((x : ℕ) → word_dot m x ≡ ltb x dots)
-    → ((x : ℕ) → x < 64 → word_dot w x ≡ (ltb (from + x) 1664 && dot line (from + x))) → k < 64 → k < dots → from + k < 1664 → dot line (from + k) ≡ false
+    → ((x : ℕ) → x < 64 → word_dot w x ≡ (ltb (from + x) LINE_DOTS && dot line (from + x))) → k < 64 → k < dots → from + k < LINE_DOTS → dot line (from + k) ≡ false
 none_black line w m dots from k e p q h l r = grind (arith, lt-ltb, and_true, both_dot, white_dot)
 
--- a dot that is kept
-pub kept_dot : (a k : Bool) → (a && k) ≡ cond (not k) false a
-kept_dot a k = grind arith
-
-module _ (kept row : List ℕ) (i n : ℕ) (there : i + n ≤ length kept) (room : i + n ≤ length row) where
-  kept_lane : (j k : ℕ) → j < n → k < 8 → bit (get_or (zip2 bit_and (chunk i n row) (chunk i n kept)) j 0) k ≡ cond (not (dot kept (8 * (i + j) + (7 - k)))) false (bit (get_or row (i + j) 0) k)
-  kept_lane j k m h =
-      ap (λ x. bit x k) (get_or-zip2 bit_and (chunk i n row) (chunk i n kept) j 0 0 0 (omega (arith, length-chunk i n row room)) (omega (arith, length-chunk i n kept there))
-      ∙ ap (λ x. bit_and x (get_or (chunk i n kept) j 0)) (get_or-chunk i n row j 0 m) ∙ ap (bit_and (get_or row (i + j) 0)) (get_or-chunk i n kept j 0 m))
-      ∙ bit_of_and (get_or row (i + j) 0) (get_or kept (i + j) 0) k
-      ∙ ap (λ b. bit (get_or row (i + j) 0) k && b) (sym (dot_at kept (i + j) k h))
-      ∙ kept_dot (bit (get_or row (i + j) 0) k) (dot kept (8 * (i + j) + (7 - k)))
-
-  -- some bytes of a row, of which the kept dots stay
-  pub kept_bytes : Painted White (λ d. span i (i + n) (d / 8) && not (dot kept d)) row (put_chunk i row (zip2 bit_and (chunk i n row) (chunk i n kept)))
-  kept_bytes = painted_block White (λ d. not (dot kept d)) i n row _
-      (length-zip2 bit_and (chunk i n row) (chunk i n kept) (length-chunk i n row room ∙ sym (length-chunk i n kept there)) ∙ length-chunk i n row room) room (λ j m k h. kept_lane j k m h)
+-- some bytes of a row, of which the kept dots stay
+pub kept_bytes : (kept row : List ℕ) (i n : ℕ) → i + n ≤ length kept → i + n ≤ length row
+    → Painted White (λ d. span i (i + n) (d / 8) && not (dot kept d)) row (put_chunk i row (zip2 bit_and (chunk i n row) (chunk i n kept)))
+kept_bytes kept row i n there room = painted_block White (λ d. not (dot kept d)) i n row _ (long_on bit_and row _ i n room (length-chunk i n kept there)) room
+    (λ j m k h. grind (arith, get_or-zip2, get_or-chunk, length-chunk, bit_of_and, dot_at))
 
 -- sixteen more bytes
 pub kept_more : (k d : ℕ) (b : Bool) → (ltb (d / 8) (16 * (k + 1)) && b) ≡ ((ltb (d / 8) (16 * k) && b) || (span (16 * k) (16 * k + 16) (d / 8) && b))
 kept_more k d b = grind (arith, nat_tests)
-
--- some bytes behind the ones before them
-pub kept_apart : (i n d : ℕ) (b : Bool) → ((ltb (d / 8) i && b) && (span i (i + n) (d / 8) && b)) ≡ false
-kept_apart i n d b = grind (arith, nat_tests)
-
--- the last eight
-pub kept_last : (d : ℕ) (b : Bool) → d < 576 → b ≡ ((ltb (d / 8) 64 && b) || (span 64 72 (d / 8) && b))
-kept_last d b h = grind (arith, nat_tests)
 
 pub none_kept : (d : ℕ) (b : Bool) → (ltb (d / 8) (16 * 0) && b) ≡ false
 none_kept d b = grind (arith, nat_tests)
@@ -74,8 +57,8 @@ whitened : (s : Bool) → cond s false true ≡ not s
 whitened s = grind arith
 
 -- a black row that is made white along an area
-pub kept_row : (from to x : ℕ) (new : List ℕ) → Painted White (span from to) (replicate 72 255) new → x < 576 → dot new x ≡ not (span from to x)
-kept_row from to x new p h = p.dots_are x (omega (arith, length-replicate {A = ℕ} 72 255)) ∙ ap (λ b. cond (span from to x) false b) (black_row 72 x (omega arith)) ∙ whitened (span from to x)
+pub kept_row : (from to x : ℕ) (new : List ℕ) → Painted White (span from to) (replicate 72 255) new → x < PAPER_DOTS → dot new x ≡ not (span from to x)
+kept_row from to x new p h = grind (arith, length-replicate, black_row 72 x)
 
 -- and what is not kept of a row that an area has
 pub wiped_dot : (a : Area) (from to x y : ℕ) (k : Bool) → k ≡ not (span a.x (a.x + a.dx) x) → from ≤ y → y < to → a.y ≤ y → y < a.y + a.dy
@@ -91,16 +74,5 @@ and_all b = grind arith
 
 -- 64 white bytes
 pub white_block : (i : ℕ) (row : List ℕ) → i + 64 ≤ length row → Painted White (λ d. span i (i + 64) (d / 8)) row (put_chunk i row (replicate 64 0))
-white_block i row room = painted_same White (λ d. span i (i + 64) (d / 8) && true) (λ d. span i (i + 64) (d / 8)) row _ (λ d l. and_all (span i (i + 64) (d / 8)))
+white_block i row room = painted_same White (λ d. span i (i + 64) (d / 8) && true) _ row _ (λ d l. grind arith)
     (painted_block White (λ d. true) i 64 row (replicate 64 0) (length-replicate {A = ℕ} 64 0) room (λ j m k h. white_lane j k m))
-
--- the first eight bytes, where some dots are kept, and those behind them, where none is
-pub first_kept : (d : ℕ) (k : Bool) → (64 ≤ d → k ≡ false) → d < 576 → not k ≡ ((span 0 (0 + 8) (d / 8) && not k) || span 8 (8 + 64) (d / 8))
-first_kept d k e h = grind (arith, nat_tests, true≢false)
-
-pub first_apart : (d : ℕ) (b : Bool) → ((span 0 (0 + 8) (d / 8) && b) && span 8 (8 + 64) (d / 8)) ≡ false
-first_apart d b = grind (arith, nat_tests)
-
--- a dot of the longest line stands on one of its bytes
-pub within_all : (u : ℕ) (b : Bool) → u < 1664 → (span 0 (0 + 16 * 13) (u / 8) && b) ≡ b
-within_all u b h = grind (arith, nat_tests)

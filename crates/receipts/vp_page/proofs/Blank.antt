@@ -9,7 +9,7 @@ use Rattle.vp_page.specs.Pages.{HasPage}
 
 pub dot_white : (n x : ℕ) → x / 8 < n → dot (replicate n 0) x ≡ false
 unfolding dot bit
-dot_white n x h = rw (get_or-replicate {A = ℕ} n (x / 8) 0 0 h) (ap (λ k. eqb k 1) (bit_at-zero (7 - x % 8)))
+dot_white n x h = grind (arith, get_or-replicate, bit_at-zero)
 
 pub blank : (high wide : ℕ) (band : List (List ℕ)) → high ≡ PAGE_ROWS → wide ≡ PAPER_BYTES → band ≡ replicate high (replicate wide 0) → HasPage [] (record { rows = band; laid = 0; wiped = 0 })
 blank high wide band a b e = grind (arith, get_or, get_or-replicate, replicate, length-replicate, dot_white)

@@ -1,22 +1,20 @@
 -- Lines laid across the page, upward or downward.
-use Rattle.std.proofs.Common.{inl, inr, ◌≡◌, ℕ, ◌+◌, ◌-◌, ◌*◌, ◌/◌, ◌%◌, ◌<◌, ◌≤◌, min, not, Bool, true, false, ltb, leb, ◌&&◌, refl, sym, ap, ◌∙◌, arith, List, length, take, get_or, set, get_or-set_same, get_or-set_other, ℤ}
+use Rattle.std.proofs.Common.{inl, inr, ◌≡◌, ℕ, ◌+◌, ◌-◌, ◌*◌, ◌/◌, ◌%◌, ◌<◌, ◌≤◌, min, Bool, true, false, ltb, leb, ◌&&◌, ap, ◌∙◌, arith, List, length, take, get_or, set, get_or-set_same, get_or-set_other, ℤ, length-set}
+use Rattle.vp_page.specs.declared.across.TheConstants.{AT_ONCE}
 use Rattle.vp_page.proofs.Rows.{met}
 use Rattle.std.proofs.lemmas.Int.{ints}
-use Rattle.std.proofs.lemmas.Bool.{cases_eq, cases_lt, lt-ltb, le-ltb, lt-leb, le-leb, and_parts, ltb-true, leb-true, true≢false}
+use Rattle.std.proofs.lemmas.Bool.{lt-ltb, le-ltb, le-leb, and_parts, ltb-true, leb-true, true≢false, cases_eq}
 use Rattle.std.proofs.lemmas.Bool.Decides.{nat_tests}
-use Rattle.std.proofs.Math.Bool.{beq}
 use Rattle.vp_dots.specs.Dots.{shifted, span}
 use Rattle.vp_dots.specs.Words.{word_dot}
-use Rattle.vp_page.specs.Areas.{holds}
 use Rattle.vp_page.specs.Layers.{mark_dot, lines_mark}
 use Rattle.vp_page.specs.Lines.{line_dot}
 use Rattle.vp_page.specs.Runs.{across, along_of, depth_of, lines_across, ordered, placed, stretch_dot, topmost, IsLeft}
 use Rattle.vp_page.specs.declared.area.Area.{Area}
 use Rattle.vp_page.specs.declared.area.Way.{Way}
-use Rattle.vp_page.specs.declared.area.Way.TheVariants.{Up, Down}
 use Rattle.vp_page.proofs.Marks.{shown_line}
 use Rattle.vp_page.proofs.RunRows.{run_in}
-use Rattle.vp_page.proofs.Squares.{and_false, no_line, other_rows}
+use Rattle.vp_page.proofs.Squares.{and_false, no_line}
 
 -- and back
 pub placed_back : (way : Way) (n i k : ℕ) → k < n → i ≡ placed way n k → placed way n i ≡ k
@@ -33,47 +31,24 @@ pub line_placed : (way : Way) (n : ℕ) (square : List ℕ) (lines : List (List 
     → ((x : ℕ) → x < 64 → word_dot word x ≡ line_dot lines k (from + x))
     → ((x y : ℕ) → x < 64 → y < n → word_dot (get_or square y 0) x ≡ (ltb (placed way n y) k && line_dot lines (placed way n y) (from + x)))
     → (x y : ℕ) → x < 64 → y < n → word_dot (get_or (set square p word) y 0) x ≡ (ltb (placed way n y) (k + 1) && line_dot lines (placed way n y) (from + x))
-line_placed way n square lines from p k word whole is small this before x y h l = elim (cases_eq y p) [
-  | inl e ↦ (let line : placed way n y ≡ k = placed_back way n y k small (e ∙ is) in
-      let here : placed way n k < n = placed_in way n k small in
-      rw (line, e, get_or-set_same square p word 0 (omega (arith, whole, is, here)), lt-ltb k (k + 1) (omega arith)) (this x h))
-  | inr m ↦ rw (get_or-set_other square p y word 0 m) (before x y h l ∙ other_rows (placed way n y) k _ (λ e. m (placed_there way n y k l e ∙ sym is)))
+line_placed way n square lines from p k word whole is small this before x y h l = grind (arith, get_or-set_same, get_or-set_other, this x h, before x y h l)
+
+-- one line more of two squares of half as many lines
+pub two_placed : (way : Way) (squares : List ℕ) (lines : List (List ℕ)) (from p k upper lower : ℕ) → length squares ≡ 64 → p ≡ placed way 32 k → k < 32
+    → ((x : ℕ) → x < 64 → word_dot upper x ≡ line_dot lines k (from + x)) → ((x : ℕ) → x < 64 → word_dot lower x ≡ line_dot lines k (from + 64 + x))
+    → ((x y : ℕ) → x < 64 → y < 64 → word_dot (get_or squares y 0) x ≡ (ltb (placed way 32 (y % 32)) k && line_dot lines (placed way 32 (y % 32)) (from + 64 * (y / 32) + x)))
+    → (x y : ℕ) → x < 64 → y < 64 → word_dot (get_or (set (set squares p upper) (32 + p) lower) y 0) x ≡ (ltb (placed way 32 (y % 32)) (k + 1) && line_dot lines (placed way 32 (y % 32)) (from + 64 * (y / 32) + x))
+two_placed way squares lines from p k upper lower whole is small first second before x y h l = elim (cases_eq y (32 + p)) [
+  | inl e ↦ grind (arith, length-set, get_or-set_same, second x h)
+  | inr n ↦ rw (get_or-set_other (set squares p upper) (32 + p) y lower 0 n) (elim (cases_eq y p) [
+    | inl e ↦ grind (arith, get_or-set_same, first x h)
+    | inr m ↦ grind (arith, get_or-set_other, before x y h l)
+  ])
 ]
 
 -- a dot is on the row that shows it
 pub ordered_back : (way : Way) (n k : ℕ) → k < n → ordered way n (ordered way n k) ≡ k
 ordered_back way n k h = grind arith
-
-not_held : (p b : Bool) → (p && false && b) ≡ false
-not_held p b = ap (λ t. t && b) (and_false p)
-
--- columns of an area
-module _ (ax dx v n x : ℕ) (ink : ℕ → Bool) (deep : v + n ≤ dx) (none : (i : ℕ) → n ≤ i → ink i ≡ false) where
-  up_columns : (leb (ax + v) x && ink (x - (ax + v))) ≡ (span ax (ax + dx) x && (leb v (x - ax) && ink (x - ax - v)))
-  up_columns = elim (cases_lt x (ax + v)) [
-    | inl l ↦ rw (lt-leb (ax + v) x l) (elim (cases_lt x ax) [
-      | inl b ↦ rw (lt-leb ax x b) refl
-      | inr g ↦ rw (lt-leb v (x - ax) (omega arith)) (sym (and_false (span ax (ax + dx) x)))
-    ])
-    | inr g ↦ (let at : x - (ax + v) ≡ x - ax - v = omega arith in
-        rw (le-leb (ax + v) x g, at, le-leb ax x (omega arith), le-leb v (x - ax) (omega arith)) (elim (cases_lt x (ax + dx)) [
-          | inl l ↦ rw (lt-ltb x (ax + dx) l) refl
-          | inr h ↦ rw (le-ltb x (ax + dx) h) (none (x - ax - v) (omega arith))
-        ]))
-  ]
-
-  down_columns : (ltb x (ax + dx - v) && ink (ax + dx - v - 1 - x)) ≡ (span ax (ax + dx) x && (leb v (ax + dx - 1 - x) && ink (ax + dx - 1 - x - v)))
-  down_columns = elim (cases_lt x (ax + dx - v)) [
-    | inl l ↦ (let at : ax + dx - v - 1 - x ≡ ax + dx - 1 - x - v = omega arith in
-        rw (lt-ltb x (ax + dx - v) l, at, lt-ltb x (ax + dx) (omega arith), le-leb v (ax + dx - 1 - x) (omega arith)) (elim (cases_lt x ax) [
-          | inl b ↦ rw (lt-leb ax x b) (none (ax + dx - 1 - x - v) (omega arith))
-          | inr g ↦ rw (le-leb ax x g) refl
-        ]))
-    | inr g ↦ rw (le-ltb x (ax + dx - v) g) (sym (elim (cases_lt x (ax + dx)) [
-      | inl l ↦ rw (lt-leb v (ax + dx - 1 - x) (omega arith)) (and_false (span ax (ax + dx) x))
-      | inr h ↦ rw (le-ltb x (ax + dx) h) (not_held (leb ax x) _)
-    ]))
-  ]
 
 -- a row of the page with dots in those columns
 columns_row : (a : Area) (way : Way) (v n wide x : ℕ) (ink row : ℕ → Bool) (at : ℤ) → v + n ≤ a.dx → n ≤ wide → IsLeft a way v wide at → ((i : ℕ) → n ≤ i → ink i ≡ false)
@@ -83,7 +58,7 @@ columns_row a way v n wide x ink row at deep few e none same past = grind (arith
 
 -- what stands on rows of the page, as dots of a stretch
 in_stretch : (p1 p2 hx hy s q r : Bool) → (p1 && p2) ≡ (hy && s) → (p1 ≡ true → p2 ≡ true → q ≡ (hx && r)) → (p1 && (p2 && q)) ≡ (s && ((hx && hy) && r))
-in_stretch p1 p2 hx hy s q r e f = grind (arith, true≢false, and_false)
+in_stretch p1 p2 hx hy s q r e f = grind arith
 
 -- where a row of a stretch is along the lines
 row_along : (a : Area) (way : Way) (from rows top y : ℕ) → from + rows ≤ a.dy → top ≡ topmost a way from rows → top ≤ y → y - top < rows
@@ -108,105 +83,35 @@ stretch_laid a way v lines from rows top wide row at deep few long e left shows 
 pub alike_laid : (a : Area) (way : Way) (v : ℕ) (lines : List (List ℕ)) (from rows top last x y : ℕ) → from + rows ≤ a.dy → top ≡ topmost a way from rows
     → ((i u : ℕ) → from ≤ u → u < from + rows → line_dot lines i last ≡ line_dot lines i u)
     → (leb top y && (ltb (y - top) rows && (span a.x (a.x + a.dx) x && (leb v (depth_of a way x) && line_dot lines (depth_of a way x - v) last)))) ≡ stretch_dot a way v lines from rows x y
-alike_laid a way v lines from rows top last x y long e same =
-    let u = along_of a way y in
-    in_stretch (leb top y) (ltb (y - top) rows) (span a.x (a.x + a.dx) x) (leb a.y y && ltb y (a.y + a.dy)) (span from (from + rows) u) _ (leb v (depth_of a way x) && line_dot lines (depth_of a way x - v) u)
-    (run_in a way from rows y top long e)
-    (λ p q. let r = row_along a way from rows top y long e (leb-true _ _ p) (ltb-true _ _ q) in
-    ap (λ b. span a.x (a.x + a.dx) x && (leb v (depth_of a way x) && b)) (same (depth_of a way x - v) u (omega (arith, r.2)) (omega (arith, r.1, r.2))))
+alike_laid a way v lines from rows top last x y long e same = grind (arith, nat_tests)
 
 -- along which they are white
 pub white_stretch : (a : Area) (way : Way) (v : ℕ) (lines : List (List ℕ)) (from rows x y : ℕ) → ((i u : ℕ) → from ≤ u → u < from + rows → line_dot lines i u ≡ false) → stretch_dot a way v lines from rows x y ≡ false
 white_stretch a way v lines from rows x y white = grind (arith, and_parts, leb-true, ltb-true, and_false)
 
--- a stretch of no dots
-pub no_stretch : (from u : ℕ) (b : Bool) → (span from from u && b) ≡ false
-no_stretch from u b = grind (arith, nat_tests)
-
--- some rows of a stretch are on the page if all are
-pub part_on_page : (a : Area) (way : Way) (u n from rows : ℕ) → u + n ≤ a.dy → topmost a way u n + n ≤ 1664 → u ≤ from → from + rows ≤ u + n → topmost a way from rows + rows ≤ 1664
-part_on_page a way u n from rows h e p q = grind arith
-
-short_of : (a : Area) (way : Way) (x y : ℕ) → holds a x y ≡ true → depth_of a way x < a.dx
-short_of a way x y e = grind (arith, and_parts, leb-true, ltb-true)
-
--- a line is one of those that are laid at once
-at_once : (lines : List (List ℕ)) (i u : ℕ) → length lines ≤ 192 → line_dot lines i u ≡ (ltb i 192 && line_dot lines i u)
-at_once lines i u few = grind (arith, lt-ltb, le-ltb, no_line)
-
-in_mark : (h d b c : Bool) → (h ≡ true → d ≡ true → b ≡ c) → (h && (d && b)) ≡ (h && (d && c))
-in_mark h d b c f = grind arith
-
--- the lines that have room, as a mark
-module _ (a : Area) (way : Way) (v n : ℕ) (lines : List (List ℕ)) (few : length lines ≤ 192) (room : n ≡ min (length lines) (a.dx - v)) (x y : ℕ) where
-  shown_across : lines_across a way v (take n lines) x y ≡ (holds a x y && (leb v (depth_of a way x) && (ltb (depth_of a way x - v) 192 && line_dot lines (depth_of a way x - v) (along_of a way y))))
-  shown_across =
-      let i = depth_of a way x - v in
-      let u = along_of a way y in
-      in_mark (holds a x y) (leb v (depth_of a way x)) _ _ (λ h d.
-      let deep = short_of a way x y h in
-      let below = leb-true _ _ d in
-      shown_line lines n i u ∙ elim (cases_lt i n) [
-        | inl l ↦ rw (lt-ltb i n l) (at_once lines i u few)
-        | inr g ↦ rw (le-ltb i n g) (sym (ap (λ b. ltb i 192 && b) (no_line lines i u (omega (arith, g, room, deep, below))) ∙ and_false (ltb i 192)))
-      ])
-
-pub across_mark : (a : Area) (way : Way) (v n : ℕ) (lines : List (List ℕ)) → length lines ≤ 192 → n ≡ min (length lines) (a.dx - v) → (x y : ℕ)
+pub across_mark : (a : Area) (way : Way) (v n : ℕ) (lines : List (List ℕ)) → length lines ≤ AT_ONCE → n ≡ min (length lines) (a.dx - v) → (x y : ℕ)
     → lines_across a way v (take n lines) x y ≡ mark_dot (lines_mark a (across way) v lines) x y
-across_mark a Up v n lines few room x y = shown_across a Up v n lines few room x y
-across_mark a Down v n lines few room x y = shown_across a Down v n lines few room x y
+across_mark a way v n lines few room x y = grind (arith, nat_tests, shown_line, no_line)
 
 -- a line that is there is on the columns of all
 module _ (lines : List (List ℕ)) (v w at : ℕ) where
   pub black_lines : ((i : ℕ) → i < length lines → line_dot lines i at ≡ true) → span v (v + length lines) w ≡ (leb v w && line_dot lines (w - v) at)
-  black_lines black = elim (cases_lt w v) [
-    | inl l ↦ rw (lt-leb v w l) refl
-    | inr g ↦ rw (le-leb v w g) (elim (cases_lt (w - v) (length lines)) [
-      | inl m ↦ rw (lt-ltb w (v + length lines) (omega arith)) (sym (black (w - v) m))
-      | inr n ↦ rw (le-ltb w (v + length lines) (omega arith)) (sym (no_line lines (w - v) at n))
-    ])
-  ]
+  black_lines black = grind (arith, nat_tests, no_line)
 
   pub white_lines : ((i : ℕ) → i < length lines → line_dot lines i at ≡ false) → (leb v w && line_dot lines (w - v) at) ≡ false
-  white_lines white = elim (cases_lt (w - v) (length lines)) [
-    | inl m ↦ ap (λ b. leb v w && b) (white (w - v) m) ∙ and_false (leb v w)
-    | inr n ↦ ap (λ b. leb v w && b) (no_line lines (w - v) at n) ∙ and_false (leb v w)
-  ]
+  white_lines white = grind (arith, no_line)
 
   -- all of them
   pub all_lines : (n : ℕ) → length lines ≤ n → (span v (v + n) w && line_dot lines (w - v) at) ≡ (leb v w && line_dot lines (w - v) at)
-  all_lines n h = elim (cases_lt w v) [
-    | inl l ↦ rw (lt-leb v w l) refl
-    | inr g ↦ rw (le-leb v w g) (elim (cases_lt w (v + n)) [
-      | inl m ↦ rw (lt-ltb w (v + n) m) refl
-      | inr o ↦ rw (le-ltb w (v + n) o) (sym (no_line lines (w - v) at (omega arith)))
-    ])
-  ]
+  all_lines n h = grind (arith, nat_tests, no_line)
 
 -- the bytes on which the dots of a row of lines stand
 pub bytes_across : (lines : List (List ℕ)) (v w at x left first : ℕ) (hx : Bool) → first ≡ left / 8 → span left (left + length lines) x ≡ (hx && span v (v + length lines) w)
     → (hx && (leb v w && line_dot lines (w - v) at)) ≡ true → span first (first + (length lines / 8 + 2)) (x / 8) ≡ true
 bytes_across lines v w at x left first hx e is black = grind (arith, and_parts, leb-true, true≢false, no_line, le-leb, lt-ltb, ltb-true)
 
--- all dots of the lines that fall on the page
-pub all_across : (a : Area) (way : Way) (v : ℕ) (lines : List (List ℕ)) (from end to x y : ℕ) → (span a.y (a.y + a.dy) y ≡ true → span from end (along_of a way y) ≡ true)
-    → ((i u : ℕ) → to ≤ u → u < end → line_dot lines i u ≡ false) → (span from to (along_of a way y) && lines_across a way v lines x y) ≡ lines_across a way v lines x y
-all_across a way v lines from end to x y page white = grind (arith, and_parts, ltb-true, nat_tests, and_false)
-
 -- two squares of few lines that are white
 pub two_white : (way : Way) (lines : List (List ℕ)) (squares : List ℕ) (from i u : ℕ) → length lines ≤ 32 → u < 128
     → ((x y : ℕ) → x < 64 → y < 64 → word_dot (get_or squares y 0) x ≡ line_dot lines (placed way 32 (y % 32)) (from + 64 * (y / 32) + x))
     → ((x y : ℕ) → x < 64 → y < 64 → word_dot (get_or squares y 0) x ≡ false) → line_dot lines i (from + u) ≡ false
-two_white way lines squares from i u few near dots white = elim (cases_lt i 32) [
-  | inl l ↦
-      let here : placed way 32 i < 32 = placed_in way 32 i l in
-      let y = 32 * (u / 64) + placed way 32 i in
-      let line : placed way 32 (y % 32) ≡ i = placed_back way 32 (y % 32) i l (omega (arith, here)) in
-      let place : from + 64 * (y / 32) + u % 64 ≡ from + u = omega (arith, here) in
-      sym (rw (line, place) at (dots (u % 64) y (omega arith) (omega (arith, here)))) ∙ white (u % 64) y (omega arith) (omega (arith, here))
-  | inr g ↦ no_line lines i (from + u) (omega (arith, g))
-]
-
--- a dot is of a colour, or not
-pub same_colour : (here black : Bool) → not (beq here black) ≡ false → here ≡ black
-same_colour here black e = grind (arith, true≢false)
+two_white way lines squares from i u few near dots white = grind (arith, no_line, dots (u % 64) (32 * (u / 64) + placed way 32 i), white (u % 64) (32 * (u / 64) + placed way 32 i))

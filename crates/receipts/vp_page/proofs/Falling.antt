@@ -14,10 +14,10 @@ pub record IsWithin (a : Area) (x y : ℕ) : Type 0 where
   pub below : y < a.y + a.dy
 
 pub within : (a : Area) (x y : ℕ) → holds a x y ≡ true → IsWithin a x y
-within a x y e = grind (arith, and_parts, leb-true, ltb-true)
+within a x y e = grind arith
 
 pub held : (a : Area) (x y : ℕ) → IsWithin a x y → holds a x y ≡ true
-held a x y w = rw (le-leb a.x x w.left, lt-ltb x (a.x + a.dx) w.right, le-leb a.y y w.above, lt-ltb y (a.y + a.dy) w.below) refl
+held a x y w = grind arith
 
 -- the place of an area, by the line
 pub record Lies (a : Area) (d : Direction) (u w x y : ℕ) : Type 0 where

@@ -12,7 +12,6 @@ pub mod PageRows
 pub mod Pages
 pub mod Squares
 pub mod Stretches
-pub mod RowMarks
 pub mod RunRows
 pub mod Rows
 pub mod Unlike

@@ -1,15 +1,13 @@
 -- Lines of which many are as the one before.
-use Rattle.std.proofs.Common.{inl, inr, ◌≡◌, ℕ, ◌+◌, ◌-◌, ◌<◌, ◌≤◌, false, min, ltb, ◌&&◌, refl, sym, ap, ◌∙◌, arith, List, [], length, take, get_or, set, get_or-set_same, get_or-set_other}
-use Rattle.std.proofs.lemmas.Bool.{cases_lt, le-ltb, lt-ltb}
+use Rattle.std.proofs.Common.{◌≡◌, ℕ, ◌+◌, ◌-◌, ◌<◌, ◌≤◌, false, min, ltb, ◌&&◌, arith, List, [], length, take, get_or, set, get_or-set_same, get_or-set_other}
 use Rattle.std.proofs.lemmas.List.{get_or-take, length-take}
-use Rattle.vp_dots.specs.Dots.{dot, span}
-use Rattle.vp_page.specs.Areas.{holds}
+use Rattle.vp_dots.specs.Dots.{dot}
+use Rattle.vp_page.specs.declared.line.TheConstants.{LINE_DOTS}
 use Rattle.vp_page.specs.Lines.{line_dot}
-use Rattle.vp_page.specs.Runs.{across_dot, along_of, depth_of, lines_across, AreDifferent, AreRuns}
+use Rattle.vp_page.specs.Runs.{across_dot, lines_across, AreDifferent, AreRuns}
 use Rattle.vp_page.specs.declared.area.Area.{Area}
 use Rattle.vp_page.specs.declared.area.Way.{Way}
 use Rattle.vp_page.proofs.Columns.{all_lines}
-use Rattle.vp_page.proofs.Squares.{and_false}
 
 -- one more line begins where the last one ends
 module _ (begins : List ℕ) (n end next : ℕ) (count : length begins ≡ 65) (few : n < 32) (last : get_or begins n 0 ≡ end) (on : end ≤ next) where
@@ -20,61 +18,25 @@ module _ (begins : List ℕ) (n end next : ℕ) (count : length begins ≡ 65) (
   newest = get_or-set_same begins (n + 1) next 0 (omega (arith, count, few))
 
   pub more_runs : AreRuns begins n end → AreRuns (set begins (n + 1) next) (n + 1) next
-  more_runs r = record {
-    few = omega (arith, few);
-    rise = λ i h. elim (cases_lt i n) [
-      | inl l ↦ rw (earlier i (omega (arith, l)), earlier (i + 1) (omega (arith, l))) (r.rise i l)
-      | inr g ↦ (let e : i ≡ n = omega (arith, g, h) in rw (e, earlier n (omega arith), newest, last) on)
-    ];
-    deep = λ i h. elim (cases_lt n i) [
-      | inl l ↦ (let e : i ≡ n + 1 = omega (arith, l, h) in rw (e, newest) (omega arith))
-      | inr g ↦ (let d = r.deep i g in rw (earlier i g) (omega (arith, d, on)))
-    ];
-    from_first = λ i h. elim (cases_lt n i) [
-      | inl l ↦ (let e : i ≡ n + 1 = omega (arith, l, h) in let f = r.from_first n (omega arith) in rw (e, newest, earlier 0 (omega arith)) (omega (arith, f, last, on)))
-      | inr g ↦ rw (earlier i g, earlier 0 (omega arith)) (r.from_first i g)
-    ];
-  }
+  more_runs r = grind (arith, earlier, newest)
 
   -- its line, as those of all before
   pub more_lines : (lines these : List (List ℕ)) (v line m : ℕ) → length these ≡ 32 → end ≡ v + line → next ≡ v + (line + m)
       → ((i u : ℕ) → i < m → dot (get_or lines (line + i) []) u ≡ dot (get_or lines line []) u)
       → ((i u w : ℕ) → i < n → get_or begins i 0 ≤ w → w < get_or begins (i + 1) 0 → dot (get_or these i []) u ≡ dot (get_or lines (w - v) []) u)
       → (i u w : ℕ) → i < n + 1 → get_or (set begins (n + 1) next) i 0 ≤ w → w < get_or (set begins (n + 1) next) (i + 1) 0 → dot (get_or (set these n (get_or lines line [])) i []) u ≡ dot (get_or lines (w - v) []) u
-  more_lines lines these v line m long at to same before i u w h p q = elim (cases_lt i n) [
-    | inl b ↦ rw (get_or-set_other these n i (get_or lines line []) [] (λ e. omega (arith, e, b)))
-        (before i u w b (rw (earlier i (omega (arith, b))) at p) (rw (earlier (i + 1) (omega (arith, b))) at q))
-    | inr g ↦
-        let e : i ≡ n = omega (arith, g, h) in
-        let here : end ≤ w = rw (e, earlier n (omega arith), last) at p in
-        let below : w < next = rw (e, newest) at q in
-        let place : line + (w - v - line) ≡ w - v = omega (arith, here, at) in
-        rw (e, get_or-set_same these n (get_or lines line []) [] (omega (arith, long, few))) (sym (rw place at (same (w - v - line) u (omega (arith, here, below, at, to)))))
-  ]
+  more_lines lines these v line m long at to same before i u w h p q = grind (arith, get_or-set_same, get_or-set_other, before i u w, same (w - v - line) u)
 
 -- each shows what the lines do that it stands for
 pub different_lines : (lines these : List (List ℕ)) (begins : List ℕ) (v n i u w : ℕ) → AreDifferent lines v these begins n → i < length (take n these)
     → get_or begins i 0 ≤ w → w < get_or begins (i + 1) 0 → line_dot (take n these) i u ≡ line_dot lines (w - v) u
-different_lines lines these begins v n i u w d h p q =
-    let m : i < n = omega (arith, h, d.few, length-take n these) in
-    rw (get_or-take n these i [] m) (ap (λ b. ltb u 1664 && b) (d.same i u w m p q))
+different_lines lines these begins v n i u w d h p q = grind (arith, get_or-take, length-take, d.same i u w)
 
-shown_dot : (lines : List (List ℕ)) (long shown i u : ℕ) → shown ≡ min long 1664 → ((i u : ℕ) → long ≤ u → line_dot lines i u ≡ false) → (ltb u shown && line_dot lines i u) ≡ line_dot lines i u
-shown_dot lines long shown i u e white = elim (cases_lt u long) [
-  | inl l ↦ elim (cases_lt u 1664) [
-    | inl m ↦ rw (lt-ltb u shown (omega (arith, e, l, m))) refl
-    | inr g ↦ rw (le-ltb u 1664 g) (and_false _)
-  ]
-  | inr g ↦ rw (white i u g) (and_false _)
-]
+shown_dot : (lines : List (List ℕ)) (long shown i u : ℕ) → shown ≡ min long LINE_DOTS → ((i u : ℕ) → long ≤ u → line_dot lines i u ≡ false) → (ltb u shown && line_dot lines i u) ≡ line_dot lines i u
+shown_dot lines long shown i u e white = grind arith
 
 -- all of them between their depths
 pub different_across : (a : Area) (way : Way) (lines these : List (List ℕ)) (begins : List ℕ) (v n long shown x y : ℕ) → AreDifferent lines v these begins n
-    → shown ≡ min long 1664 → ((i u : ℕ) → long ≤ u → line_dot lines i u ≡ false)
+    → shown ≡ min long LINE_DOTS → ((i u : ℕ) → long ≤ u → line_dot lines i u ≡ false)
     → across_dot a way (get_or begins 0 0) (get_or begins (length (take n these)) 0) (λ u w. ltb u shown && line_dot lines (w - v) u) x y ≡ lines_across a way v lines x y
-different_across a way lines these begins v n long shown x y d e white =
-    let u = along_of a way y in
-    let w = depth_of a way x in
-    let all : length (take n these) ≡ n = omega (arith, d.few, length-take n these) in
-    rw (all, d.first, d.last) (ap (λ b. holds a x y && (span v (v + length lines) w && b)) (shown_dot lines long shown (w - v) u e white)
-    ∙ ap (λ b. holds a x y && b) (all_lines lines v w u (length lines) (omega arith)))
+different_across a way lines these begins v n long shown x y d e white = grind (arith, length-take, shown_dot, all_lines)

@@ -1,16 +1,16 @@
 -- A line of an image, and a line alone that is laid across the page.
-use Rattle.std.proofs.Common.{inl, inr, ◌≡◌, ℕ, ◌+◌, ◌-◌, ◌*◌, ◌<◌, ◌≤◌, min, Bool, true, false, eqb, leb, ltb, ◌&&◌, ◌||◌, refl, sym, ap, ◌∙◌, arith, List, [], get_or, replicate, pos}
-use Rattle.std.specs.Int.{bit_at, to_be_bytes, w64}
+use Rattle.std.proofs.Common.{◌≡◌, ℕ, ◌+◌, ◌-◌, ◌*◌, ◌<◌, ◌≤◌, Bool, true, false, leb, ltb, ◌&&◌, ◌||◌, refl, arith, List, [], get_or, replicate, pos}
+use Rattle.std.specs.Int.{to_be_bytes, w64}
 use Rattle.std.proofs.lemmas.Bool.Decides.{nat_tests}
 use Rattle.std.proofs.lemmas.Nat.Bits.{bit_at-zero}
 use Rattle.std.proofs.lemmas.List.{length-replicate}
-use Rattle.std.proofs.lemmas.Bool.{cases_lt, false_from_ne_true, lt-ltb, le-ltb, lt-leb, le-leb}
-use Rattle.vp_dots.specs.Dots.{bit, dot, shifted, span}
+use Rattle.std.proofs.lemmas.Bool.{false_from_ne_true, lt-leb, le-leb}
+use Rattle.vp_dots.specs.Dots.{bit, dot, shifted}
 use Rattle.vp_dots.specs.Places.{RowsPainted}
 use Rattle.vp_dots.specs.Words.{word_dot}
 use Rattle.vp_dots.proofs.Paints.{painted_none}
 use Rattle.vp_dots.proofs.Rows.{dot_at}
-use Rattle.vp_dots.proofs.Words.{or_false}
+use Rattle.vp_page.specs.declared.page.TheConstants.{PAGE_ROWS}
 use Rattle.vp_page.proofs.WordsOnRows.{word_bytes}
 use Rattle.vp_dots.specs.Painting.{Painted}
 use Rattle.vp_dots.specs.declared.Op.TheVariants.{Black}
@@ -23,23 +23,16 @@ pub drawn : (n width : ℕ) (f : ℕ → Bool) (old new : List ℕ) → old ≡ 
     → Painted Black (shifted (pos 0) f) old new → (x : ℕ) → dot new x ≡ f x
 drawn n width f old new e w o p x = grind (arith, length-replicate, dot_white, le-leb, dot_past, false_from_ne_true)
 
--- a column has no dot where its area has no row
-pub no_column : (ay dy k : ℕ) (e b : Bool) → (ay ≤ k → k < ay + dy → ⊥) → (e && (span ay (ay + dy) k && b)) ≡ false
-no_column ay dy k e b h = grind (arith, lt-leb, and_false, le-leb, le-ltb)
-
 -- a column without a dot
-pub nothing : (f : ℕ → ℕ → Bool) (rows : List (List ℕ)) → ((d k : ℕ) → f d k ≡ false) → RowsPainted 1664 Black f rows rows
+pub nothing : (f : ℕ → ℕ → Bool) (rows : List (List ℕ)) → ((d k : ℕ) → f d k ≡ false) → RowsPainted PAGE_ROWS Black f rows rows
 nothing f rows none = record { rows_are = λ k h. painted_none Black _ (get_or rows k []) (λ d l. none d k) }
-
-gone : (a b c : Bool) → (a && (b && (c && false))) ≡ false
-gone a b c = rw (and_false c, and_false b) (and_false a)
 
 pub white_byte : (byte top rows k : ℕ) (e : Bool) → byte ≡ 0 → (e && (leb top k && (ltb (k - top) rows && bit byte (7 - (k - top))))) ≡ false
 unfolding bit
-white_byte byte top rows k e z = ap (λ n. e && (leb top k && (ltb (k - top) rows && eqb n 1))) (ap (λ b. bit_at b (7 - (k - top))) z ∙ bit_at-zero (7 - (k - top))) ∙ gone e (leb top k) (ltb (k - top) rows)
+white_byte byte top rows k e z = grind (arith, bit_at-zero)
 
 pub white_column : (word top rows k : ℕ) (e : Bool) → word ≡ 0 → (e && (leb top k && (ltb (k - top) rows && word_dot word (k - top)))) ≡ false
-white_column word top rows k e z = ap (λ t. e && (leb top k && (ltb (k - top) rows && t))) (ap (λ w. word_dot w (k - top)) z ∙ white_word (k - top)) ∙ gone e (leb top k) (ltb (k - top) rows)
+white_column word top rows k e z = grind (arith, white_word)
 
 -- a column of dots from one row on: none above it
 pub no_bit : (top k : ℕ) (e b : Bool) → k < top → (e && (leb top k && b)) ≡ false
@@ -57,22 +50,4 @@ column_rows top i rows k e b h = grind (arith, nat_tests, and_false)
 pub byte_more : (word top n m k : ℕ) (bytes : List ℕ) (e : Bool) → bytes ≡ to_be_bytes w64 word → n < 8 → m ≤ 8
     → (ltb k (top + (8 * n + m)) && (e && (leb top k && word_dot word (k - top))))
     ≡ (ltb k (top + 8 * n) && (e && (leb top k && word_dot word (k - top))) || e && (leb (top + 8 * n) k && (ltb (k - (top + 8 * n)) m && bit (get_or bytes n 0) (7 - (k - (top + 8 * n))))))
-byte_more word top n m k bytes e is h few = elim (cases_lt k (top + 8 * n)) [
-  | inl l ↦ rw (lt-ltb k (top + 8 * n) l, lt-ltb k (top + (8 * n + m)) (omega arith), lt-leb (top + 8 * n) k l, and_false e) (or_false _)
-  | inr g ↦ rw (le-ltb k (top + 8 * n) g, le-leb top k (omega arith), le-leb (top + 8 * n) k g) (elim (cases_lt k (top + (8 * n + m))) [
-    | inl l ↦
-        let j = k - (top + 8 * n) in
-        let here : 8 * 0 + (k - top) ≡ 8 * n + (7 - (7 - j)) = omega arith in
-        let same : word_dot word (k - top) ≡ bit (get_or bytes n 0) (7 - j) =
-        sym (word_bytes word (k - top) bytes is) ∙ ap (λ t. t && dot bytes (8 * 0 + (k - top))) (lt-ltb (k - top) 64 (omega arith)) ∙ ap (dot bytes) here ∙ dot_at bytes n (7 - j) (omega arith) in
-        rw (lt-ltb k (top + (8 * n + m)) l, lt-ltb j m (omega arith)) (ap (λ t. e && t) same)
-    | inr o ↦ rw (le-ltb k (top + (8 * n + m)) o, le-ltb (k - (top + 8 * n)) m (omega arith)) (sym (and_false e))
-  ])
-]
-
--- a word of a column more
-pub word_of_column : (word ay dy rows j n k : ℕ) (e : Bool) (ink : ℕ → Bool) → rows ≤ dy → 64 * j < rows → n ≡ min (rows - 64 * j) 64
-    → ((i : ℕ) → i < 64 → 64 * j + i < dy → word_dot word i ≡ ink (ay + (64 * j + i)))
-    → (ltb k (ay + min rows (64 * (j + 1))) && (e && (span ay (ay + dy) k && ink k)))
-    ≡ (ltb k (ay + min rows (64 * j)) && (e && (span ay (ay + dy) k && ink k)) || e && (leb (ay + 64 * j) k && (ltb (k - (ay + 64 * j)) n && word_dot word (k - (ay + 64 * j)))))
-word_of_column word ay dy rows j n k e ink few some is dots = grind (arith, lt-ltb, lt-leb, and_false, or_false, le-ltb, le-leb)
+byte_more word top n m k bytes e is h few = grind (arith, nat_tests, word_bytes word (k - top) bytes is, dot_at bytes n)

@@ -1,6 +1,6 @@
 -- Rows made of words, and laid along the page.
-use Rattle.std.proofs.Common.{inl, inr, ◌≡◌, ℕ, ◌+◌, ◌-◌, ◌*◌, ◌/◌, ◌<◌, ◌≤◌, min, Bool, true, false, cond, ltb, leb, ◌&&◌, ◌||◌, refl, sym, ap, ◌∙◌, arith, List, length, take, replicate, ◌^◌, ◌%◌}
-use Rattle.std.proofs.lemmas.Bool.{cases_lt, lt-ltb, le-ltb, lt-leb, le-leb}
+use Rattle.std.proofs.Common.{◌≡◌, ℕ, ◌+◌, ◌-◌, ◌*◌, ◌/◌, ◌<◌, ◌≤◌, min, Bool, true, false, cond, ltb, leb, ◌&&◌, ◌||◌, sym, ap, ◌∙◌, arith, List, length, take, replicate, ◌^◌, ◌%◌}
+use Rattle.std.proofs.lemmas.Bool.{lt-ltb, le-ltb, lt-leb, le-leb}
 use Rattle.std.proofs.lemmas.List.{get_or-take, length-replicate, length-take}
 use Rattle.std.proofs.lemmas.Bool.Decides.{nat_tests}
 use Rattle.std.specs.Int.{to_be_bytes, w64}
@@ -9,21 +9,11 @@ use Rattle.vp_dots.specs.Words.{word_dot}
 use Rattle.vp_dots.specs.Painting.{Painted}
 use Rattle.vp_dots.specs.declared.Op.TheVariants.{Black}
 use Rattle.vp_dots.proofs.Words.{word_shr}
+use Rattle.vp_page.specs.declared.page.TheConstants.{PAGE_ROWS, PAPER_DOTS}
 use Rattle.vp_page.proofs.Blank.{dot_white}
 use Rattle.vp_page.proofs.Rows.{dot_past}
 use Rattle.vp_page.proofs.WordsOnRows.{first_eight, word_bytes}
 use Rattle.vp_page.proofs.Squares.{and_false}
-
-or_false : (b : Bool) → b ≡ (b || false)
-or_false b = grind arith
-
--- one more word of a row
-pub word_more : (ink : ℕ → Bool) (word k d : ℕ) → ((x : ℕ) → x < 64 → word_dot word x ≡ ink (64 * k + x))
-    → (ltb d (64 * (k + 1)) && ink d) ≡ ((ltb d (64 * k) && ink d) || (leb (8 * (8 * k)) d && word_dot word (d - 8 * (8 * k))))
-word_more ink word k d e = grind (arith, lt-ltb, lt-leb, or_false, le-ltb, le-leb)
-
-pub word_apart : (k d : ℕ) (a b : Bool) → ((ltb d (64 * k) && a) && (leb (8 * (8 * k)) d && b)) ≡ false
-word_apart k d a b = grind (arith, lt-leb, and_false, le-ltb)
 
 pub on_white : (b o : Bool) → o ≡ false → cond b true o ≡ b
 on_white b o e = grind arith
@@ -33,7 +23,7 @@ pub none_before : (first d : ℕ) (b : Bool) → (ltb d (64 * (first + 0)) && (l
 none_before first d b = grind (arith, lt-leb, and_false, le-ltb)
 
 -- what stands on a row that was white
-pub row_made : (ink : ℕ → Bool) (x : ℕ) (row : List ℕ) → Painted Black ink (replicate 72 0) row → x < 576 → dot row x ≡ ink x
+pub row_made : (ink : ℕ → Bool) (x : ℕ) (row : List ℕ) → Painted Black ink (replicate 72 0) row → x < PAPER_DOTS → dot row x ≡ ink x
 row_made ink x row p l = p.dots_are x (omega (arith, length-replicate {A = ℕ} 72 0)) ∙ on_white (ink x) _ (dot_white 72 x (omega arith))
 
 -- a word moved to the right
@@ -43,25 +33,16 @@ moved_right word s x fits h = grind (arith, lt-ltb, word_shr, lt-leb, le-leb)
 -- the dots of a line that begins behind the place
 pub begun : (line : List ℕ) (word far at x : ℕ) → word < 2 ^ 64 → at < far → x < 64 → ((u : ℕ) → u < 64 → word_dot word u ≡ dot line (0 + u))
     → word_dot (word / 2 ^ (far - at)) x ≡ (leb far (at + x) && dot line (at + x - far))
-begun line word far at x fits b h e = moved_right word (far - at) x fits h ∙ (elim (cases_lt x (far - at)) [
-  | inl l ↦ rw (lt-leb (far - at) x l, lt-leb far (at + x) (omega arith)) refl
-  | inr g ↦ rw (le-leb (far - at) x g, le-leb far (at + x) (omega arith)) (e (x - (far - at)) (omega arith) ∙ ap (dot line) (omega arith))
-])
+begun line word far at x fits b h e = grind (arith, nat_tests, moved_right)
 
 -- and of one that ends behind it, turned
 pub ended : (line : List ℕ) (word end at x : ℕ) → at < end → end < at + 64 → x < 64 → ((u : ℕ) → u < 64 → word_dot word u ≡ dot line (63 - u))
     → word_dot (word * 2 ^ (at + 64 - end) % 2 ^ 64) x ≡ (ltb (at + x) end && dot line (end - 1 - (at + x)))
-ended line word end at x b c h e =
-    let s = at + 64 - end in
-    let z : x - 0 ≡ x = omega arith in
-    (rw (le-leb 0 x (omega arith), z) at (first_eight word s x)) ∙ (elim (cases_lt (at + x) end) [
-      | inl l ↦ rw (lt-ltb (at + x) end l) (e (x + s) (omega arith) ∙ ap (dot line) (omega arith))
-      | inr g ↦ rw (le-ltb (at + x) end g, le-ltb (x + s) 64 (omega arith)) refl
-    ])
+ended line word end at x b c h e = grind (arith, first_eight word (at + 64 - end) x, e (x + (at + 64 - end)))
 
 -- the bytes of a word, turned
 pub turned_bytes : (word result x : ℕ) (bytes : List ℕ) → x < 64 → bytes ≡ to_be_bytes w64 word → word_dot result x ≡ dot bytes (8 * 0 + (63 - x)) → word_dot result x ≡ word_dot word (63 - x)
-turned_bytes word result x bytes h e r = r ∙ sym (ap (λ t. t && dot bytes (8 * 0 + (63 - x))) (lt-ltb (63 - x) 64 (omega arith))) ∙ word_bytes word (63 - x) bytes e
+turned_bytes word result x bytes h e r = grind (arith, word_bytes)
 
 -- the front of a line
 front : (line : List ℕ) (n u : ℕ) → dot (take n line) u ≡ (ltb u (8 * n) && dot line u)
@@ -73,17 +54,8 @@ pub whole_right : (line : List ℕ) (begin long x : ℕ) → begin % 8 ≡ 0 →
     → (leb (8 * (begin / 8)) x && dot (take (long / 8) line) (x - 8 * (begin / 8))) ≡ (leb begin x && (ltb (x - begin) long && dot line (x - begin)))
 whole_right line begin long x b w = grind (arith, front)
 
--- a word of a row, counted from the first one that a line reaches
-pub moved_right_word : (begin i x : ℕ) (line : List ℕ) (word : ℕ) → word_dot word x ≡ (leb (begin % 64) (64 * i + x) && dot line (64 * i + x - begin % 64))
-    → word_dot word x ≡ (leb (64 * (begin / 64)) (64 * (begin / 64 + i) + x) && (leb begin (64 * (begin / 64 + i) + x) && dot line (64 * (begin / 64 + i) + x - begin)))
-moved_right_word begin i x line word e = grind (arith, le-leb, lt-leb)
-
-pub moved_left_word : (begin end i x : ℕ) (line : List ℕ) (word : ℕ) → begin ≤ end → word_dot word x ≡ (ltb (64 * i + x) (end - 64 * (begin / 64)) && dot line (end - 64 * (begin / 64) - 1 - (64 * i + x)))
-    → word_dot word x ≡ (leb (64 * (begin / 64)) (64 * (begin / 64 + i) + x) && (ltb (64 * (begin / 64 + i) + x) end && dot line (end - 1 - (64 * (begin / 64 + i) + x))))
-moved_left_word begin end i x line word h e = grind (arith, le-leb, lt-ltb, le-ltb)
-
 -- a row clipped where so many dots end, and where they begin
-pub clipped_right : (begin long words k x : ℕ) (b : Bool) → words ≤ 9 → words ≤ k → (words < 9 → begin + long ≤ 64 * words) → (words < 9 → k ≡ words) → x < 576
+pub clipped_right : (begin long words k x : ℕ) (b : Bool) → words ≤ 9 → words ≤ k → (words < 9 → begin + long ≤ 64 * words) → (words < 9 → k ≡ words) → x < PAPER_DOTS
     → cond (span (begin + long) (64 * words) x) false (ltb x (64 * k) && (leb (64 * (begin / 64)) x && (leb begin x && b))) ≡ (leb begin x && (ltb (x - begin) long && b))
 clipped_right begin long words k x b few more all same h = grind (arith, lt-leb, le-leb, lt-ltb, le-ltb)
 
@@ -92,16 +64,16 @@ pub whole_left : (line : List ℕ) (begin long x : ℕ) → begin % 8 ≡ 0 → 
     ≡ (ltb x (begin + long) && (ltb (begin + long - 1 - x) long && dot line (begin + long - 1 - x)))
 whole_left line begin long x b w there = grind (arith, length-take, lt-leb, le-ltb, and_false, le-leb, lt-ltb, front)
 
-pub clipped_left : (begin long words k x : ℕ) (b : Bool) → words ≤ k → (words < 9 → begin + long ≤ 64 * words) → x < 576
+pub clipped_left : (begin long words k x : ℕ) (b : Bool) → words ≤ k → (words < 9 → begin + long ≤ 64 * words) → x < PAPER_DOTS
     → cond (span (64 * (begin / 64)) begin x) false (ltb x (64 * k) && (leb (64 * (begin / 64)) x && (ltb x (begin + long) && b))) ≡ (ltb x (begin + long) && (ltb (begin + long - 1 - x) long && b))
 clipped_left begin long words k x b more all h = grind (arith, le-ltb, and_false, lt-ltb, lt-leb, le-leb)
 
 -- as many rows as there are below a place of the page
-pub as_many : (top i times k : ℕ) (b : Bool) → k < 1664 → i ≡ min times (1664 - top) → (ltb k (top + i) && (leb top k && b)) ≡ (leb top k && (ltb (k - top) times && b))
+pub as_many : (top i times k : ℕ) (b : Bool) → k < PAGE_ROWS → i ≡ min times (PAGE_ROWS - top) → (ltb k (top + i) && (leb top k && b)) ≡ (leb top k && (ltb (k - top) times && b))
 as_many top i times k b h e = grind (arith, nat_tests)
 
 pub below_top : (top k : ℕ) (a b : Bool) → top ≤ k → a ≡ b → a ≡ (leb top k && b)
-below_top top k a b h e = e ∙ sym (ap (λ t. t && b) (le-leb top k h))
+below_top top k a b h e = grind arith
 
 -- a line has no dots past the bytes of its row
 pub reach : (n dx u : ℕ) (row : List ℕ) (b : Bool) → n ≤ dx → (u < dx → u < 8 * length row → u < n) → b ≡ dot row u → (ltb u n && b) ≡ (ltb u dx && dot row u)
@@ -114,34 +86,12 @@ no_lines top y b = grind (arith, lt-leb, and_false, le-ltb)
 -- as many more as are the same
 pub lines_more : (top i t y : ℕ) (ink : ℕ → Bool) → ((j : ℕ) → j < t → ink (i + j) ≡ ink i)
     → (ltb y (top + (i + t)) && (leb top y && ink (y - top))) ≡ (ltb y (top + i) && (leb top y && ink (y - top)) || leb (top + i) y && (ltb (y - (top + i)) t && ink i))
-lines_more top i t y ink same = elim (cases_lt y (top + i)) [
-  | inl l ↦ rw (lt-ltb y (top + i) l, lt-ltb y (top + (i + t)) (omega arith), lt-leb (top + i) y l) (or_false _)
-  | inr g ↦ rw (le-ltb y (top + i) g, le-leb (top + i) y g) (elim (cases_lt y (top + (i + t))) [
-    | inl l ↦ (let j = y - (top + i) in
-        let at : y - top ≡ i + j = omega arith in
-        rw (lt-ltb y (top + (i + t)) l, lt-ltb j t (omega arith), le-leb top y (omega arith)) (ap ink at ∙ same j (omega arith)))
-    | inr o ↦ rw (le-ltb y (top + (i + t)) o, le-ltb (y - (top + i)) t (omega arith)) refl
-  ])
-]
+lines_more top i t y ink same = grind (arith, same (y - (top + i)))
 
 -- lines that are laid one above the other: none yet
 pub none_below : (top n y : ℕ) (b : Bool) → (leb (top + (n - 0)) y && (ltb (y - top) n && b)) ≡ false
 none_below top n y b = grind (arith, lt-leb, le-ltb, and_false)
 
-pub lines_back : (top n i t y : ℕ) (ink : ℕ → Bool) → i + t ≤ n → ((j : ℕ) → j < t → ink (i + j) ≡ ink i)
-    → (leb (top + (n - (i + t))) y && (ltb (y - top) n && ink (n - 1 - (y - top))))
-    ≡ (leb (top + (n - i)) y && (ltb (y - top) n && ink (n - 1 - (y - top))) || leb (top + (n - i - t)) y && (ltb (y - (top + (n - i - t))) t && ink i))
-lines_back top n i t y ink few same = elim (cases_lt y (top + (n - i))) [
-  | inl l ↦ rw (lt-leb (top + (n - i)) y l) (elim (cases_lt y (top + (n - i - t))) [
-    | inl m ↦ rw (lt-leb (top + (n - i - t)) y m, lt-leb (top + (n - (i + t))) y (omega arith)) refl
-    | inr g ↦ (let j = n - 1 - (y - top) - i in
-        let at : n - 1 - (y - top) ≡ i + j = omega arith in
-        rw (le-leb (top + (n - i - t)) y g, le-leb (top + (n - (i + t))) y (omega arith), lt-ltb (y - top) n (omega arith), lt-ltb (y - (top + (n - i - t))) t (omega arith))
-        (ap ink at ∙ same j (omega arith)))
-  ])
-  | inr g ↦ rw (le-leb (top + (n - i)) y g, le-leb (top + (n - (i + t))) y (omega arith), le-leb (top + (n - i - t)) y (omega arith), le-ltb (y - (top + (n - i - t))) t (omega arith)) (or_false _)
-]
-
 -- all of them
 pub all_lines : (top n i y : ℕ) (b : Bool) → n ≤ i → (leb (top + (n - i)) y && b) ≡ (leb top y && b)
-all_lines top n i y b h = ap (λ m. leb m y && b) (let e : top + (n - i) ≡ top = omega arith in e)
+all_lines top n i y b h = grind arith

@@ -1,7 +1,7 @@
 -- Layers, and what is painted for them.
-use Rattle.std.proofs.Common.{inl, inr, ◌≡◌, ℕ, ◌+◌, ◌-◌, ◌<◌, ◌≤◌, Bool, true, false, not, min, max, cond, ltb, leb, eqb, ◌&&◌, ◌||◌, refl, sym, ap, ◌∙◌, arith, List, [], ◌∷◌, length, get_or}
-use Rattle.std.proofs.lemmas.Bool.{cases_Bool, cases_lt, and_parts, false_from_ne_true, true≢false, le-leb, lt-ltb, leb-true, ltb-true}
+use Rattle.std.proofs.Common.{◌≡◌, ℕ, ◌+◌, ◌-◌, ◌<◌, ◌≤◌, Bool, true, false, not, min, max, cond, ltb, leb, eqb, ◌&&◌, ◌||◌, refl, ap, ◌∙◌, arith, List, [], ◌∷◌, length, get_or}
 use Rattle.std.proofs.lemmas.Bool.Decides.{nat_tests}
+use Rattle.vp_page.specs.declared.across.TheConstants.{AT_ONCE}
 use Rattle.vp_page.specs.declared.page.TheConstants.{PAGE_ROWS, PAPER_DOTS}
 use Rattle.vp_dots.specs.Dots.{dot, span}
 use Rattle.vp_dots.specs.Places.{RowsPainted}
@@ -36,25 +36,10 @@ module _ (layers : List Layer) (ink : ℕ → ℕ → Bool) (old new : Paged) (p
 module _ (layers : List Layer) (a : Area) (from to : ℕ) (old new : Paged) (page : HasPage layers old)
     (white : (x y : ℕ) → x < PAPER_DOTS → y < PAGE_ROWS → holds a x y ≡ true → span from to y ≡ false → dot (get_or old.rows y []) x ≡ false) where
   white_but : (s h o : Bool) → (h ≡ true → s ≡ false → o ≡ false) → cond (s && h) false o ≡ (not h && o)
-  white_but true true o e = refl
-  white_but true false o e = refl
-  white_but false true o e = e refl refl
-  white_but false false o e = refl
-
-  outside : (y : ℕ) → a.y ≤ y → y < a.y + a.dy → span (max from a.y) (min to (a.y + a.dy)) y ≡ false → span from to y ≡ false
-  outside y h k f = false_from_ne_true (span from to y) (λ e.
-      let p = and_parts (leb from y) (ltb y to) e in
-      let i = leb-true from y p.0 in
-      let j = ltb-true y to p.1 in
-      let t : span (max from a.y) (min to (a.y + a.dy)) y ≡ true = rw (le-leb (max from a.y) y (omega arith), lt-ltb y (min to (a.y + a.dy)) (omega arith)) refl in
-      true≢false (sym t ∙ f))
+  white_but s h o e = grind arith
 
   no_black : (x y : ℕ) → x < PAPER_DOTS → y < PAGE_ROWS → span (max from a.y) (min to (a.y + a.dy)) y ≡ false → (holds a x y && page_dot layers x y) ≡ false
-  no_black x y k h f = elim (cases_Bool (holds a x y)) [
-    | inl t ↦ (let held = within a x y t in
-        ap (λ b. b && page_dot layers x y) t ∙ sym (page.dots_are x y k h) ∙ white x y k h t (outside y held.above held.below f))
-    | inr n ↦ ap (λ b. b && page_dot layers x y) n
-  ]
+  no_black x y k h f = grind arith
 
   pub wiped : RowsPainted PAGE_ROWS White (λ x k. span from to k && holds a x k) old.rows new.rows → to ≤ PAGE_ROWS
       → new.wiped ≡ min (old.wiped + (min to (a.y + a.dy) - max from a.y)) MOST → new.laid ≡ old.laid → HasPage (Wiped a ∷ layers) new
@@ -78,10 +63,10 @@ same_page before after page e t h = grind arith
 
 -- a mark with no dot that falls on the page
 pub nothing_laid : (m : Mark) (layers : List Layer) (page : Paged) → ((x y : ℕ) → mark_dot m x y ≡ false) → rows_laid m ≡ 0 → HasPage layers page → HasPage (Laid m ∷ layers) page
-nothing_laid m layers page e n h = same_page layers (Laid m ∷ layers) page (λ x y. sym (ap (λ b. b || page_dot layers x y) (e x y))) (record { laid = omega (arith, n); most = refl; least = refl }) h
+nothing_laid m layers page e n h = grind arith
 
 no_row : (h t : Bool) (w : ℕ) (b : Bool) → (h && (t && (ltb w 0 && b))) ≡ false
-no_row h t w b = grind (arith, nat_tests)
+no_row h t w b = grind arith
 
 one_more : (h r p : Bool) (w top k : ℕ) (f : ℕ → Bool) → (h ≡ true → r ≡ f k)
     → (h && (leb (top + k) w && (eqb (w - (top + k)) 0 && r)) || (h && (leb top w && (ltb (w - top) k && f (w - top))) || p)) ≡ (h && (leb top w && (ltb (w - top) (k + 1) && f (w - top))) || p)
@@ -93,58 +78,28 @@ enough h w top n long b i e = grind (arith, nat_tests)
 pub rows_make_an_image : RowsMakeAnImage
 rows_make_an_image = grind (arith, nat_tests, nothing_laid, no_row, same_page, one_more, lies, within, enough)
 
-more_rows : (h q b p : Bool) (w top k n : ℕ) → n ≤ 192 → (h ≡ true → top + k ≤ w → w - (top + k) < n → q ≡ b) → (n ≤ w - (top + k) → q ≡ false)
-    → (h && (leb (top + k) w && (ltb (w - (top + k)) 192 && q)) || (h && (leb top w && (ltb (w - top) k && b)) || p))
-    ≡ (h && (leb top w && (ltb (w - top) (k + n) && b)) || p)
-more_rows h q b p w top k n few same none = grind (arith, nat_tests)
-
 -- lines that are laid at once below the first k rows of a mark
-pub lines_more : (m : Mark) (k n : ℕ) (lines : List (List ℕ)) (layers : List Layer) (page : Paged) → n ≤ 192 → length lines ≡ n
+pub lines_more : (m : Mark) (k n : ℕ) (lines : List (List ℕ)) (layers : List Layer) (page : Paged) → n ≤ AT_ONCE → length lines ≡ n
     → ((u w : ℕ) → u < line_length m.area m.direction → w < n → line_dot lines w u ≡ m.dot u (k + w))
     → HasPage (Laid (lines_mark m.area m.direction (m.top + k) lines) ∷ Laid (first_rows k m) ∷ layers) page
     → HasPage (Laid (first_rows (k + n) m) ∷ layers) page
-lines_more m k n lines layers page few short same has = same_page _ _ page (λ x y.
-    let u = along m.area m.direction x y in
-    let w = down m.area m.direction x y in
-    more_rows (holds m.area x y) (line_dot lines (w - (m.top + k)) u) (m.dot u (w - m.top)) (page_dot layers x y) w m.top k n few
-    (λ t g l. same u (w - (m.top + k)) (lies m.area m.direction x y (within m.area x y t)).in_line l ∙ ap (m.dot u) (omega arith))
-    (λ g. no_line lines (w - (m.top + k)) u (omega arith))) (record { laid = omega arith; most = refl; least = refl }) has
+lines_more m k n lines layers page few short same has = grind (arith, nat_tests, no_line, same_page, within, lies)
 
 more_times : (h r p : Bool) (w top k n : ℕ) (f : ℕ → Bool) → (h ≡ true → (i : ℕ) → i < n → r ≡ f (k + i))
     → (h && (leb (top + k) w && (ltb (w - (top + k)) n && r)) || (h && (leb top w && (ltb (w - top) k && f (w - top))) || p)) ≡ (h && (leb top w && (ltb (w - top) (k + n) && f (w - top))) || p)
-more_times false r p w top k n f e = refl
-more_times true r p w top k n f e = elim (cases_lt w (top + k)) [
-  | inl l ↦ grind (arith, nat_tests)
-  | inr g ↦ elim (cases_lt (w - (top + k)) n) [
-    | inl m ↦ (let at : r ≡ f (w - top) = e refl (w - (top + k)) m ∙ ap f (omega arith) in grind (arith, nat_tests))
-    | inr o ↦ grind (arith, nat_tests)
-  ]
-]
+more_times h r p w top k n f e = grind (arith, λ (t : h ≡ true). e t (w - (top + k)))
 
 -- a row that is laid many times below the first k rows of a mark
 pub times_more : (m : Mark) (k n v : ℕ) (row : ℕ → Bool) (layers : List Layer) (page : Paged) → v ≡ m.top + k
     → ((u i : ℕ) → u < line_length m.area m.direction → i < n → row u ≡ m.dot u (k + i))
     → HasPage (Laid (times_mark m.area m.direction v n row) ∷ Laid (first_rows k m) ∷ layers) page
     → HasPage (Laid (first_rows (k + n) m) ∷ layers) page
-times_more m k n v row layers page place same has = same_page _ _ page (λ x y.
-    let u = along m.area m.direction x y in
-    let w = down m.area m.direction x y in
-    rw place (more_times (holds m.area x y) (row u) (page_dot layers x y) w m.top k n (m.dot u)
-    (λ t i l. same u i (lies m.area m.direction x y (within m.area x y t)).in_line l))) (record { laid = omega (arith, place); most = refl; least = refl }) has
-
-more_between : (h q b p : Bool) (w top k n : ℕ) → (h ≡ true → top + k ≤ w → w < top + k + n → q ≡ b)
-    → (h && (leb (top + k) w && (ltb (w - (top + k)) n && q)) || (h && (leb top w && (ltb (w - top) k && b)) || p)) ≡ (h && (leb top w && (ltb (w - top) (k + n) && b)) || p)
-more_between h q b p w top k n e = grind (arith, nat_tests)
+times_more m k n v row layers page place same has = same_page _ _ page (λ x y. rw place (more_times (holds m.area x y) (row (along m.area m.direction x y)) (page_dot layers x y) (down m.area m.direction x y) m.top k n (m.dot (along m.area m.direction x y))
+    (λ t i l. same (along m.area m.direction x y) i (lies m.area m.direction x y (within m.area x y t)).in_line l))) (record { laid = omega (arith, place); most = refl; least = refl }) has
 
 -- ink that is laid between two depths, below the first k rows of a mark
 pub between_more : (m : Mark) (k from to next : ℕ) (ink : ℕ → ℕ → Bool) (layers : List Layer) (page : Paged) → from ≡ m.top + k → next + m.top ≡ to → from ≤ to
     → ((u w : ℕ) → u < line_length m.area m.direction → from ≤ w → w < to → ink u w ≡ m.dot u (w - m.top))
     → HasPage (Laid (between m.area m.direction from to ink) ∷ Laid (first_rows k m) ∷ layers) page
     → HasPage (Laid (first_rows next m) ∷ layers) page
-between_more m k from to next ink layers page begins ends some same has = same_page _ _ page (λ x y.
-    let u = along m.area m.direction x y in
-    let w = down m.area m.direction x y in
-    let n : k + (to - from) ≡ next = omega arith in
-    rw (← n, begins) (more_between (holds m.area x y) (ink u (m.top + k + (w - (m.top + k)))) (m.dot u (w - m.top)) (page_dot layers x y) w m.top k (to - (m.top + k))
-    (λ t g l. let back : m.top + k + (w - (m.top + k)) ≡ w = omega (arith, g) in
-    ap (ink u) back ∙ same u w (lies m.area m.direction x y (within m.area x y t)).in_line (omega arith) (omega (arith, l))))) (record { laid = omega arith; most = refl; least = refl }) has
+between_more m k from to next ink layers page begins ends some same has = grind (arith, nat_tests, same_page, within, lies)

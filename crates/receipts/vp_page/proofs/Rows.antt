@@ -3,7 +3,6 @@ use Rattle.std.proofs.Common.{inl, inr, zero, suc, take, ◌⊎◌, ◌≡◌, �
 use Rattle.std.proofs.lemmas.Int.{ints}
 use Rattle.std.proofs.lemmas.List.{get_or_past}
 use Rattle.std.proofs.lemmas.Bool.{cases_lt, le-leb, lt-leb}
-use Rattle.std.proofs.lemmas.Bool.Decides.{nat_tests}
 use Rattle.std.proofs.lemmas.Nat.Bits.{bit_at-zero}
 use Rattle.vp_dots.specs.Dots.{bit, dot, shifted}
 use Rattle.vp_dots.specs.Images.{packed, row_from, row_of}
@@ -13,6 +12,7 @@ use Rattle.vp_dots.specs.declared.Op.{Op}
 use Rattle.vp_dots.specs.declared.Op.TheVariants.{Black}
 use Rattle.vp_dots.proofs.Bits.{bit_of_or}
 use Rattle.vp_dots.proofs.Paints.{painted_same, painted_byte_at}
+use Rattle.vp_page.specs.declared.page.TheConstants.{PAGE_ROWS}
 
 -- past the row there is no dot
 pub dot_past : (row : List ℕ) (d : ℕ) → length row ≤ d / 8 → dot row d ≡ false
@@ -28,11 +28,11 @@ met (pos a) d = elim (cases_lt d a) [
 met (negsuc a) d = inl (d + (a + 1), (omega (arith, ints)), (λ f. refl))
 
 -- the same ink in other words
-pub rows_same : (op : Op) (f g : ℕ → ℕ → Bool) (a b : List (List ℕ)) → ((x k : ℕ) → k < 1664 → f x k ≡ g x k) → RowsPainted 1664 op f a b → RowsPainted 1664 op g a b
+pub rows_same : (op : Op) (f g : ℕ → ℕ → Bool) (a b : List (List ℕ)) → ((x k : ℕ) → k < PAGE_ROWS → f x k ≡ g x k) → RowsPainted PAGE_ROWS op f a b → RowsPainted PAGE_ROWS op g a b
 rows_same op f g a b e p = grind arith
 
 -- ink on ink
-pub rows_then : (f g h : ℕ → ℕ → Bool) (a b c : List (List ℕ)) → ((x k : ℕ) → h x k ≡ (f x k || g x k)) → RowsPainted 1664 Black f a b → RowsPainted 1664 Black g b c → RowsPainted 1664 Black h a c
+pub rows_then : (f g h : ℕ → ℕ → Bool) (a b c : List (List ℕ)) → ((x k : ℕ) → h x k ≡ (f x k || g x k)) → RowsPainted PAGE_ROWS Black f a b → RowsPainted PAGE_ROWS Black g b c → RowsPainted PAGE_ROWS Black h a c
 rows_then f g h a b c e p q = grind arith
 
 take-row_from : (n m : ℕ) (f : ℕ → Bool) (at : ℕ) → n ≤ m → take n (row_from m f at) ≡ row_from n f at
@@ -52,9 +52,7 @@ painted_in t x m row h e =
     (painted_byte_at Black (λ d. eqb d x && t) (x / 8) _ row h (λ k l. bit_of_or (get_or row (x / 8) 0) m k ∙ ap (λ b. cond b true (bit (get_or row (x / 8) 0) k)) (e k ∙ same_place k t l)))
   where
     in_byte : (d : ℕ) (t : Bool) → (eqb (d / 8) (x / 8) && (eqb d x && t)) ≡ (eqb d x && t)
-    in_byte d true = grind (arith, nat_tests)
-    in_byte d false = grind (arith, nat_tests)
+    in_byte d t = grind arith
 
     same_place : (k : ℕ) (t : Bool) → k < 8 → (eqb k (7 - x % 8) && t) ≡ (eqb (8 * (x / 8) + (7 - k)) x && t)
-    same_place k true l = grind (arith, nat_tests)
-    same_place k false l = grind (arith, nat_tests)
+    same_place k t l = grind arith

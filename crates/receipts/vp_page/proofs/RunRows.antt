@@ -1,48 +1,34 @@
 -- Lines that are laid across the page many times each.
-use Rattle.std.proofs.Common.{inl, inr, ◌≡◌, ℕ, zero, suc, ◌+◌, ◌-◌, ◌/◌, ◌<◌, ◌≤◌, min, Bool, true, false, cond, ltb, leb, ◌&&◌, ◌||◌, refl, sym, ◌∙◌, arith, add-one, List, get_or, replicate}
-use Rattle.std.proofs.lemmas.Bool.{cases_lt, lt-ltb, le-ltb, lt-leb, le-leb, and_parts, ltb-true, leb-true}
+use Rattle.std.proofs.Common.{inl, inr, ◌≡◌, ℕ, zero, suc, ◌+◌, ◌-◌, ◌/◌, ◌<◌, ◌≤◌, min, Bool, true, false, cond, ltb, leb, ◌&&◌, ◌||◌, sym, ◌∙◌, arith, add-one, List, get_or, replicate}
+use Rattle.std.proofs.lemmas.Bool.{cases_lt, lt-ltb, le-ltb, lt-leb, le-leb, and_parts}
 use Rattle.std.proofs.lemmas.Bool.Decides.{nat_tests}
 use Rattle.std.proofs.lemmas.List.{length-replicate}
 use Rattle.vp_dots.specs.Dots.{dot, span}
 use Rattle.vp_dots.specs.Words.{word_dot}
 use Rattle.vp_dots.specs.Painting.{Painted}
 use Rattle.vp_dots.specs.declared.Op.TheVariants.{Black}
+use Rattle.vp_dots.proofs.Paints.{painted_same, painted_then}
+use Rattle.vp_page.specs.declared.page.TheConstants.{PAPER_DOTS}
 use Rattle.vp_page.specs.Areas.{depth, holds}
 use Rattle.vp_page.specs.Layers.{mark_dot}
-use Rattle.vp_page.specs.Runs.{across, across_dot, along_of, between, depth_of, topmost}
+use Rattle.vp_page.specs.Runs.{AreRuns, across, across_dot, along_of, between, depth_of, topmost}
 use Rattle.vp_page.specs.declared.area.Area.{Area}
 use Rattle.vp_page.specs.declared.area.Way.{Way}
-use Rattle.vp_page.specs.declared.area.Way.TheVariants.{Up, Down}
 use Rattle.vp_page.proofs.Blank.{dot_white}
 use Rattle.vp_page.proofs.PageRows.{on_white}
 
 -- one more line that is black, or white
 module _ (b0 bi bn w : ℕ) (t : Bool) (from : b0 ≤ bi) (to : bi ≤ bn) where
   pub more_black : (v : Bool) → (bi ≤ w → w < bn → v ≡ true) → (t && (span b0 bn w && v)) ≡ ((t && (span b0 bi w && v)) || (t && span bi bn w))
-  more_black true e = grind (arith, nat_tests)
-  more_black false e = elim (cases_lt w bi) [
-    | inl l ↦ grind (arith, nat_tests)
-    | inr g ↦ elim (cases_lt w bn) [
-      | inl m ↦ (let n : false ≡ true = e g m in grind (arith, nat_tests))
-      | inr o ↦ grind (arith, nat_tests)
-    ]
-  ]
+  more_black v e = grind arith
 
   pub black_apart : (v : Bool) → ((t && (span b0 bi w && v)) && (t && span bi bn w)) ≡ false
-  black_apart true = grind (arith, nat_tests)
-  black_apart false = grind (arith, nat_tests)
+  black_apart v = grind arith
 
   pub more_white : (v : Bool) → (bi ≤ w → w < bn → v ≡ false) → (t && (span b0 bi w && v)) ≡ (t && (span b0 bn w && v))
-  more_white false e = grind (arith, nat_tests)
-  more_white true e = elim (cases_lt w bi) [
-    | inl l ↦ grind (arith, nat_tests)
-    | inr g ↦ elim (cases_lt w bn) [
-      | inl m ↦ (let n : true ≡ false = e g m in grind (arith, nat_tests))
-      | inr o ↦ grind (arith, nat_tests)
-    ]
-  ]
+  more_white v e = grind arith
 
-pub row_of_black : (ink : ℕ → Bool) (x : ℕ) (row : List ℕ) → Painted Black ink (replicate 72 0) row → x < 576 → dot row x ≡ ink x
+pub row_of_black : (ink : ℕ → Bool) (x : ℕ) (row : List ℕ) → Painted Black ink (replicate 72 0) row → x < PAPER_DOTS → dot row x ≡ ink x
 row_of_black ink x row p l = p.dots_are x (omega (arith, length-replicate {A = ℕ} 72 0)) ∙ on_white (ink x) _ (dot_white 72 x (omega arith))
 
 -- the line of a depth
@@ -70,70 +56,31 @@ black_between begins word f i n w ink h few black same p q =
     let within : r.0 < i = omega (arith, r.2, e) in
     sym (same r.0 w (omega (arith, within, few)) r.3 r.4) ∙ black r.0 r.1 within
 
--- the rows of a run
-module _ (ay dy at t y : ℕ) (within : at + t ≤ dy) where
-  up_in : (top : ℕ) → top ≡ ay + dy - at - t → (leb top y && ltb (y - top) t) ≡ ((leb ay y && ltb y (ay + dy)) && span at (at + t) (ay + dy - 1 - y))
-  up_in top e = grind (arith, nat_tests)
-
-  down_in : (top : ℕ) → top ≡ ay + at → (leb top y && ltb (y - top) t) ≡ ((leb ay y && ltb y (ay + dy)) && span at (at + t) (y - ay))
-  down_in top e = grind (arith, nat_tests)
-
 pub run_in : (a : Area) (way : Way) (at t y top : ℕ) → at + t ≤ a.dy → top ≡ topmost a way at t
     → (leb top y && ltb (y - top) t) ≡ ((leb a.y y && ltb y (a.y + a.dy)) && span at (at + t) (along_of a way y))
-run_in a Up at t y top h e = up_in a.y a.dy at t y h top e
-run_in a Down at t y top h e = down_in a.y a.dy at t y h top e
-
-one_rows : (p q hx hy s v u r : Bool) → (p && q) ≡ (hy && r) → (r ≡ true → s ≡ true → v ≡ u) → (p && (q && (hx && (s && u)))) ≡ (r && (hx && hy && (s && v)))
-one_rows p q hx hy s v u true e same = grind arith
-one_rows p q hx hy s v u false e same = grind arith
+run_in a way at t y top h e = grind (arith, nat_tests)
 
 -- a stretch of lines that stay as they are along it
 pub one_run : (a : Area) (way : Way) (at t top b0 bn : ℕ) (ink : ℕ → ℕ → Bool) (one : ℕ → Bool) (x y : ℕ) → at + t ≤ a.dy → top ≡ topmost a way at t
     → ((u w : ℕ) → at ≤ u → u < at + t → b0 ≤ w → w < bn → ink u w ≡ one w)
     → (leb top y && (ltb (y - top) t && (span a.x (a.x + a.dx) x && (span b0 bn (depth_of a way x) && one (depth_of a way x)))))
     ≡ (span at (at + t) (along_of a way y) && across_dot a way b0 bn ink x y)
-one_run a way at t top b0 bn ink one x y h e same =
-    let w = depth_of a way x in
-    let al = along_of a way y in
-    one_rows (leb top y) (ltb (y - top) t) (span a.x (a.x + a.dx) x) (leb a.y y && ltb y (a.y + a.dy)) (span b0 bn w) (ink al w) (one w) (span at (at + t) al) (run_in a way at t y top h e)
-    (λ i j. let p = and_parts _ _ i in let q = and_parts _ _ j in same al w (leb-true _ _ p.0) (ltb-true _ _ p.1) (leb-true _ _ q.0) (ltb-true _ _ q.1))
-
-and_none : (s h t v : Bool) → (s ≡ true → t ≡ true → v ≡ false) → (s && (h && (t && v))) ≡ false
-and_none true h true v e = grind arith
-and_none true h false v e = grind arith
-and_none false h t v e = grind arith
+one_run a way at t top b0 bn ink one x y h e same = grind (arith, nat_tests, same (along_of a way y) (depth_of a way x))
 
 -- and are white there
 pub none_laid : (a : Area) (way : Way) (at t b0 bn : ℕ) (ink : ℕ → ℕ → Bool) (x y : ℕ) → ((u w : ℕ) → at ≤ u → u < at + t → b0 ≤ w → w < bn → ink u w ≡ false)
     → (span at (at + t) (along_of a way y) && across_dot a way b0 bn ink x y) ≡ false
-none_laid a way at t b0 bn ink x y white =
-    let w = depth_of a way x in
-    let al = along_of a way y in
-    and_none (span at (at + t) al) (holds a x y) (span b0 bn w) (ink al w)
-    (λ i j. let p = and_parts _ _ i in let q = and_parts _ _ j in white al w (leb-true _ _ p.0) (ltb-true _ _ p.1) (leb-true _ _ q.0) (ltb-true _ _ q.1))
+none_laid a way at t b0 bn ink x y white = grind arith
 
 -- one more stretch of the lines
 pub stretch_more : (from to next al : ℕ) (b : Bool) → from ≤ to → to ≤ next → (span from next al && b) ≡ ((span from to al && b) || (span to next al && b))
-stretch_more from to next al b h k = grind (arith, nat_tests)
-
-in_runs : (hx hy s t v l : Bool) → (hy ≡ true → s ≡ l) → (s && (hx && hy && (t && v))) ≡ (hx && hy && (t && (l && v)))
-in_runs hx true s t v l e = let f = e refl in grind arith
-in_runs hx false s t v l e = grind arith
-
-up_to_end : (from below at long u : ℕ) → from ≤ u → u < below → min below long ≤ at → (from < at → at ≤ min below long) → span from at u ≡ ltb u long
-up_to_end from below at long u h k end inside = elim (cases_lt from at) [
-  | inl l ↦ (let i = inside l in grind (arith, nat_tests))
-  | inr g ↦ grind (arith, nat_tests)
-]
+stretch_more from to next al b h k = grind arith
 
 -- all dots of the lines that fall on the page
 pub all_runs : (a : Area) (way : Way) (long from below at b0 bn : ℕ) (ink : ℕ → ℕ → Bool) (x y : ℕ) → (span a.y (a.y + a.dy) y ≡ true → span from below (along_of a way y) ≡ true)
     → min below long ≤ at → (from < at → at ≤ min below long)
     → (span from at (along_of a way y) && across_dot a way b0 bn ink x y) ≡ across_dot a way b0 bn (λ u w. ltb u long && ink u w) x y
-all_runs a way long from below at b0 bn ink x y page end inside =
-    let u = along_of a way y in
-    in_runs (span a.x (a.x + a.dx) x) (leb a.y y && ltb y (a.y + a.dy)) (span from at u) (span b0 bn (depth_of a way x)) (ink u (depth_of a way x)) (ltb u long)
-    (λ e. let p = and_parts _ _ (page e) in up_to_end from below at long u (leb-true _ _ p.0) (ltb-true _ _ p.1) end inside)
+all_runs a way long from below at b0 bn ink x y page end inside = grind (arith, nat_tests)
 
 -- the line of each depth, where they rise
 pub run_of : List ℕ → ℕ → ℕ → ℕ
@@ -156,6 +103,23 @@ run_is begins (suc n) i w h r p q = elim (cases_lt i n) [
   | inr g ↦ grind (arith, get_or, le-leb)
 ]
 
+-- the lines rise from one to another
+pub rises : (begins : List ℕ) (n end f i : ℕ) → AreRuns begins n end → f ≤ i → i ≤ n → get_or begins f 0 ≤ get_or begins i 0
+rises begins n end f i runs h l = let place : f + (i - f) ≡ i = omega (arith, h) in rw place at (risen begins f (i - f) (λ j k. runs.rise j (omega (arith, k, place, l))))
+
+-- a run of lines that are black, behind those before it
+pub run_more : (begins : List ℕ) (word f i n end : ℕ) (deep : ℕ → ℕ) (inside columns ink : ℕ → Bool) (a b c : List ℕ) → AreRuns begins n end → f ≤ i → i ≤ n
+    → ((k : ℕ) → f ≤ k → k < i → word_dot word k ≡ true) → ((k w : ℕ) → k < n → get_or begins k 0 ≤ w → w < get_or begins (k + 1) 0 → word_dot word k ≡ ink w)
+    → ((x : ℕ) → columns x ≡ (inside x && span (get_or begins f 0) (get_or begins i 0) (deep x)))
+    → Painted Black (λ x. inside x && (span (get_or begins 0 0) (get_or begins f 0) (deep x) && ink (deep x))) a b → Painted Black columns b c
+    → Painted Black (λ x. inside x && (span (get_or begins 0 0) (get_or begins i 0) (deep x) && ink (deep x))) a c
+run_more begins word f i n end deep inside columns ink a b c runs h l black same are p q =
+    let first = runs.from_first f (omega (arith, h, l)) in
+    let to = rises begins n end f i runs h l in
+    painted_then Black _ _ _ _ _ _ p (painted_same Black _ _ _ _ (λ d m. are d) q)
+    (λ d m. more_black (get_or begins 0 0) (get_or begins f 0) (get_or begins i 0) (deep d) (inside d) first to (ink (deep d)) (λ r s. black_between begins word f i n (deep d) ink h l black same r s))
+    (λ d m. black_apart (get_or begins 0 0) (get_or begins f 0) (get_or begins i 0) (deep d) (inside d) first to (ink (deep d)))
+
 -- ink between two depths, as a mark
 pub between_dot : (a : Area) (way : Way) (long from to : ℕ) (ink : ℕ → ℕ → Bool) (x y : ℕ) → ((u w : ℕ) → long ≤ u → ink u w ≡ false)
     → across_dot a way from to (λ u w. ltb u long && ink u w) x y ≡ mark_dot (between a (across way) from to ink) x y
@@ -171,6 +135,4 @@ in_area a x y b e = (and_parts _ _ (and_parts _ _ e).0).1
 -- the bytes of the columns between two depths
 pub bytes_of : (left right x first b0 bn w : ℕ) (hx black : Bool) → first ≡ left / 8 → span left right x ≡ (hx && span b0 bn w) → (hx && (span b0 bn w && black)) ≡ true
     → span first (first + ((right - left) / 8 + 2)) (x / 8) ≡ true
-bytes_of left right x first b0 bn w true true e d is = grind (arith, nat_tests)
-bytes_of left right x first b0 bn w true false e d is = grind (arith, nat_tests)
-bytes_of left right x first b0 bn w false black e d is = grind (arith, nat_tests)
+bytes_of left right x first b0 bn w hx black e d is = grind arith

@@ -1,6 +1,6 @@
 -- Squares laid across the page.
-use Rattle.std.proofs.Common.{◌≡◌, ℕ, ◌+◌, ◌-◌, ◌<◌, ◌≤◌, Bool, false, ltb, ◌&&◌, ap, ◌∙◌, arith, List, [], length, get_or, take, drop, reverse, replicate}
-use Rattle.std.proofs.lemmas.List.{get_or_past, get_or-replicate, get_or-reverse, get_or-drop, get_or-take}
+use Rattle.std.proofs.Common.{◌≡◌, ℕ, ◌+◌, ◌<◌, ◌≤◌, Bool, false, ltb, ◌&&◌, ap, ◌∙◌, arith, List, [], length, get_or, replicate}
+use Rattle.std.proofs.lemmas.List.{get_or_past, get_or-replicate}
 use Rattle.std.proofs.lemmas.Bool.{lt-ltb, le-ltb}
 use Rattle.std.proofs.lemmas.Nat.Bits.{bit_at-zero}
 use Rattle.vp_dots.specs.Dots.{bit}
@@ -8,6 +8,8 @@ use Rattle.vp_dots.specs.Words.{word_dot}
 use Rattle.vp_dots.specs.Places.{RowsPainted}
 use Rattle.vp_dots.specs.declared.Op.TheVariants.{Black}
 use Rattle.vp_dots.proofs.Paints.{painted_none}
+use Rattle.vp_page.specs.declared.line.TheConstants.{LINE_DOTS}
+use Rattle.vp_page.specs.declared.page.TheConstants.{PAGE_ROWS}
 use Rattle.vp_page.specs.Lines.{line_dot}
 use Rattle.vp_page.proofs.Rows.{dot_past}
 
@@ -24,7 +26,7 @@ white_words y x h = rw (get_or-replicate {A = ℕ} 64 y 0 0 h) (white_word x)
 
 -- where there is no line there is no dot
 pub no_line : (lines : List (List ℕ)) (i u : ℕ) → length lines ≤ i → line_dot lines i u ≡ false
-no_line lines i u h = rw (get_or_past {X = List ℕ} lines i [] h) (ap (λ b. ltb u 1664 && b) (dot_past [] u (omega arith)) ∙ and_false (ltb u 1664))
+no_line lines i u h = rw (get_or_past {X = List ℕ} lines i [] h) (ap (λ b. ltb u LINE_DOTS && b) (dot_past [] u (omega arith)) ∙ and_false (ltb u LINE_DOTS))
 
 -- another line than the next one
 pub other_rows : (i k : ℕ) (b : Bool) → (i ≡ k → ⊥) → (ltb i k && b) ≡ (ltb i (k + 1) && b)
@@ -34,11 +36,6 @@ other_rows i k b n = grind (arith, lt-ltb, le-ltb)
 pub all_rows : (lines : List (List ℕ)) (i n u : ℕ) → n ≡ length lines → (ltb i n && line_dot lines i u) ≡ line_dot lines i u
 all_rows lines i n u e = grind (arith, lt-ltb, le-ltb, no_line)
 
--- the last words in the other order
-pub last_words : (square words : List ℕ) (n i : ℕ) → words ≡ reverse square → length square ≡ 64 → n ≤ 64 → i < n
-    → get_or (take (64 - (64 - n)) (drop (64 - n) words)) i 0 ≡ get_or square (n - 1 - i) 0
-last_words square words n i is whole few h = grind (arith, get_or-take, get_or-drop, get_or-reverse)
-
 -- no ink
-pub nothing_painted : (f : ℕ → ℕ → Bool) (a : List (List ℕ)) → ((x y : ℕ) → y < 1664 → f x y ≡ false) → RowsPainted 1664 Black f a a
+pub nothing_painted : (f : ℕ → ℕ → Bool) (a : List (List ℕ)) → ((x y : ℕ) → y < PAGE_ROWS → f x y ≡ false) → RowsPainted PAGE_ROWS Black f a a
 nothing_painted f a e = record { rows_are = λ y h. painted_none Black (λ x. f x y) (get_or a y []) (λ d l. e d y h) }

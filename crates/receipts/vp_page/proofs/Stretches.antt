@@ -1,16 +1,15 @@
 -- Lines laid in groups, and lines that are alike along some dots.
-use Rattle.std.proofs.Common.{inl, inr, min, ◌≡◌, ℕ, ◌+◌, ◌-◌, ◌<◌, ◌≤◌, Bool, true, false, ltb, leb, ◌&&◌, ◌||◌, refl, arith, List, length, take, drop}
+use Rattle.std.proofs.lemmas.Bool.Decides.{nat_tests}
+use Rattle.std.proofs.Common.{min, ◌≡◌, ℕ, ◌+◌, ◌-◌, ◌<◌, ◌≤◌, Bool, true, ltb, leb, ◌&&◌, ◌||◌, arith, List, length, take, drop}
 use Rattle.std.proofs.lemmas.List.{get_or-drop, get_or-take, length-take}
-use Rattle.std.proofs.lemmas.Bool.{cases_lt, lt-ltb, le-ltb, lt-leb, le-leb, true≢false}
+use Rattle.std.proofs.lemmas.Bool.{lt-ltb, le-ltb, true≢false}
 use Rattle.vp_dots.specs.Dots.{dot}
+use Rattle.vp_page.specs.declared.page.TheConstants.{PAPER_DOTS}
 use Rattle.vp_page.specs.Lines.{line_dot}
 use Rattle.vp_page.proofs.Rows.{dot_past}
-use Rattle.vp_page.proofs.Squares.{and_false, no_line}
+use Rattle.vp_page.proofs.Squares.{no_line}
 
-or_false : (b : Bool) → b ≡ (b || false)
-or_false b = grind arith
-
-pub narrow : (row : List ℕ) (x : ℕ) → length row ≡ 72 → dot row x ≡ true → x < 576
+pub narrow : (row : List ℕ) (x : ℕ) → length row ≡ 72 → dot row x ≡ true → x < PAPER_DOTS
 narrow row x n e = grind (arith, true≢false, dot_past)
 
 -- some of the lines
@@ -21,21 +20,7 @@ module _ (lines : List (List ℕ)) (a n u x : ℕ) (inside : a < length lines) (
   -- a group of lines on the right of those before it
   pub group_right : (left : ℕ) → (leb left x && (ltb (x - left) (a + 64) && line_dot lines (x - left) u))
       ≡ ((leb left x && (ltb (x - left) a && line_dot lines (x - left) u)) || (leb (left + a) x && line_dot (take n (drop a lines)) (x - (left + a)) u))
-  group_right left = rw (these_dot lines n a (x - (left + a)) u) (elim (cases_lt x left) [
-    | inl l ↦ rw (lt-leb left x l, lt-leb (left + a) x (omega arith)) refl
-    | inr g ↦ rw (le-leb left x g) (elim (cases_lt (x - left) a) [
-      | inl m ↦ rw (lt-ltb (x - left) a m, lt-ltb (x - left) (a + 64) (omega arith), lt-leb (left + a) x (omega arith)) (or_false _)
-      | inr m ↦
-          let place : a + (x - (left + a)) ≡ x - left = omega arith in
-          rw (le-ltb (x - left) a m, le-leb (left + a) x (omega arith), place) (elim (cases_lt (x - (left + a)) n) [
-            | inl o ↦ rw (lt-ltb (x - (left + a)) n o, lt-ltb (x - left) (a + 64) (omega arith)) refl
-            | inr o ↦ rw (le-ltb (x - (left + a)) n o) (elim (cases_lt (x - left) (a + 64)) [
-              | inl q ↦ rw (lt-ltb (x - left) (a + 64) q) (no_line lines (x - left) u (omega arith))
-              | inr q ↦ rw (le-ltb (x - left) (a + 64) q) refl
-            ])
-          ])
-    ])
-  ])
+  group_right left = grind (arith, nat_tests, no_line, these_dot)
 
 -- the same rows, of one more group
 pub more_in : (p q a b c : Bool) → a ≡ (b || c) → (p && (q && a)) ≡ ((p && (q && b)) || (p && (q && c)))
@@ -44,11 +29,3 @@ more_in p q a b c e = grind arith
 -- all groups
 pub groups_right : (lines : List (List ℕ)) (left x n u : ℕ) → length lines ≤ n → (leb left x && (ltb (x - left) n && line_dot lines (x - left) u)) ≡ (leb left x && line_dot lines (x - left) u)
 groups_right lines left x n u h = grind (arith, lt-ltb, le-ltb, no_line)
-
--- a line that is alike along some dots
-pub same_column : (lines : List (List ℕ)) (i u at : ℕ) → (i < length lines → line_dot lines i u ≡ line_dot lines i at) → line_dot lines i at ≡ line_dot lines i u
-same_column lines i u at same = grind (arith, no_line)
-
--- no group yet
-pub no_group : (p q d n b : Bool) → n ≡ false → (p && (q && (d && (n && b)))) ≡ false
-no_group p q d n b e = rw (e, and_false d, and_false q) (and_false p)

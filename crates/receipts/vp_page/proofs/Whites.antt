@@ -1,6 +1,6 @@
 -- What is known to be white.
-use Rattle.std.proofs.Common.{inl, inr, ◌≡◌, ℕ, ◌+◌, ◌<◌, ◌≤◌, Bool, true, false, ltb, leb, ◌&&◌, refl, ap, ◌∙◌, arith, List, [], length, get_or, replicate, if◌then◌else◌}
-use Rattle.std.proofs.lemmas.Bool.{cases_lt, lt-leb, le-ltb, true≢false, false_from_ne_true}
+use Rattle.std.proofs.Common.{◌≡◌, ℕ, ◌<◌, ◌≤◌, Bool, true, false, refl, ap, ◌∙◌, arith, List, [], length, get_or, replicate, if◌then◌else◌}
+use Rattle.std.proofs.lemmas.Bool.{true≢false, false_from_ne_true}
 use Rattle.std.proofs.lemmas.List.{length-replicate}
 use Rattle.vp_dots.specs.Dots.{dot, span}
 use Rattle.vp_dots.specs.Places.{RowsPainted}
@@ -8,33 +8,8 @@ use Rattle.vp_dots.specs.declared.Op.TheVariants.{Black}
 use Rattle.vp_page.specs.declared.area.Area.{Area}
 use Rattle.vp_page.specs.declared.page.TheConstants.{PAGE_ROWS, PAPER_BYTES, PAPER_DOTS}
 use Rattle.vp_page.specs.declared.white.Rows.{Rows}
-use Rattle.vp_page.specs.Areas.{holds}
 use Rattle.vp_page.specs.Pages.{HasPage, IsWhiteBut, Paged}
 use Rattle.vp_page.proofs.Blank.{dot_white}
-
-pub and_no : (b : Bool) → (b && false) ≡ false
-and_no b = grind arith
-
-module _ (a : Area) (from to x k : ℕ) where
-  -- above the rows that are wiped
-  pub none_above : (top : ℕ) → (from ≤ k → a.y ≤ k → top ≤ k) → k < top → (span from to k && holds a x k) ≡ false
-  none_above top e h = elim (cases_lt k from) [
-    | inl l ↦ rw (lt-leb from k l) refl
-    | inr g ↦ elim (cases_lt k a.y) [
-      | inl l ↦ rw (lt-leb a.y k l, and_no (leb a.x x && ltb x (a.x + a.dx))) (and_no (span from to k))
-      | inr m ↦ absurd (let n = e g m in omega arith)
-    ]
-  ]
-
-  -- below them
-  pub none_below : (end : ℕ) → (k < to → k < a.y + a.dy → k < end) → end ≤ k → (span from to k && holds a x k) ≡ false
-  none_below end e h = elim (cases_lt k to) [
-    | inl l ↦ elim (cases_lt k (a.y + a.dy)) [
-      | inl m ↦ absurd (let n = e l m in omega arith)
-      | inr g ↦ rw (le-ltb k (a.y + a.dy) g, and_no (leb a.y k), and_no (leb a.x x && ltb x (a.x + a.dx))) (and_no (span from to k))
-    ]
-    | inr g ↦ rw (le-ltb k to g, and_no (leb from k)) refl
-  ]
 
 -- the area stays white but for rows among which all are that something is laid on
 pub laid_on : (area : Area) (was is : Rows) (ink : ℕ → ℕ → Bool) (old new : List (List ℕ)) → IsWhiteBut area was old → RowsPainted PAGE_ROWS Black ink old new
@@ -44,7 +19,7 @@ laid_on area was is ink old new w p few these others = grind (arith, false_from_
 
 -- a white page
 pub all_white : (area : Area) (rows : Rows) (page : Paged) → rows.to ≤ PAGE_ROWS → HasPage [] page → IsWhiteBut area rows page.rows
-all_white area rows page few h = record { within = few; rows_are = h.rows_are; white = λ x y k l t f. h.dots_are x y k l }
+all_white area rows page few h = grind arith
 
 -- rows outside of which the page is white made white
 pub cleared : (rows : Rows) (old new : List (List ℕ)) (n : ℕ) → n ≤ PAGE_ROWS → ((y : ℕ) → y < PAGE_ROWS → length (get_or old y []) ≡ PAPER_BYTES)

@@ -1,6 +1,6 @@
 -- Rows on whole words of the page, as a mark.
-use Rattle.std.proofs.Common.{◌≡◌, ℕ, ◌+◌, ◌-◌, ◌*◌, ◌/◌, ◌<◌, ◌≤◌, Bool, true, false, min, ltb, leb, ◌&&◌, refl, sym, ap, ◌∙◌, arith, List, length, get_or, set, []}
-use Rattle.std.proofs.lemmas.Bool.{le-leb, leb-true, ltb-true, true≢false}
+use Rattle.std.proofs.Common.{◌≡◌, ℕ, ◌+◌, ◌-◌, ◌*◌, ◌/◌, ◌<◌, Bool, true, min, ltb, leb, ◌&&◌, refl, sym, ap, arith, List, length, get_or, set, []}
+use Rattle.std.proofs.lemmas.Bool.{le-leb, true≢false}
 use Rattle.std.proofs.lemmas.Bool.Decides.{nat_tests}
 use Rattle.std.proofs.lemmas.List.{length-take}
 use Rattle.vp_dots.specs.Dots.{dot, dots}
@@ -9,14 +9,12 @@ use Rattle.vp_dots.specs.Places.{RowsPainted}
 use Rattle.vp_dots.specs.declared.Op.TheVariants.{Black}
 use Rattle.vp_dots.proofs.Paints.{painted_same}
 use Rattle.vp_dots.proofs.Placing.{rows_more}
+use Rattle.vp_page.specs.declared.page.TheConstants.{PAGE_ROWS}
 use Rattle.vp_page.specs.Layers.{mark_dot, rows_mark}
 use Rattle.vp_page.specs.Lines.{row_in, AreWhole}
 use Rattle.vp_page.specs.declared.area.Area.{Area}
 use Rattle.vp_page.specs.declared.area.Direction.TheVariants.{LeftToRight, RightToLeft}
 use Rattle.vp_page.proofs.Rows.{dot_past, rows_same}
-
-inside_same : (p q r s b c : Bool) → (p ≡ true → q ≡ true → r ≡ true → s ≡ true → b ≡ c) → (p && (q && (r && (s && b)))) ≡ (p && (q && (r && (s && c))))
-inside_same p q r s b c e = grind arith
 
 -- a row has no dot past its bytes
 short_row : (bytes : List ℕ) (wide i u : ℕ) → dot (row_in bytes wide i) u ≡ true → u < 8 * wide
@@ -27,28 +25,16 @@ module _ (bytes line : List ℕ) (wide rows q top i : ℕ) (a b : List (List ℕ
   back x k = leb top k && (leb (8 * q) x && (ltb (x - 8 * q) (8 * wide) && dot (row_in bytes wide (rows - 1 - (k - top))) (8 * wide - 1 - (x - 8 * q))))
 
   -- one more row that is turned end for end
-  pub back_more : top + i < 1664 → top + i < length b → length line ≡ wide → line ≡ row_in bytes wide (rows - 1 - i)
-      → RowsPainted 1664 Black (λ x k. ltb k (top + i) && back x k) a b
+  pub back_more : top + i < PAGE_ROWS → top + i < length b → length line ≡ wide → line ≡ row_in bytes wide (rows - 1 - i)
+      → RowsPainted PAGE_ROWS Black (λ x k. ltb k (top + i) && back x k) a b
       → Painted Black (λ d. leb (8 * q) d && (ltb (d - 8 * q) (dots line) && dot line (dots line - 1 - (d - 8 * q)))) (get_or b (top + i) []) row
-      → RowsPainted 1664 Black (λ x k. ltb k (top + (i + 1)) && back x k) a (set b (top + i) row)
+      → RowsPainted PAGE_ROWS Black (λ x k. ltb k (top + (i + 1)) && back x k) a (set b (top + i) row)
   back_more h l long is p t =
       let u : top + i - top ≡ i = omega arith in
       let n : top + i + 1 ≡ top + (i + 1) = omega arith in
       rows_same Black _ _ _ _ (λ x k _. ap (λ m. ltb k m && back x k) n)
-      (rows_more 1664 Black back (top + i) a b row l h p
+      (rows_more PAGE_ROWS Black back (top + i) a b row l h p
       (painted_same Black _ _ _ _ (λ d _. rw (le-leb top (top + i) (omega arith), u, sym is, sym long) refl) t))
-
-module _ (ax ay dx dy v wide rows shown x y : ℕ) where
-  right_in : (b : Bool) → v < dy → shown ≡ min rows (dy - v) → 8 * wide ≤ dx → (b ≡ true → x - ax < 8 * wide)
-      → (leb (ay + v) y && (ltb (y - (ay + v)) shown && (leb ax x && b))) ≡ (leb ax x && ltb x (ax + dx) && (leb ay y && ltb y (ay + dy)) && (leb v (y - ay) && (ltb (y - ay - v) rows && b)))
-  right_in true h s w near = let n = near refl in grind (arith, nat_tests)
-  right_in false h s w near = grind (arith, nat_tests)
-
-  left_in : (top left : ℕ) (b : Bool) → v < dy → shown ≡ min rows (dy - v) → 8 * wide ≤ dx → top ≡ ay + (dy - v - shown) → left + 8 * wide ≡ ax + dx → (b ≡ true → ax + dx - 1 - x < 8 * wide)
-      → (leb top y && (ltb (y - top) shown && (leb left x && (ltb (x - left) (8 * wide) && b))))
-      ≡ (leb ax x && ltb x (ax + dx) && (leb ay y && ltb y (ay + dy)) && (leb v (ay + dy - 1 - y) && (ltb (ay + dy - 1 - y - v) rows && b)))
-  left_in top left true h s w t e near = let n = near refl in grind (arith, nat_tests)
-  left_in top left false h s w t e near = grind (arith, nat_tests)
 
 -- rows that run to the right
 pub whole_right : (a : Area) (v wide rows shown q : ℕ) (bytes : List ℕ) → AreWhole a a.x wide → v < a.dy → shown ≡ min rows (a.dy - v) → q ≡ a.x / 8 → (x y : ℕ)
@@ -60,16 +46,4 @@ pub whole_left : (a : Area) (v wide rows shown q top : ℕ) (bytes : List ℕ) �
     → top ≡ a.y + (a.dy - v - shown) → (x y : ℕ)
     → (leb top y && (ltb (y - top) shown && (leb (8 * q) x && (ltb (x - 8 * q) (8 * wide) && dot (row_in bytes wide (shown - 1 - (y - top))) (8 * wide - 1 - (x - 8 * q))))))
     ≡ mark_dot (rows_mark a RightToLeft v wide rows bytes) x y
-whole_left a v wide rows shown q top bytes fit h s e t x y =
-    let right : 8 * q + 8 * wide ≡ a.x + a.dx = omega (arith, fit.begins, fit.short) in
-    let u = a.x + a.dx - 1 - x in
-    let w = a.y + a.dy - 1 - y - v in
-    inside_same (leb top y) (ltb (y - top) shown) (leb (8 * q) x) (ltb (x - 8 * q) (8 * wide)) _ (dot (row_in bytes wide w) u) (λ i j k l.
-    let i' = leb-true top y i in
-    let j' = ltb-true (y - top) shown j in
-    let k' = leb-true (8 * q) x k in
-    let l' = ltb-true (x - 8 * q) (8 * wide) l in
-    let row : shown - 1 - (y - top) ≡ w = omega (arith, s, t, i', j') in
-    let dot_at : 8 * wide - 1 - (x - 8 * q) ≡ u = omega (arith, right, k', l') in
-    ap (λ n. dot (row_in bytes wide n) (8 * wide - 1 - (x - 8 * q))) row ∙ ap (dot (row_in bytes wide w)) dot_at)
-    ∙ left_in a.x a.y a.dx a.dy v wide rows shown x y top (8 * q) (dot (row_in bytes wide w) u) h s fit.short t right (short_row bytes wide w u)
+whole_left a v wide rows shown q top bytes fit h s e t x y = grind (arith, nat_tests, short_row)

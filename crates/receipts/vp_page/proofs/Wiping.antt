@@ -1,5 +1,5 @@
 -- How many rows a wipe makes white.
-use Rattle.std.proofs.Common.{inl, inr, ◌≡◌, ℕ, zero, suc, ◌-◌, ◌<◌, ◌≤◌, Bool, true, false, min, ◌&&◌, refl, arith, List, if◌then◌else◌}
+use Rattle.std.proofs.Common.{inl, inr, ◌≡◌, ℕ, zero, suc, ◌-◌, ◌<◌, ◌≤◌, Bool, false, min, ◌&&◌, refl, arith, List, if◌then◌else◌}
 use Rattle.std.proofs.lemmas.Bool.{cases_Bool}
 use Rattle.std.proofs.lemmas.Bool.Decides.{nat_tests}
 use Rattle.vp_dots.specs.Dots.{span}
@@ -16,8 +16,7 @@ module _ (layers : List Layer) (a : Area) where
   row_white y (suc x) h = rw (h x (omega arith)) (row_white y x (λ u l. h u (omega arith)))
 
   at_most_one : (b : Bool) → (if b then 1 else 0) ≤ 1
-  at_most_one true = omega arith
-  at_most_one false = omega arith
+  at_most_one b = grind arith
 
   -- where all that is black in the area lies on some rows
   pub few_black : (from to n : ℕ) → n ≤ PAGE_ROWS → ((x y : ℕ) → x < PAPER_DOTS → y < PAGE_ROWS → span from to y ≡ false → (holds a x y && page_dot layers x y) ≡ false)

@@ -1,9 +1,9 @@
 -- Words painted on rows of the page.
-use Rattle.std.proofs.Common.{min, inl, inr, ◌≡◌, ℕ, ◌+◌, ◌-◌, ◌*◌, ◌/◌, ◌%◌, ◌^◌, ◌<◌, ◌≤◌, Bool, true, false, cond, eqb, ltb, leb, ◌&&◌, ◌||◌, refl, sym, ap, ◌∙◌, arith, List, bit_and, bit_or, length, get_or, set}
+use Rattle.std.proofs.Common.{min, ◌≡◌, ℕ, ◌+◌, ◌-◌, ◌*◌, ◌/◌, ◌%◌, ◌^◌, ◌<◌, ◌≤◌, Bool, true, false, cond, eqb, ltb, leb, ◌&&◌, ◌||◌, sym, ap, ◌∙◌, arith, List, bit_and, bit_or, length, get_or, set}
 use lib.Lanes.{zip2, chunk, put_chunk}
 use Rattle.std.specs.Int.{to_be_bytes, w64}
 use Rattle.std.proofs.lemmas.Simd.{get_or-zip2, get_or-chunk, length-zip2, length-chunk}
-use Rattle.std.proofs.lemmas.Bool.{cases_lt, lt-ltb, le-ltb, lt-leb, le-leb}
+use Rattle.std.proofs.lemmas.Bool.{lt-ltb, le-ltb, lt-leb, le-leb}
 use Rattle.std.proofs.lemmas.Bool.Decides.{nat_tests}
 use Rattle.vp_dots.specs.Dots.{bit, dot, span}
 use Rattle.vp_dots.specs.Words.{word_dot}
@@ -12,14 +12,45 @@ use Rattle.vp_dots.specs.declared.Op.TheVariants.{Black}
 use Rattle.vp_dots.proofs.Bits.{bit_of_or}
 use Rattle.vp_dots.proofs.Blocks.{painted_block}
 use Rattle.vp_dots.proofs.Paints.{painted_same, painted_byte_at}
-use Rattle.vp_dots.proofs.Words.{or_false, and_false, and_true, bit_shl, word_shr, word_row}
+use Rattle.vp_dots.proofs.Words.{bit_shl, word_shr, word_row}
 use Rattle.vp_dots.proofs.Spans.{bit_of_all, bit_of_and}
 use Rattle.vp_dots.proofs.Cuts.{bit_low64}
 use Rattle.vp_dots.proofs.Rows.{dot_at}
+use Rattle.vp_page.specs.declared.page.TheConstants.{PAPER_DOTS}
 use Rattle.vp_page.proofs.Rows.{dot_past}
 
-spanned : (i d : ℕ) (b : Bool) → (span i (i + 8) (d / 8) && (leb (8 * i) d && (ltb (d - 8 * i) 64 && b))) ≡ (leb (8 * i) d && (ltb (d - 8 * i) 64 && b))
-spanned i d b = grind (arith, nat_tests)
+-- some bytes of a row, each with a byte on it
+module _ (f : ℕ → ℕ → ℕ) (row ys : List ℕ) (i n : ℕ) (room : i + n ≤ length row) (long : length ys ≡ n) where
+  pub long_on : length (zip2 f (chunk i n row) ys) ≡ n
+  long_on = grind (arith, length-zip2, length-chunk)
+
+  pub byte_on : (j : ℕ) → j < n → get_or (zip2 f (chunk i n row) ys) j 0 ≡ f (get_or row (i + j) 0) (get_or ys j 0)
+  byte_on j h = grind (arith, get_or-zip2, get_or-chunk, length-chunk)
+
+-- some bytes of a row, blackened where others are black
+pub bytes_on : (ink : ℕ → Bool) (row ys : List ℕ) (i n : ℕ) → i + n ≤ length row → length ys ≡ n → ((j k : ℕ) → j < n → k < 8 → bit (get_or ys j 0) k ≡ ink (8 * (i + j) + (7 - k)))
+    → Painted Black (λ d. span i (i + n) (d / 8) && ink d) row (put_chunk i row (zip2 bit_or (chunk i n row) ys))
+bytes_on ink row ys i n room long e = painted_block Black ink i n row _ (long_on bit_or row ys i n room long) room (λ j m k h. ap (λ x. bit x k) (byte_on bit_or row ys i n room long j m)
+    ∙ bit_of_or (get_or row (i + j) 0) (get_or ys j 0) k ∙ ap (λ b. cond b true (bit (get_or row (i + j) 0) k)) (e j k m h))
+
+-- eight bytes with eight bytes of a line on them
+pub bytes_painted : (line : List ℕ) (j i : ℕ) (row : List ℕ) → j + 8 ≤ length line → i + 8 ≤ length row
+    → Painted Black (λ d. leb (8 * i) d && (ltb (d - 8 * i) 64 && dot line (8 * j + (d - 8 * i)))) row (put_chunk i row (zip2 bit_or (chunk i 8 row) (chunk j 8 line)))
+bytes_painted line j i row there room = painted_same Black _ _ _ _ (λ d l. grind (arith, nat_tests))
+    (bytes_on (λ d. leb (8 * i) d && (ltb (d - 8 * i) 64 && dot line (8 * j + (d - 8 * i)))) row _ i 8 room (length-chunk j 8 line there) (λ n k p h. ap (λ x. bit x k) (get_or-chunk j 8 line n 0 p)
+    ∙ grind (arith, nat_tests, dot_at line (j + n) k h)))
+
+-- sixteen bytes with those of other bytes on them
+pub sixteen_painted : (line : List ℕ) (i : ℕ) (row : List ℕ) → i + 16 ≤ length line → i + 16 ≤ length row
+    → Painted Black (λ d. span i (i + 16) (d / 8) && dot line d) row (put_chunk i row (zip2 bit_or (chunk i 16 row) (chunk i 16 line)))
+sixteen_painted line i row there room = bytes_on (dot line) row _ i 16 room (length-chunk i 16 line there) (λ n k p h. ap (λ x. bit x k) (get_or-chunk i 16 line n 0 p) ∙ sym (dot_at line (i + n) k h))
+
+-- sixteen bytes with sixteen bytes of a line on them, turned end for end
+pub turned_painted : (line lanes : List ℕ) (j i : ℕ) (row : List ℕ) → j + 16 ≤ length line → i + 16 ≤ length row → length lanes ≡ 16
+    → ((n k : ℕ) → n < 16 → k < 8 → bit (get_or lanes n 0) k ≡ bit (get_or line (j + (15 - n)) 0) (7 - k))
+    → Painted Black (λ d. leb (8 * i) d && (ltb (d - 8 * i) 128 && dot line (8 * j + (127 - (d - 8 * i))))) row (put_chunk i row (zip2 bit_or (chunk i 16 row) lanes))
+turned_painted line lanes j i row there room sixteen turned = painted_same Black _ _ _ _ (λ d l. grind (arith, nat_tests))
+    (bytes_on (λ d. leb (8 * i) d && (ltb (d - 8 * i) 128 && dot line (8 * j + (127 - (d - 8 * i))))) row lanes i 16 room sixteen (λ n k p h. grind (arith, nat_tests, turned n k, dot_at line (j + (15 - n)) (7 - k))))
 
 -- a byte with a mask on it
 pub byte_painted : (mask i : ℕ) (row : List ℕ) → i < length row → Painted Black (λ d. eqb (d / 8) i && bit mask (7 - d % 8)) row (set row i (bit_or (get_or row i 0) mask))
@@ -28,20 +59,12 @@ byte_painted mask i row h = painted_byte_at Black (λ d. bit mask (7 - d % 8)) i
 
 -- what a word loses on the right
 pub lost_bit : (word s k : ℕ) → s < 8 → k < 8 → bit (bit_and (word * 2 ^ (8 - s) % 2 ^ 64) 255) k ≡ (leb (8 - s) k && bit word (k - (8 - s)))
-lost_bit word s k p h =
-    bit_of_and _ 255 k ∙ ap (λ b. bit (word * 2 ^ (8 - s) % 2 ^ 64) k && b) (bit_of_all k h) ∙ and_true _
-    ∙ bit_low64 _ k (omega arith) ∙ bit_shl word (8 - s) k
+lost_bit word s k p h = grind (arith, bit_of_and, bit_of_all, bit_low64, bit_shl)
 
 -- a word that begins in the last eight bytes of a row
 pub last_eight : (word at far d : ℕ) → word < 2 ^ 64 → at ≤ far → d < at + 64
     → (leb at d && word_dot (word / 2 ^ (far - at)) (d - at)) ≡ (leb far d && word_dot word (d - far))
-last_eight word at far d fits from h = elim (cases_lt d at) [
-  | inl l ↦ rw (lt-leb at d l, lt-leb far d (omega arith)) refl
-  | inr g ↦ rw (le-leb at d g, lt-ltb (d - at) 64 (omega arith)) (word_shr word (far - at) (d - at) fits (omega arith) ∙ elim (cases_lt d far) [
-    | inl b ↦ rw (lt-leb (far - at) (d - at) (omega arith), lt-leb far d b) refl
-    | inr a ↦ rw (le-leb (far - at) (d - at) (omega arith), le-leb far d a, lt-ltb (d - far) 64 (omega arith)) (ap (bit word) (omega arith))
-  ])
-]
+last_eight word at far d fits from h = grind (arith, nat_tests, word_shr)
 
 -- a word that begins before a row
 pub first_eight : (word far d : ℕ) → (leb 0 d && word_dot (word * 2 ^ far % 2 ^ 64) (d - 0)) ≡ word_dot word (d + far)
@@ -49,144 +72,29 @@ first_eight word far d = grind (arith, le-leb, lt-ltb, bit_low64, bit_shl, lt-le
 
 -- half a word, from one of its dots on
 pub half_dot : (word mask skip x : ℕ) → ((d : ℕ) → word_dot mask d ≡ ltb d 32) → word_dot (bit_and (word * 2 ^ skip % 2 ^ 64) mask) x ≡ (ltb x 32 && word_dot word (x + skip))
-half_dot word mask skip x left = elim (cases_lt x 64) [
-  | inl l ↦ rw (lt-ltb x 64 l) (bit_of_and (word * 2 ^ skip % 2 ^ 64) mask (63 - x) ∙ elim (cases_lt x 32) [
-    | inl m ↦ rw (lt-ltb x 32 m) (ap (λ b. bit (word * 2 ^ skip % 2 ^ 64) (63 - x) && b) (masked m) ∙ and_true _ ∙ moved l)
-    | inr g ↦ rw (le-ltb x 32 g) (ap (λ b. bit (word * 2 ^ skip % 2 ^ 64) (63 - x) && b) (unmasked g l) ∙ and_false _)
-  ])
-  | inr g ↦ rw (le-ltb x 64 g, le-ltb x 32 (omega arith)) refl
-]
-  where
-    masked : x < 32 → bit mask (63 - x) ≡ true
-    masked m = rw (lt-ltb x 64 (omega arith), lt-ltb x 32 m) at (left x)
-
-    unmasked : 32 ≤ x → x < 64 → bit mask (63 - x) ≡ false
-    unmasked g l = rw (lt-ltb x 64 l, le-ltb x 32 g) at (left x)
-
-    moved : x < 64 → bit (word * 2 ^ skip % 2 ^ 64) (63 - x) ≡ word_dot word (x + skip)
-    moved l = rw (le-leb 0 x (omega arith), (let e : x - 0 ≡ x = omega arith in e), lt-ltb x 64 l) at (first_eight word skip x)
-
-module _ (line : List ℕ) (j i : ℕ) (row : List ℕ) (there : j + 8 ≤ length line) (room : i + 8 ≤ length row) where
-  byte_lane : (n k : ℕ) → n < 8 → k < 8
-      → bit (get_or (zip2 bit_or (chunk i 8 row) (chunk j 8 line)) n 0) k ≡ cond (leb (8 * i) (8 * (i + n) + (7 - k)) && (ltb (8 * (i + n) + (7 - k) - 8 * i) 64 && dot line (8 * j + (8 * (i + n) + (7 - k) - 8 * i)))) true (bit (get_or row (i + n) 0) k)
-  byte_lane n k p h =
-      let place : 8 * (i + n) + (7 - k) - 8 * i ≡ 8 * n + (7 - k) = omega arith in
-      let ink : (leb (8 * i) (8 * (i + n) + (7 - k)) && (ltb (8 * (i + n) + (7 - k) - 8 * i) 64 && dot line (8 * j + (8 * (i + n) + (7 - k) - 8 * i)))) ≡ dot line (8 * j + (8 * n + (7 - k))) =
-      rw (le-leb (8 * i) (8 * (i + n) + (7 - k)) (omega arith), place, lt-ltb (8 * n + (7 - k)) 64 (omega arith)) refl in
-      let here : 8 * (j + n) + (7 - k) ≡ 8 * j + (8 * n + (7 - k)) = omega arith in
-      ap (λ x. bit x k) (get_or-zip2 bit_or (chunk i 8 row) (chunk j 8 line) n 0 0 0 (omega (arith, length-chunk i 8 row room)) (omega (arith, length-chunk j 8 line there))
-      ∙ ap (λ x. bit_or x (get_or (chunk j 8 line) n 0)) (get_or-chunk i 8 row n 0 p) ∙ ap (bit_or (get_or row (i + n) 0)) (get_or-chunk j 8 line n 0 p))
-      ∙ bit_of_or (get_or row (i + n) 0) (get_or line (j + n) 0) k
-      ∙ ap (λ b. cond b true (bit (get_or row (i + n) 0) k)) (sym (dot_at line (j + n) k h) ∙ ap (dot line) here ∙ sym ink)
-
-  bytes_long : length (zip2 bit_or (chunk i 8 row) (chunk j 8 line)) ≡ 8
-  bytes_long = length-zip2 bit_or (chunk i 8 row) (chunk j 8 line) (length-chunk i 8 row room ∙ sym (length-chunk j 8 line there)) ∙ length-chunk i 8 row room
-
-  -- eight bytes with eight bytes of a line on them
-  pub bytes_painted : Painted Black (λ d. leb (8 * i) d && (ltb (d - 8 * i) 64 && dot line (8 * j + (d - 8 * i)))) row (put_chunk i row (zip2 bit_or (chunk i 8 row) (chunk j 8 line)))
-  bytes_painted = painted_same Black _ _ _ _ (λ d l. spanned i d (dot line (8 * j + (d - 8 * i))))
-      (painted_block Black (λ d. leb (8 * i) d && (ltb (d - 8 * i) 64 && dot line (8 * j + (d - 8 * i)))) i 8 row _ bytes_long room (λ n l k m. byte_lane n k l m))
+half_dot word mask skip x left = grind (arith, bit_of_and, bit_low64, bit_shl, left x)
 
 -- the bytes of a word, eight of a row
 pub word_bytes : (word x : ℕ) (bytes : List ℕ) → bytes ≡ to_be_bytes w64 word → (ltb x 64 && dot bytes (8 * 0 + x)) ≡ word_dot word x
 word_bytes word x bytes e = grind (arith, word_row)
 
 module _ (line : List ℕ) (q k d : ℕ) where
-  -- eight more bytes of a line
-  pub words_more : (ltb d (8 * q + 64 * (k + 1)) && (leb (8 * q) d && dot line (d - 8 * q)))
-      ≡ (ltb d (8 * q + 64 * k) && (leb (8 * q) d && dot line (d - 8 * q)) || leb (8 * (q + 8 * k)) d && (ltb (d - 8 * (q + 8 * k)) 64 && dot line (8 * (8 * k) + (d - 8 * (q + 8 * k)))))
-  words_more = elim (cases_lt d (8 * q + 64 * k)) [
-    | inl l ↦ rw (lt-ltb d (8 * q + 64 * k) l, lt-ltb d (8 * q + 64 * (k + 1)) (omega arith), lt-leb (8 * (q + 8 * k)) d (omega arith)) (or_false _)
-    | inr g ↦ rw (le-ltb d (8 * q + 64 * k) g, le-leb (8 * (q + 8 * k)) d (omega arith)) (elim (cases_lt d (8 * q + 64 * (k + 1))) [
-      | inl m ↦ rw (lt-ltb d (8 * q + 64 * (k + 1)) m, le-leb (8 * q) d (omega arith), lt-ltb (d - 8 * (q + 8 * k)) 64 (omega arith))
-          (ap (dot line) (let e : d - 8 * q ≡ 8 * (8 * k) + (d - 8 * (q + 8 * k)) = omega arith in e))
-      | inr o ↦ rw (le-ltb d (8 * q + 64 * (k + 1)) o, le-ltb (d - 8 * (q + 8 * k)) 64 (omega arith)) refl
-    ])
-  ]
-
   -- after the last ones
   pub words_all : length line ≤ 8 * k → (ltb d (8 * q + 64 * k) && (leb (8 * q) d && dot line (d - 8 * q))) ≡ (leb (8 * q) d && dot line (d - 8 * q))
-  words_all all = elim (cases_lt d (8 * q + 64 * k)) [
-    | inl l ↦ rw (lt-ltb d (8 * q + 64 * k) l) refl
-    | inr g ↦ rw (le-ltb d (8 * q + 64 * k) g, dot_past line (d - 8 * q) (omega arith)) (sym (and_false _))
-  ]
-
--- a word behind the ones before it
-pub words_apart : (q k d : ℕ) (m b : Bool) → (ltb d (8 * q + 64 * k) && m && (leb (8 * (q + 8 * k)) d && b)) ≡ false
-words_apart q k d m b = grind (arith, lt-leb, and_false, le-ltb)
-
-module _ (line lanes : List ℕ) (j i : ℕ) (row : List ℕ) (there : j + 16 ≤ length line) (room : i + 16 ≤ length row) (sixteen : length lanes ≡ 16)
-    (turned : (n k : ℕ) → n < 16 → k < 8 → bit (get_or lanes n 0) k ≡ bit (get_or line (j + (15 - n)) 0) (7 - k)) where
-  turned_ink : ℕ → Bool
-  turned_ink d = leb (8 * i) d && (ltb (d - 8 * i) 128 && dot line (8 * j + (127 - (d - 8 * i))))
-
-  turned_lane : (n k : ℕ) → n < 16 → k < 8 → bit (get_or (zip2 bit_or (chunk i 16 row) lanes) n 0) k ≡ cond (turned_ink (8 * (i + n) + (7 - k))) true (bit (get_or row (i + n) 0) k)
-  unfolding turned_ink
-  turned_lane n k p h =
-      let place : 8 * (i + n) + (7 - k) - 8 * i ≡ 8 * n + (7 - k) = omega arith in
-      let here : 8 * (j + (15 - n)) + (7 - (7 - k)) ≡ 8 * j + (127 - (8 * n + (7 - k))) = omega arith in
-      let ink : (leb (8 * i) (8 * (i + n) + (7 - k)) && (ltb (8 * (i + n) + (7 - k) - 8 * i) 128 && dot line (8 * j + (127 - (8 * (i + n) + (7 - k) - 8 * i))))) ≡ dot line (8 * j + (127 - (8 * n + (7 - k)))) =
-      rw (le-leb (8 * i) (8 * (i + n) + (7 - k)) (omega arith), place, lt-ltb (8 * n + (7 - k)) 128 (omega arith)) refl in
-      ap (λ x. bit x k) (get_or-zip2 bit_or (chunk i 16 row) lanes n 0 0 0 (omega (arith, length-chunk i 16 row room)) (omega (arith, sixteen)) ∙ ap (λ x. bit_or x (get_or lanes n 0)) (get_or-chunk i 16 row n 0 p))
-      ∙ bit_of_or (get_or row (i + n) 0) (get_or lanes n 0) k
-      ∙ ap (λ b. cond b true (bit (get_or row (i + n) 0) k)) (turned n k p h ∙ sym (dot_at line (j + (15 - n)) (7 - k) (omega arith)) ∙ ap (dot line) here ∙ sym ink)
-
-  turned_spanned : (d : ℕ) (b : Bool) → (span i (i + 16) (d / 8) && (leb (8 * i) d && (ltb (d - 8 * i) 128 && b))) ≡ (leb (8 * i) d && (ltb (d - 8 * i) 128 && b))
-  turned_spanned d b = grind (arith, nat_tests)
-
-  turned_long : length (zip2 bit_or (chunk i 16 row) lanes) ≡ 16
-  turned_long = length-zip2 bit_or (chunk i 16 row) lanes (length-chunk i 16 row room ∙ sym sixteen) ∙ length-chunk i 16 row room
-
-  -- sixteen bytes with sixteen bytes of a line on them, turned end for end
-  pub turned_painted : Painted Black (λ d. leb (8 * i) d && (ltb (d - 8 * i) 128 && dot line (8 * j + (127 - (d - 8 * i))))) row (put_chunk i row (zip2 bit_or (chunk i 16 row) lanes))
-  unfolding turned_ink
-  turned_painted = painted_same Black _ _ _ _ (λ d l. turned_spanned d (dot line (8 * j + (127 - (d - 8 * i)))))
-      (painted_block Black turned_ink i 16 row _ turned_long room (λ n l k m. turned_lane n k l m))
+  words_all all = grind (arith, nat_tests, dot_past)
 
 -- bytes of a line that is turned end for end: those before a place, and more
 module _ (q n d : ℕ) (line : List ℕ) where
   abbrev reversed : ℕ → Bool
   reversed e = leb (8 * q) e && (ltb (e - 8 * q) (8 * n) && dot line (8 * n - 1 - (e - 8 * q)))
 
-  pub reversed_more : (k m next : ℕ) (b : Bool) → next ≡ k + m → next ≤ n → (8 * (q + k) ≤ d → d < 8 * (q + k) + 8 * m → b ≡ dot line (8 * n - 1 - (d - 8 * q)))
-      → (ltb d (8 * q + 8 * next) && reversed d) ≡ (ltb d (8 * q + 8 * k) && reversed d || leb (8 * (q + k)) d && (ltb (d - 8 * (q + k)) (8 * m) && b))
-  reversed_more k m next b e h w = elim (cases_lt d (8 * q + 8 * k)) [
-    | inl l ↦ rw (lt-ltb d (8 * q + 8 * k) l, lt-ltb d (8 * q + 8 * next) (omega arith), lt-leb (8 * (q + k)) d (omega arith)) (or_false _)
-    | inr g ↦ rw (le-ltb d (8 * q + 8 * k) g, le-leb (8 * (q + k)) d (omega arith)) (elim (cases_lt d (8 * q + 8 * next)) [
-      | inl s ↦ rw (lt-ltb d (8 * q + 8 * next) s, le-leb (8 * q) d (omega arith), lt-ltb (d - 8 * q) (8 * n) (omega arith), lt-ltb (d - 8 * (q + k)) (8 * m) (omega arith)) (sym (w (omega arith) (omega arith)))
-      | inr o ↦ rw (le-ltb d (8 * q + 8 * next) o, le-ltb (d - 8 * (q + k)) (8 * m) (omega arith)) refl
-    ])
-  ]
-
-  pub reversed_apart : (k : ℕ) (b : Bool) → (ltb d (8 * q + 8 * k) && reversed d && (leb (8 * (q + k)) d && b)) ≡ false
-  reversed_apart k b = elim (cases_lt d (8 * q + 8 * k)) [
-    | inl l ↦ rw (lt-leb (8 * (q + k)) d (omega arith)) (and_false _)
-    | inr g ↦ rw (le-ltb d (8 * q + 8 * k) g) refl
-  ]
-
   -- after the last ones
   pub reversed_all : (k : ℕ) → n ≤ k → (ltb d (8 * q + 8 * k) && reversed d) ≡ reversed d
-  reversed_all k all = elim (cases_lt d (8 * q + 8 * k)) [
-    | inl l ↦ rw (lt-ltb d (8 * q + 8 * k) l) refl
-    | inr g ↦ rw (le-ltb d (8 * q + 8 * k) g, le-ltb (d - 8 * q) (8 * n) (omega arith)) (sym (and_false _))
-  ]
+  reversed_all k all = grind arith
 
 -- before the first ones
 pub words_none : (q d : ℕ) (b : Bool) → (ltb d (8 * q + 64 * 0) && (leb (8 * q) d && b)) ≡ false
 words_none q d b = grind (arith, nat_tests)
-
--- sixteen bytes with those of other bytes on them
-module _ (line : List ℕ) (i : ℕ) (row : List ℕ) (there : i + 16 ≤ length line) (room : i + 16 ≤ length row) where
-  line_lane : (n k : ℕ) → n < 16 → k < 8 → bit (get_or (zip2 bit_or (chunk i 16 row) (chunk i 16 line)) n 0) k ≡ cond (dot line (8 * (i + n) + (7 - k))) true (bit (get_or row (i + n) 0) k)
-  line_lane n k p h =
-      ap (λ x. bit x k) (get_or-zip2 bit_or (chunk i 16 row) (chunk i 16 line) n 0 0 0 (omega (arith, length-chunk i 16 row room)) (omega (arith, length-chunk i 16 line there))
-      ∙ ap (λ x. bit_or x (get_or (chunk i 16 line) n 0)) (get_or-chunk i 16 row n 0 p) ∙ ap (bit_or (get_or row (i + n) 0)) (get_or-chunk i 16 line n 0 p))
-      ∙ bit_of_or (get_or row (i + n) 0) (get_or line (i + n) 0) k
-      ∙ ap (λ b. cond b true (bit (get_or row (i + n) 0) k)) (sym (dot_at line (i + n) k h))
-
-  pub sixteen_painted : Painted Black (λ d. span i (i + 16) (d / 8) && dot line d) row (put_chunk i row (zip2 bit_or (chunk i 16 row) (chunk i 16 line)))
-  sixteen_painted = painted_block Black (dot line) i 16 row _
-      (length-zip2 bit_or (chunk i 16 row) (chunk i 16 line) (length-chunk i 16 row room ∙ sym (length-chunk i 16 line there)) ∙ length-chunk i 16 row room) room (λ n l k m. line_lane n k l m)
 
 -- sixteen more bytes
 pub sixteen_more : (i k d : ℕ) (b : Bool) → (span i (i + 16 * (k + 1)) (d / 8) && b) ≡ ((span i (i + 16 * k) (d / 8) && b) || (span (i + 16 * k) (i + 16 * k + 16) (d / 8) && b))
@@ -200,7 +108,7 @@ pub no_sixteen : (i d : ℕ) (b : Bool) → (span i (i + 16 * 0) (d / 8) && b) �
 no_sixteen i d b = grind (arith, nat_tests)
 
 -- a dot that is black among those bytes alone
-pub among : (first bytes at n x top y : ℕ) (b c : Bool) → bytes ≤ 16 * n → at ≡ min first (72 - 16 * n) → n ≡ 2 → x < 576 → (b ≡ true → span first (first + bytes) (x / 8) ≡ true) → b ≡ c → top ≤ y
+pub among : (first bytes at n x top y : ℕ) (b c : Bool) → bytes ≤ 16 * n → at ≡ min first (72 - 16 * n) → n ≡ 2 → x < PAPER_DOTS → (b ≡ true → span first (first + bytes) (x / 8) ≡ true) → b ≡ c → top ≤ y
     → (span at (at + 16 * n) (x / 8) && b) ≡ (leb top y && c)
 among first bytes at n x top y b c e a few h s t l = grind (arith, nat_tests)
 

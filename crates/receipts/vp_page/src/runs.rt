@@ -195,7 +195,7 @@ fn lay_word<A: Small>(
 
 /// Lays the first words of a square, each along the rows of the page at one place of the lines: the first at
 /// place `at`.
-fn lay_words<A: Small>(
+fn lay_turned<A: Small>(
     words: &[u64; SIDE],
     at: usize,
     rows: usize,
@@ -282,7 +282,7 @@ pub(crate) fn lay_runs<A: Small>(
         } else {
             let rows = (end - at).min(SIDE);
             let square = turned_square(&square_of(lines, at, Way::Up));
-            lay_words(&square, at, rows, begins, n, area, way, band);
+            lay_turned(&square, at, rows, begins, n, area, way, band);
             at += rows;
         }
     }

@@ -1,10 +1,7 @@
-use Rattle.std.proofs.Common.{inl, inr, length}
-use Rattle.std.proofs.lemmas.Bool.{cases_lt}
+use Rattle.std.proofs.lemmas.Bool.Decides.{nat_tests}
+use Rattle.std.proofs.Common.{arith}
 use Rattle.vp_page.proofs.Squares.{no_line}
 use Rattle.vp_page.proofs.across.is_white.Goals as goal
 
 pub returns-in-White : goal.returns-in-White
-returns-in-White c = λ _ lines at i shade. elim (cases_lt i (length lines)) [
-  | inl l ↦ (rw c.in-White.is at shade) i l
-  | inr g ↦ no_line lines i at g
-]
+returns-in-White c = λ _ lines at i shade. grind (arith, nat_tests, no_line)

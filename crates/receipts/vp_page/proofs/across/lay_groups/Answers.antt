@@ -1,36 +1,17 @@
-use Rattle.std.proofs.Common.{◌≡◌, ◌+◌, ◌-◌, ◌*◌, ◌<◌, ◌&&◌, leb, ltb, ap, length, arith}
-use Rattle.std.proofs.lemmas.Bool.{le-ltb}
-use Rattle.vp_dots.specs.Dots.{span}
-use Rattle.vp_dots.specs.declared.Op.TheVariants.{Black}
-use Rattle.vp_page.specs.Areas.{holds}
-use Rattle.vp_page.specs.Lines.{line_dot}
-use Rattle.vp_page.specs.Runs.{along_of, depth_of}
-use Rattle.vp_page.proofs.Rows.{rows_same, rows_then}
-use Rattle.vp_page.proofs.Squares.{nothing_painted}
-use Rattle.vp_page.proofs.Stretches.{group_right, more_in, groups_right, no_group}
+use Rattle.std.proofs.lemmas.Bool.Decides.{nat_tests}
+use Rattle.std.proofs.Common.{◌≡◌, ◌+◌, ◌-◌, ◌*◌, arith}
+use Rattle.vp_page.proofs.Rows.{rows_then}
+use Rattle.vp_page.proofs.Stretches.{group_right, more_in, groups_right}
 use Rattle.vp_page.proofs.across.lay_groups.Goals as goal
 
 pub loop-k-init : goal.loop-k-init
-loop-k-init g c =
-    let a = c.args.area in
-    let way = c.args.way in
-    let v = c.args.v in
-    nothing_painted _ c.args.band.now (λ x y h. no_group (span c.args.from (c.args.from + c.args.rows) (along_of a way y)) (holds a x y) (leb v (depth_of a way x)) (ltb (depth_of a way x - v) (64 * 0))
-    (line_dot c.args.lines.now (depth_of a way x - v) (along_of a way y)) (le-ltb (depth_of a way x - v) (64 * 0) (omega arith)))
+loop-k-init g c = grind arith
 
 pub loop-k-preserved : goal.loop-k-preserved
 loop-k-preserved g c =
-    let a = c.args.area in
-    let way = c.args.way in
-    let v = c.args.v in
-    let lines = c.args.lines.now in
-    let from = c.args.from in
     let at = 64 * c.loop-k.k in
-    let n = c.min.result - at in
-    let some : at < length lines = omega arith in
     let next : 64 * (c.loop-k.k + 1) ≡ at + 64 = omega arith in
-    rw next (rows_then _ _ _ _ _ _ (λ x y. more_in (span from (from + c.args.rows) (along_of a way y)) (holds a x y) _ _ _ (group_right lines at n (along_of a way y) (depth_of a way x) some (omega (arith, c.min.ensures)) v)) c.loop-k.invariant c.lay_group.ensures)
+    rw next (rows_then _ _ _ _ _ _ (λ x y. more_in _ _ _ _ _ (group_right c.args.lines.now at (c.min.result - at) _ _ (omega arith) (omega (arith, c.min.ensures)) c.args.v)) c.loop-k.invariant c.lay_group.ensures)
 
 pub returns : goal.returns
-returns g c = rows_same Black _ _ _ _ (λ x y _. ap (λ b. span c.args.from (c.args.from + c.args.rows) (along_of c.args.area c.args.way y) && (holds c.args.area x y && b))
-    (groups_right c.args.lines.now c.args.v (depth_of c.args.area c.args.way x) (64 * c.loop-k.k) (along_of c.args.area c.args.way y) (omega arith))) c.loop-k.invariant
+returns g c = grind (arith, nat_tests, groups_right)

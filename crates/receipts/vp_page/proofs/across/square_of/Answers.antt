@@ -1,4 +1,4 @@
-use Rattle.std.proofs.Common.{◌<◌, ◌+◌, ◌-◌, ◌∙◌, refl, arith, length-set}
+use Rattle.std.proofs.Common.{◌+◌, ◌∙◌, refl, arith, length-set}
 use Rattle.std.proofs.lemmas.Bool.{le-ltb}
 use Rattle.vp_page.specs.Runs.{placed}
 use Rattle.vp_page.proofs.Columns.{line_placed}
@@ -12,20 +12,16 @@ pub loop-i-2-init : goal.loop-i-2-init
 loop-i-2-init c = record { count = refl; dots = λ x y h l. rw (le-ltb (placed c.args.way 64 y) 0 (omega arith)) (white_words y x l) }
 
 pub loop-i-preserved : goal.loop-i-preserved
-loop-i-preserved c =
-    let small : c.loop-i.i < 64 = omega (arith, c.loop-i-test.true, c.requires.few) in
-    record {
-      count = length-set c.loop-i.square c.loop-i.i _ ∙ c.loop-i.invariant.count;
-      dots = line_placed c.args.way 64 c.loop-i.square c.args.lines.now c.args.from c.loop-i.i c.loop-i.i c.dots_from.result c.loop-i.invariant.count (rw c.in-Up.is refl) small c.dots_from.ensures c.loop-i.invariant.dots;
-    }
+loop-i-preserved c = record {
+  count = length-set c.loop-i.square _ _ ∙ c.loop-i.invariant.count;
+  dots = line_placed c.args.way 64 _ _ _ _ c.loop-i.i _ c.loop-i.invariant.count (rw c.in-Up.is refl) (omega (arith, c.loop-i-test.true, c.requires.few)) c.dots_from.ensures c.loop-i.invariant.dots;
+}
 
 pub loop-i-2-preserved : goal.loop-i-2-preserved
-loop-i-2-preserved c =
-    let small : c.loop-i-2.i < 64 = omega (arith, c.loop-i-2-test.true, c.requires.few) in
-    record {
-      count = length-set c.loop-i-2.square (64 - 1 - c.loop-i-2.i) _ ∙ c.loop-i-2.invariant.count;
-      dots = line_placed c.args.way 64 c.loop-i-2.square c.args.lines.now c.args.from (64 - 1 - c.loop-i-2.i) c.loop-i-2.i c.dots_from-in-loop-i-2.result c.loop-i-2.invariant.count (rw c.in-Down.is refl) small c.dots_from-in-loop-i-2.ensures c.loop-i-2.invariant.dots;
-    }
+loop-i-2-preserved c = record {
+  count = length-set c.loop-i-2.square _ _ ∙ c.loop-i-2.invariant.count;
+  dots = line_placed c.args.way 64 _ _ _ _ c.loop-i-2.i _ c.loop-i-2.invariant.count (rw c.in-Down.is refl) (omega (arith, c.loop-i-2-test.true, c.requires.few)) c.dots_from-in-loop-i-2.ensures c.loop-i-2.invariant.dots;
+}
 
 pub returns-after-loop-i : goal.returns-after-loop-i
 returns-after-loop-i c = λ x y h l. c.loop-i.invariant.dots x y h l ∙ all_rows c.args.lines.now (placed c.args.way 64 y) c.loop-i.i (c.args.from + x) (omega arith)

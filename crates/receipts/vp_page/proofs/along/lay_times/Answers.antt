@@ -12,7 +12,7 @@ loop-i-preserved g c = λ ink same.
     let y = c.args.top + c.loop-i.i in
     let long : length (get_or c.loop-i.band y []) ≡ 72 = ap length (sym c.row_mut.ensures.value) ∙ c.row_mut.ensures.len in
     let next : c.args.top + (c.loop-i.i + 1) ≡ y + 1 = omega arith in
-    rw next (rows_more 1664 Black (λ x k. leb c.args.top k && ink x) y _ _ _ (omega (arith, c.row_mut.ensures.rows, c.shown-i-end.ensures)) (omega (arith, c.shown-i-end.ensures)) (c.loop-i.invariant ink same)
+    rw next (rows_more _ _ (λ x k. leb c.args.top k && ink x) y _ _ _ (omega (arith, c.row_mut.ensures.rows, c.shown-i-end.ensures)) (omega (arith, c.shown-i-end.ensures)) (c.loop-i.invariant ink same)
     (painted_same Black _ _ _ _ (λ d l. below_top c.args.top y (dot c.args.row.now d) (ink d) (omega arith) (same d (omega (arith, l, long))))
     (rw (sym c.row_mut.ensures.value) c.or_row.ensures)))
 

@@ -1,8 +1,8 @@
-use Rattle.std.proofs.Common.{◌≡◌, ◌+◌, ◌-◌, ◌*◌, ◌/◌, ◌&&◌, Bool, ℕ, false, cond, leb, ltb, ap, arith, length, ◌∙◌}
-use Rattle.vp_dots.specs.Dots.{dot, span}
-use Rattle.vp_dots.specs.declared.Op.TheVariants.{Black}
-use Rattle.vp_dots.proofs.Paints.{painted_none, painted_then}
-use Rattle.vp_page.proofs.PageRows.{clipped_left, none_before, moved_left_word, row_made, whole_left, word_apart, word_more}
+use Rattle.std.proofs.lemmas.Bool.Decides.{nat_tests}
+use Rattle.std.proofs.Common.{◌≡◌, ◌+◌, ◌*◌, ◌/◌, false, cond, ap, arith, length, ◌∙◌}
+use Rattle.vp_dots.specs.Dots.{span}
+use Rattle.vp_dots.proofs.Paints.{painted_none}
+use Rattle.vp_page.proofs.PageRows.{clipped_left, none_before, row_made, whole_left}
 use Rattle.vp_page.proofs.along.row_left.Goals as goal
 
 pub returns-then-is_whole : goal.returns-then-is_whole
@@ -14,22 +14,11 @@ pub loop-i-init : goal.loop-i-init
 loop-i-init c = painted_none _ _ _ (λ d l. none_before (c.args.begin / 64) d _)
 
 pub loop-i-preserved : goal.loop-i-preserved
-loop-i-preserved c =
-    let end = c.args.begin + c.args.long in
-    let ink : ℕ → Bool = (λ d. leb (64 * (c.args.begin / 64)) d && (ltb d end && dot c.args.line.now (end - 1 - d))) in
-    let k = c.args.begin / 64 + c.loop-i.i in
-    let next : c.args.begin / 64 + (c.loop-i.i + 1) ≡ k + 1 = omega arith in
-    rw next (painted_then Black _ _ _ _ _ _ c.loop-i.invariant c.or_eight.ensures
-    (λ d l. word_more ink c.word_left.result k d (λ x m. moved_left_word c.args.begin end c.loop-i.i x c.args.line.now c.word_left.result (omega arith) (c.word_left.ensures x m)))
-    (λ d l. word_apart k d (ink d) _))
+loop-i-preserved c = grind (arith, nat_tests)
 
 pub returns : goal.returns
 returns c = λ x h.
     let begin = c.args.begin in
-    let end = begin + c.args.long in
-    let words = c.min-words.result in
-    let k = begin / 64 + c.loop-i.i in
     let long : length c.loop-i.row ≡ 72 = c.loop-i-test.array_long in
     c.fill_dots.ensures.dots_are x (omega (arith, h, long)) ∙ ap (λ b. cond (span (64 * (begin / 64)) begin x) false b) (row_made _ x c.loop-i.row c.loop-i.invariant h)
-    ∙ clipped_left begin c.args.long words k x (dot c.args.line.now (end - 1 - x)) (omega (arith, c.saturating_sub-i-end.ensures))
-    (λ m. omega (arith, c.min-words.ensures, c.div_ceil.ensures, m)) h
+    ∙ clipped_left begin c.args.long c.min-words.result (begin / 64 + c.loop-i.i) x _ (omega (arith, c.saturating_sub-i-end.ensures)) (λ m. omega (arith, c.min-words.ensures, c.div_ceil.ensures, m)) h

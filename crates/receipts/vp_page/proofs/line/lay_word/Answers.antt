@@ -10,7 +10,7 @@ pub returns-then-word-eq0 : goal.returns-then-word-eq0
 returns-then-word-eq0 g c = nothing _ c.args.band.now (λ d k. white_column c.args.word c.args.top c.args.rows k (eqb d c.args.x) c.if-word-eq0.true)
 
 pub loop-n-init : goal.loop-n-init
-loop-n-init g c = rows_init 1664 Black (λ d k. eqb d c.args.x && (leb c.args.top k && word_dot c.args.word (k - c.args.top))) _ c.args.band.now (λ d k h. no_bit c.args.top k (eqb d c.args.x) _ (omega arith))
+loop-n-init g c = rows_init _ _ (λ d k. eqb d c.args.x && (leb c.args.top k && word_dot c.args.word (k - c.args.top))) _ c.args.band.now (λ d k h. no_bit c.args.top k (eqb d c.args.x) _ (omega arith))
 
 pub loop-n-preserved : goal.loop-n-preserved
 loop-n-preserved g c =

@@ -1,8 +1,7 @@
-use Rattle.std.proofs.Common.{◌≡◌, ◌+◌, ◌∙◌, sym, ap, arith}
+use Rattle.std.proofs.Common.{◌∙◌, sym, arith}
 use Rattle.std.proofs.lemmas.Bool.{lt-ltb}
 use Rattle.vp_dots.proofs.Columns.{white_dot}
 use Rattle.vp_dots.proofs.Cuts.{all_bits}
-use Rattle.vp_page.specs.Lines.{line_dot}
 use Rattle.vp_page.proofs.runs.word_of.Goals as goal
 
 pub returns-in-White : goal.returns-in-White
@@ -12,6 +11,4 @@ pub returns-in-Black : goal.returns-in-Black
 returns-in-Black c = λ i h. all_bits i ∙ lt-ltb i 64 (omega (arith, h, c.requires.few)) ∙ sym ((rw c.in-Black.is at c.requires.shade) i h)
 
 pub returns-in-Mixed : goal.returns-in-Mixed
-returns-in-Mixed c = λ i h.
-    let here : c.args.at + 0 ≡ c.args.at = omega arith in
-    c.turned_square.ensures i 0 (omega (arith, h, c.requires.few)) (omega arith) ∙ c.square_of.ensures 0 i (omega arith) (omega (arith, h, c.requires.few)) ∙ ap (line_dot c.args.lines.now i) here
+returns-in-Mixed c = λ i h. grind arith

@@ -1,6 +1,8 @@
+use Rattle.std.proofs.Common.{arith}
+use Rattle.std.proofs.lemmas.Bool.Decides.{nat_tests}
 use Rattle.vp_dots.specs.Dots.{dot}
 use Rattle.vp_dots.specs.declared.Op.TheVariants.{Black}
-use Rattle.vp_dots.proofs.Paints.{painted_none, painted_then}
+use Rattle.vp_dots.proofs.Paints.{painted_none}
 use Rattle.vp_page.proofs.WordsOnRows.{sixteen_more, sixteen_apart, no_sixteen}
 use Rattle.vp_page.proofs.words.or_sixteens.Goals as goal
 
@@ -8,6 +10,4 @@ pub loop-k-init : goal.loop-k-init
 loop-k-init c = painted_none Black _ c.args.row.now (λ d l. no_sixteen c.args.i d (dot c.args.bytes.now d))
 
 pub loop-k-preserved : goal.loop-k-preserved
-loop-k-preserved c = painted_then Black _ _ _ _ _ _ c.loop-k.invariant c.or_sixteen.ensures
-    (λ d l. sixteen_more c.args.i c.loop-k.k d (dot c.args.bytes.now d))
-    (λ d l. sixteen_apart c.args.i c.loop-k.k d (dot c.args.bytes.now d))
+loop-k-preserved c = grind (arith, nat_tests, sixteen_apart, sixteen_more)

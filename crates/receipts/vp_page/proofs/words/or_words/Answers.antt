@@ -1,15 +1,14 @@
+use Rattle.std.proofs.lemmas.Bool.Decides.{nat_tests}
 use Rattle.std.proofs.Common.{arith}
-use Rattle.vp_dots.proofs.Paints.{painted_none, painted_same, painted_then}
-use Rattle.vp_page.proofs.WordsOnRows.{words_none, words_more, words_apart, words_all}
+use Rattle.vp_dots.proofs.Paints.{painted_none, painted_same}
+use Rattle.vp_page.proofs.WordsOnRows.{words_none, words_all}
 use Rattle.vp_page.proofs.words.or_words.Goals as goal
 
 pub loop-k-init : goal.loop-k-init
 loop-k-init c = painted_none _ _ _ (λ d l. words_none c.args.q d _)
 
 pub loop-k-preserved : goal.loop-k-preserved
-loop-k-preserved c = painted_then _ _ _ _ _ _ _ c.loop-k.invariant c.or_bytes.ensures
-    (λ d l. words_more c.args.line.now c.args.q c.loop-k.k d)
-    (λ d l. words_apart c.args.q c.loop-k.k d _ _)
+loop-k-preserved c = grind (arith, nat_tests)
 
 pub returns : goal.returns
 returns c = painted_same _ _ _ _ _ (λ d l. words_all c.args.line.now c.args.q c.loop-k.k d (omega (arith, c.requires.whole))) c.loop-k.invariant

@@ -1,5 +1,5 @@
 use Rattle.std.proofs.Common.{refl, sym, arith}
-use Rattle.std.proofs.lemmas.Bool.{lt-ltb, and_parts, ltb-true}
+use Rattle.std.proofs.lemmas.Bool.{lt-ltb}
 use Rattle.vp_dots.specs.Dots.{dot}
 use Rattle.vp_page.specs.Layers.{times_mark}
 use Rattle.vp_page.proofs.Pages.{rows_make_an_image}
@@ -12,6 +12,4 @@ loop-k-preserved g c = λ layers page.
     (c.lay_row.ensures _ (c.loop-k.invariant layers page))
 
 pub returns : goal.returns
-returns g c = λ layers page.
-    rows_make_an_image.all (times_mark c.args.area c.args.direction c.args.v c.args.times (dot c.args.row.now)) c.loop-k.k layers _
-    (λ u w e k. let p = ltb-true w c.args.times (and_parts _ _ e).0 in omega (arith, p)) (omega arith) (c.loop-k.invariant layers page)
+returns g c = λ layers page. grind arith

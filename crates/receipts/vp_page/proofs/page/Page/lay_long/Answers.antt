@@ -1,39 +1,31 @@
+use Rattle.std.proofs.lemmas.Bool.Decides.{nat_tests}
 use Rattle.std.proofs.Common.{◌≡◌, ◌∙◌, ap, sym, subst, refl, arith}
 use Rattle.vp_page.proofs.Pages.{laid}
 use Rattle.vp_page.proofs.Columns.{across_mark}
 use Rattle.vp_page.proofs.Marks.{shown_white}
 use Rattle.vp_page.proofs.RunRows.{in_area}
 use Rattle.vp_page.specs.Areas.{depth}
-use Rattle.vp_page.specs.Layers.{lines_mark}
 use Rattle.vp_page.specs.Pages.{HasPage}
-use Rattle.vp_page.specs.declared.area.Direction.TheVariants.{BottomToTop, TopToBottom}
 use Rattle.vp_page.specs.declared.area.Way.TheVariants.{Up, Down}
-use Rattle.vp_page.proofs.Whites.{laid_on}
 use Rattle.vp_page.proofs.page.Page.lay_long.Goals as goal
 
 pub returns-in-BottomToTop : goal.returns-in-BottomToTop
 returns-in-BottomToTop g c = λ layers page.
-    let a = c.args.area in
-    let room : c.from-depth.result ≡ a.dx = c.from-depth.ensures ∙ c.depth.ensures ∙ ap (depth a) c.in-BottomToTop.is in
-    rw c.in-BottomToTop.is (laid layers _ _ _ (subst (HasPage layers) (sym c.self.view_is) page) (lines_mark a BottomToTop c.args.v c.args.lines.now)
-    (λ x y h k. across_mark a Up c.args.v c.min-shown.result c.args.lines.now c.requires.few (omega (arith, c.min-shown.ensures, room)) x y)
+    let room : c.from-depth.result ≡ c.args.area.dx = c.from-depth.ensures ∙ c.depth.ensures ∙ ap (depth c.args.area) c.in-BottomToTop.is in
+    rw c.in-BottomToTop.is (laid layers _ _ _ (subst (HasPage layers) (sym c.self.view_is) page) _ (λ x y h k. across_mark c.args.area Up c.args.v _ c.args.lines.now c.requires.few (omega (arith, c.min-shown.ensures, room)) x y)
     c.lay_lines.ensures (omega (arith, c.saturating_add-count.ensures, c.min-shown.ensures, room)) refl)
 
 pub returns-in-TopToBottom : goal.returns-in-TopToBottom
 returns-in-TopToBottom g c = λ layers page.
-    let a = c.args.area in
-    let room : c.from-depth.result ≡ a.dx = c.from-depth.ensures ∙ c.depth.ensures ∙ ap (depth a) c.in-TopToBottom.is in
-    rw c.in-TopToBottom.is (laid layers _ _ _ (subst (HasPage layers) (sym c.self.view_is) page) (lines_mark a TopToBottom c.args.v c.args.lines.now)
-    (λ x y h k. across_mark a Down c.args.v c.min-shown.result c.args.lines.now c.requires.few (omega (arith, c.min-shown.ensures, room)) x y)
+    let room : c.from-depth.result ≡ c.args.area.dx = c.from-depth.ensures ∙ c.depth.ensures ∙ ap (depth c.args.area) c.in-TopToBottom.is in
+    rw c.in-TopToBottom.is (laid layers _ _ _ (subst (HasPage layers) (sym c.self.view_is) page) _ (λ x y h k. across_mark c.args.area Down c.args.v _ c.args.lines.now c.requires.few (omega (arith, c.min-shown.ensures, room)) x y)
     c.lay_lines-in-TopToBottom.ensures (omega (arith, c.saturating_add-count.ensures, c.min-shown.ensures, room)) refl)
 
 pub invariant_of-self : goal.invariant_of-self
-invariant_of-self g c = laid_on _ c.self.inside.laid _ _ c.self.inside.band _ c.self.invariant c.lay_lines.ensures c.with-self-inside.ensures.within c.with-self-inside.ensures.these
-    (λ x y h e. c.with-self-inside.ensures.others y h (rw c.of.ensures (in_area c.args.area x y _ e)))
+invariant_of-self g c = grind (arith, nat_tests, in_area)
 
 pub invariant_of-self-in-TopToBottom : goal.invariant_of-self-in-TopToBottom
-invariant_of-self-in-TopToBottom g c = laid_on _ c.self.inside.laid _ _ c.self.inside.band _ c.self.invariant c.lay_lines-in-TopToBottom.ensures c.with-self-inside-in-TopToBottom.ensures.within c.with-self-inside-in-TopToBottom.ensures.these
-    (λ x y h e. c.with-self-inside-in-TopToBottom.ensures.others y h (rw c.of-in-TopToBottom.ensures (in_area c.args.area x y _ e)))
+invariant_of-self-in-TopToBottom g c = grind (arith, nat_tests, in_area)
 
 pub lay_lines-requires-clause-white : goal.lay_lines-requires-clause-white
 lay_lines-requires-clause-white g c = λ i u h. shown_white c.args.lines.now _ i u (c.requires.white i u h)

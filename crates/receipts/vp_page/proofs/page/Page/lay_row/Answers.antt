@@ -1,74 +1,35 @@
-use Rattle.std.proofs.Common.{◌+◌, ◌-◌, ◌&&◌, eqb, ◌<◌, ◌∙◌, ap, refl, sym, subst, arith}
-use Rattle.vp_dots.specs.Dots.{dot, span}
-use Rattle.vp_page.specs.Areas.{depth}
-use Rattle.vp_page.specs.Layers.{row_mark}
-use Rattle.vp_page.specs.Pages.{HasPage}
+use Rattle.std.proofs.lemmas.Bool.Decides.{nat_tests}
+use Rattle.std.proofs.Common.{arith}
+use Rattle.vp_dots.specs.Dots.{dot}
 use Rattle.vp_page.specs.Runs.{along_of}
 use Rattle.vp_page.specs.declared.area.Way.TheVariants.{Up, Down}
-use Rattle.vp_page.specs.declared.area.Direction.TheVariants.{LeftToRight, BottomToTop, RightToLeft, TopToBottom}
-use Rattle.vp_page.proofs.Pages.{laid}
-use Rattle.vp_page.proofs.RowMarks.{right_same, up_same, left_same, down_same}
-use Rattle.vp_dots.specs.declared.Op.TheVariants.{Black}
-use Rattle.vp_page.proofs.Rows.{rows_same}
 use Rattle.vp_page.proofs.Whites.{laid_on}
 use Rattle.vp_page.proofs.page.Page.lay_row.Goals as goal
 
 pub invariant_of-self : goal.invariant_of-self
-invariant_of-self g c =
-    let a = c.args.area in
-    let row = dot c.args.row.now in
-    let deep : c.args.v < a.dy = omega (arith, c.if-v-from.false, c.from.ensures ∙ c.depth.ensures ∙ ap (depth a) c.in-LeftToRight.is) in
-    laid_on _ c.self.inside.laid _ _ c.self.inside.band _ c.self.invariant c.lay_row_right.ensures c.with-self-inside.ensures.within c.with-self-inside.ensures.these
-    (λ x y h e. c.with-self-inside.ensures.others y h (rw c.in-LeftToRight.is at c.fallen.ensures row x y (sym (right_same a c.args.v row deep x y) ∙ e)))
+invariant_of-self g c = laid_on _ c.self.inside.laid _ _ c.self.inside.band _ c.self.invariant c.lay_row_right.ensures c.with-self-inside.ensures.within c.with-self-inside.ensures.these
+    (λ x y h e. c.with-self-inside.ensures.others y h (grind (arith, nat_tests, c.fallen.ensures (dot c.args.row.now) x y)))
 
 pub returns-in-LeftToRight : goal.returns-in-LeftToRight
-returns-in-LeftToRight g c = λ layers page.
-    let a = c.args.area in
-    let row = dot c.args.row.now in
-    let deep : c.args.v < a.dy = omega (arith, c.if-v-from.false, c.from.ensures ∙ c.depth.ensures ∙ ap (depth a) c.in-LeftToRight.is) in
-    rw c.in-LeftToRight.is (laid layers _ _ _ (subst (HasPage layers) (sym c.self.view_is) page) (row_mark a LeftToRight c.args.v row) (λ x y h k. right_same a c.args.v row deep x y) c.lay_row_right.ensures (omega (arith, deep, c.saturating_add-self-inside.ensures)) refl)
+returns-in-LeftToRight g c = λ layers page. grind (arith, nat_tests)
 
 pub invariant_of-self-in-BottomToTop : goal.invariant_of-self-in-BottomToTop
-invariant_of-self-in-BottomToTop g c =
-    let a = c.args.area in
-    let row = dot c.args.row.now in
-    let deep : c.args.v < a.dx = omega (arith, c.if-v-from.false, c.from.ensures ∙ c.depth.ensures ∙ ap (depth a) c.in-BottomToTop.is) in
-    laid_on _ c.self.inside.laid _ _ c.self.inside.band _ c.self.invariant (rows_same Black _ _ _ _ (λ x k _. ap (λ b. eqb x (a.x + c.args.v) && (span a.y (a.y + a.dy) k && b)) (c.lengthened-line.ensures (along_of a Up k))) c.lay_column.ensures) c.with-self-inside.ensures.within c.with-self-inside.ensures.these
-    (λ x y h e. c.with-self-inside.ensures.others y h (rw c.in-BottomToTop.is at c.fallen.ensures row x y (sym (up_same a c.args.v row deep x y) ∙ e)))
+invariant_of-self-in-BottomToTop g c = laid_on _ c.self.inside.laid _ _ c.self.inside.band _ c.self.invariant c.lay_column.ensures c.with-self-inside.ensures.within c.with-self-inside.ensures.these
+    (λ x y h e. c.with-self-inside.ensures.others y h (grind (arith, nat_tests, c.fallen.ensures (dot c.args.row.now) x y, c.lengthened-line.ensures (along_of c.args.area Up y))))
 
 pub returns-in-BottomToTop : goal.returns-in-BottomToTop
-returns-in-BottomToTop g c = λ layers page.
-    let a = c.args.area in
-    let row = dot c.args.row.now in
-    let deep : c.args.v < a.dx = omega (arith, c.if-v-from.false, c.from.ensures ∙ c.depth.ensures ∙ ap (depth a) c.in-BottomToTop.is) in
-    rw c.in-BottomToTop.is (laid layers _ _ _ (subst (HasPage layers) (sym c.self.view_is) page) (row_mark a BottomToTop c.args.v row) (λ x y h k. up_same a c.args.v row deep x y) (rows_same Black _ _ _ _ (λ x k _. ap (λ b. eqb x (a.x + c.args.v) && (span a.y (a.y + a.dy) k && b)) (c.lengthened-line.ensures (along_of a Up k))) c.lay_column.ensures) (omega (arith, deep, c.saturating_add-self-inside.ensures)) refl)
+returns-in-BottomToTop g c = λ layers page. grind (arith, nat_tests)
 
 pub invariant_of-self-in-RightToLeft : goal.invariant_of-self-in-RightToLeft
-invariant_of-self-in-RightToLeft g c =
-    let a = c.args.area in
-    let row = dot c.args.row.now in
-    let deep : c.args.v < a.dy = omega (arith, c.if-v-from.false, c.from.ensures ∙ c.depth.ensures ∙ ap (depth a) c.in-RightToLeft.is) in
-    laid_on _ c.self.inside.laid _ _ c.self.inside.band _ c.self.invariant c.lay_row_left.ensures c.with-self-inside.ensures.within c.with-self-inside.ensures.these
-    (λ x y h e. c.with-self-inside.ensures.others y h (rw c.in-RightToLeft.is at c.fallen.ensures row x y (sym (left_same a c.args.v row deep x y) ∙ e)))
+invariant_of-self-in-RightToLeft g c = laid_on _ c.self.inside.laid _ _ c.self.inside.band _ c.self.invariant c.lay_row_left.ensures c.with-self-inside.ensures.within c.with-self-inside.ensures.these
+    (λ x y h e. c.with-self-inside.ensures.others y h (grind (arith, nat_tests, c.fallen.ensures (dot c.args.row.now) x y)))
 
 pub returns-in-RightToLeft : goal.returns-in-RightToLeft
-returns-in-RightToLeft g c = λ layers page.
-    let a = c.args.area in
-    let row = dot c.args.row.now in
-    let deep : c.args.v < a.dy = omega (arith, c.if-v-from.false, c.from.ensures ∙ c.depth.ensures ∙ ap (depth a) c.in-RightToLeft.is) in
-    rw c.in-RightToLeft.is (laid layers _ _ _ (subst (HasPage layers) (sym c.self.view_is) page) (row_mark a RightToLeft c.args.v row) (λ x y h k. left_same a c.args.v row deep x y) c.lay_row_left.ensures (omega (arith, deep, c.saturating_add-self-inside.ensures)) refl)
+returns-in-RightToLeft g c = λ layers page. grind (arith, nat_tests)
 
 pub invariant_of-self-in-TopToBottom : goal.invariant_of-self-in-TopToBottom
-invariant_of-self-in-TopToBottom g c =
-    let a = c.args.area in
-    let row = dot c.args.row.now in
-    let deep : c.args.v < a.dx = omega (arith, c.if-v-from.false, c.from.ensures ∙ c.depth.ensures ∙ ap (depth a) c.in-TopToBottom.is) in
-    laid_on _ c.self.inside.laid _ _ c.self.inside.band _ c.self.invariant (rows_same Black _ _ _ _ (λ x k _. ap (λ b. eqb x (a.x + a.dx - 1 - c.args.v) && (span a.y (a.y + a.dy) k && b)) (c.lengthened-line-in-TopToBottom.ensures (along_of a Down k))) c.lay_column-in-TopToBottom.ensures) c.with-self-inside.ensures.within c.with-self-inside.ensures.these
-    (λ x y h e. c.with-self-inside.ensures.others y h (rw c.in-TopToBottom.is at c.fallen.ensures row x y (sym (down_same a c.args.v row deep x y) ∙ e)))
+invariant_of-self-in-TopToBottom g c = laid_on _ c.self.inside.laid _ _ c.self.inside.band _ c.self.invariant c.lay_column-in-TopToBottom.ensures c.with-self-inside.ensures.within c.with-self-inside.ensures.these
+    (λ x y h e. c.with-self-inside.ensures.others y h (grind (arith, nat_tests, c.fallen.ensures (dot c.args.row.now) x y, c.lengthened-line-in-TopToBottom.ensures (along_of c.args.area Down y))))
 
 pub returns-in-TopToBottom : goal.returns-in-TopToBottom
-returns-in-TopToBottom g c = λ layers page.
-    let a = c.args.area in
-    let row = dot c.args.row.now in
-    let deep : c.args.v < a.dx = omega (arith, c.if-v-from.false, c.from.ensures ∙ c.depth.ensures ∙ ap (depth a) c.in-TopToBottom.is) in
-    rw c.in-TopToBottom.is (laid layers _ _ _ (subst (HasPage layers) (sym c.self.view_is) page) (row_mark a TopToBottom c.args.v row) (λ x y h k. down_same a c.args.v row deep x y) (rows_same Black _ _ _ _ (λ x k _. ap (λ b. eqb x (a.x + a.dx - 1 - c.args.v) && (span a.y (a.y + a.dy) k && b)) (c.lengthened-line-in-TopToBottom.ensures (along_of a Down k))) c.lay_column-in-TopToBottom.ensures) (omega (arith, deep, c.saturating_add-self-inside.ensures)) refl)
+returns-in-TopToBottom g c = λ layers page. grind (arith, nat_tests)

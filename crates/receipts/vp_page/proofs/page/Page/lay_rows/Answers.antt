@@ -1,8 +1,9 @@
+use Rattle.std.proofs.lemmas.Bool.Decides.{nat_tests}
 use Rattle.std.proofs.Common.{◌≡◌, ◌∙◌, ap, refl, sym, subst, arith}
 use Rattle.vp_page.specs.Areas.{depth}
 use Rattle.vp_page.specs.Layers.{rows_mark}
 use Rattle.vp_page.specs.Pages.{HasPage}
-use Rattle.vp_page.specs.declared.area.Direction.TheVariants.{LeftToRight, RightToLeft}
+use Rattle.vp_page.specs.declared.area.Direction.TheVariants.{LeftToRight}
 use Rattle.vp_page.proofs.Pages.{laid}
 use Rattle.vp_page.proofs.Whole.{whole_left, whole_right}
 use Rattle.vp_page.proofs.page.Page.lay_rows.Goals as goal
@@ -15,8 +16,4 @@ returns-in-LeftToRight g c = λ layers page.
     (λ x y h k. whole_right a c.args.v c.args.wide c.args.rows c.min-shown.result _ c.args.bytes.now (c.if-are_whole.ensures refl) (omega (arith, c.if-v-depth.false, room)) (omega (arith, c.min-shown.ensures, room)) (omega arith) x y) c.lay_whole.ensures (omega (arith, c.saturating_add-count.ensures, c.min-shown.ensures, room)) refl)
 
 pub returns-in-RightToLeft : goal.returns-in-RightToLeft
-returns-in-RightToLeft g c = λ layers page.
-    let a = c.args.area in
-    let room : c.from-depth.result ≡ a.dy = c.from-depth.ensures ∙ c.depth.ensures ∙ ap (depth a) c.in-RightToLeft.is in
-    rw c.in-RightToLeft.is (laid layers _ _ _ (subst (HasPage layers) (sym c.self.view_is) page) (rows_mark a RightToLeft c.args.v c.args.wide c.args.rows c.args.bytes.now)
-    (λ x y h k. whole_left a c.args.v c.args.wide c.args.rows c.min-shown.result _ _ c.args.bytes.now (c.if-are_whole-2.ensures refl) (omega (arith, c.if-v-depth.false, room)) (omega (arith, c.min-shown.ensures, room)) (omega arith) (omega arith) x y) c.lay_whole_back.ensures (omega (arith, c.saturating_add-count.ensures, c.min-shown.ensures, room)) refl)
+returns-in-RightToLeft g c = λ layers page. grind (arith, nat_tests, whole_left)
