@@ -60,12 +60,6 @@ words_along words way left top h x y =
     nat_le top y && (nat_lt (y - top) h
     && shifted left (word_dot (slice_index words (ordered way h (y - top)))) x)
 
--- and of 32 of their dots, from dot `skip` on
-abbrev pub halves_along : List ℕ → Way → ℕ → ℤ → ℕ → ℕ → ℕ → ℕ → Bool
-halves_along words way skip left top h x y =
-    nat_le top y && (nat_lt (y - top) h
-    && shifted left (λ s. nat_lt s 32 && word_dot (slice_index words (ordered way h (y - top))) (s + skip)) x)
-
 -- where the left one falls of `wide` columns, of which that of the first line lies at a depth of an area
 abbrev pub IsLeft : Area → Way → ℕ → ℕ → ℤ → Type 0
 IsLeft a Up v wide at = at ≡ pos (a.x + v)

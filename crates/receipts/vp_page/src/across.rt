@@ -23,8 +23,8 @@ use crate::line::{LINE_BYTES, LINE_DOTS, dots_from, start_of};
 use crate::page::{PAGE_ROWS, PAPER_BYTES, PageBand};
 use crate::runs::{blacken, columns, lay_runs, on_page, top_of};
 use crate::still::{Shade, still_from, turned_from};
-use crate::words::{lay_halves, lay_words};
-use vp_dots::{Op, SIDE, Small, dot_of, fill_dots, turned_square};
+use crate::words::lay_words;
+use vp_dots::{Op, SIDE, Small, dot_of, eight_at, fill_dots, first_dots, turned_square};
 
 /// How many lines are laid at once.
 pub const AT_ONCE: usize = 3 * SIDE;
@@ -48,7 +48,32 @@ fn place(way: Way, n: usize, i: usize) -> usize
     }
 }
 
-/// A square of the lines' dots, from one on, in the order of their columns: white where there is no line.
+/// A square of the lines' dots, from those of one byte on, as `square_of` makes it.
+#[inline(always)]
+fn whole_square(lines: &[[u8; LINE_BYTES]], at: usize, way: Way) -> [u64; SIDE]
+    requires few { length lines.now ≤ SIDE }
+    requires inside { at + 8 ≤ LINE_BYTES }
+    ensures { (x y : ℕ) → x < 64 → y < 64 →
+        word_dot (slice_index result y) x ≡ line_dot lines.now (placed way 64 y) (8 * at + x) }
+{
+    let mut square = [0; SIDE];
+    match way {
+        Way::Up => {
+            for i in 0..lines.len() {
+                square[i] = eight_at(&lines[i], at);
+            }
+        }
+        Way::Down => {
+            for i in 0..lines.len() {
+                square[SIDE - 1 - i] = eight_at(&lines[i], at);
+            }
+        }
+    }
+    square
+}
+
+/// A square of the lines' dots, from one on, in the order of their columns: white where there is no line. Mostly
+/// they are whole bytes.
 #[inline(always)]
 pub(crate) fn square_of(lines: &[[u8; LINE_BYTES]], from: usize, way: Way) -> [u64; SIDE]
     requires few { length lines.now ≤ SIDE }
@@ -56,6 +81,9 @@ pub(crate) fn square_of(lines: &[[u8; LINE_BYTES]], from: usize, way: Way) -> [u
     ensures { (x y : ℕ) → x < 64 → y < 64 →
         word_dot (slice_index result y) x ≡ line_dot lines.now (placed way 64 y) (from + x) }
 {
+    if from % 8 == 0 && from / 8 + 8 <= LINE_BYTES {
+        return whole_square(lines, from / 8, way);
+    }
     let mut square = [0; SIDE];
     match way {
         Way::Up => {
@@ -87,6 +115,29 @@ fn two_of(lines: &[[u8; LINE_BYTES]], from: usize, way: Way) -> [u64; SIDE]
         squares[FEW + at] = dots_from(&lines[i], from + SIDE);
     }
     squares
+}
+
+/// The dots of a word from one on that half a word has room for.
+#[inline(always)]
+fn half_from(word: u64, skip: u32) -> u64
+    requires { skip < 64 }
+    ensures { (x : ℕ) → word_dot result x ≡ (nat_lt x 32 && word_dot word (x + skip)) }
+{
+    (word << skip) & first_dots(32)
+}
+
+/// The 32 dots of each word from one on.
+#[inline(always)]
+fn halves_of(words: &[u64; SIDE], skip: u32) -> [u64; SIDE]
+    requires { skip < 64 }
+    ensures { (x y : ℕ) → word_dot (slice_index result y) x
+        ≡ (nat_lt x 32 && word_dot (slice_index words.now y) (x + skip)) }
+{
+    let mut halves = [0; SIDE];
+    for i in 0..SIDE {
+        halves[i] = half_from(words[i], skip);
+    }
+    halves
 }
 
 /// Whether that shade is white.
@@ -213,8 +264,8 @@ fn lay_two<A: Small>(
     let turned = turned_square(&squares);
     let top = top_of(area, way, from, first);
     let next = top_of(area, way, from + first, second);
-    lay_halves(&turned, way, 0, first, left, top, band);
-    lay_halves(&turned, way, 32, second, left, next, band);
+    lay_words(&halves_of(&turned, 0), way, first, left, top, band);
+    lay_words(&halves_of(&turned, 32), way, second, left, next, band);
 }
 
 /// Lays a stretch of as many lines as a word has dots, square by square.

@@ -6,14 +6,14 @@ ghost use Rattle.vp_dots.specs.Words.{word_dot};
 ghost use Rattle.vp_dots.specs.Painting.{Painted};
 ghost use Rattle.vp_dots.specs.Places.{RowsPainted};
 ghost use Rattle.vp_page.specs.Lines.{row_in};
-ghost use Rattle.vp_page.specs.Runs.{halves_along, words_along};
+ghost use Rattle.vp_page.specs.Runs.{words_along};
 ghost use Rattle.vp_dots.specs.declared.Op.TheVariants.{Black};
 ghost use Rattle.vp_page.specs.declared.page.TheConstants.{PAPER_BYTES, PAPER_DOTS, PAGE_ROWS};
 
 use crate::area::Way;
 use crate::page::{PAPER_BYTES, PageBand};
 use std::simd::{u8x8, u8x16};
-use vp_dots::{Small, eight_at, first_dots, reversed_at};
+use vp_dots::{Small, eight_at, reversed_at};
 
 /// Where the last eight bytes of a row of the page begin.
 const LAST: usize = PAPER_BYTES - 8;
@@ -218,87 +218,6 @@ pub(crate) fn or_sixteens(bytes: &[u8], i: usize, n: usize, row: &mut [u8])
 {
     for k in 0..n {
         or_sixteen(bytes, i + 16 * k, row);
-    }
-}
-
-/// The dots of a word from one on that half a word has room for.
-#[inline(always)]
-fn half_from(word: u64, skip: u32) -> u64
-    requires { skip < 64 }
-    ensures { (x : ℕ) → word_dot result x ≡ (nat_lt x 32 && word_dot word (x + skip)) }
-{
-    (word << skip) & first_dots(32)
-}
-
-/// Blackens the dots d of a row of the page where dot d - far of the word is black, of which the left half
-/// has all black dots: eight bytes have room for them wherever the first one falls.
-#[inline(always)]
-fn or_half_right(word: u64, far: u64, row: &mut [u8])
-    requires row { length row.old ≡ PAPER_BYTES }
-    requires half { (x : ℕ) → 32 ≤ x → word_dot word x ≡ false }
-    ensures { Painted Black (λ d. nat_le far d && word_dot word (d - far)) row.old row.new }
-{
-    if far < 8 * LAST as u64 {
-        or_eight(word >> (far % 8), (far / 8) as usize, row);
-    } else {
-        or_last(word, far, row);
-    }
-}
-
-/// Blackens the dots d of a row of the page where dot d - left of the word is black, of which the left half
-/// has all black dots.
-#[inline(always)]
-fn or_half(word: u64, left: i64, row: &mut [u8])
-    requires row { length row.old ≡ PAPER_BYTES }
-    requires half { (x : ℕ) → 32 ≤ x → word_dot word x ≡ false }
-    ensures { Painted Black (shifted left (word_dot word)) row.old row.new }
-{
-    if left >= 0 {
-        or_half_right(word, left.unsigned_abs(), row);
-    } else {
-        or_left(word, left.unsigned_abs(), row);
-    }
-}
-
-/// Blackens the dots d of a row of the page where, of the dots of a word from one on that half a word has
-/// room for, dot d - left is black.
-#[inline(always)]
-fn or_half_from(word: u64, skip: u32, left: i64, row: &mut [u8])
-    requires row { length row.old ≡ PAPER_BYTES }
-    requires skip { skip < 64 }
-    ensures { Painted Black (shifted left (λ s. nat_lt s 32 && word_dot word (s + skip))) row.old row.new }
-{
-    or_half(half_from(word, skip), left, row);
-}
-
-/// Blackens rows of the page, from one on, where 32 dots of the first h words, from one on and moved by an
-/// offset, are black, in the order of `lay_words`.
-#[inline(always)]
-pub(crate) fn lay_halves<A: Small>(
-    words: &[u64],
-    way: Way,
-    skip: u32,
-    h: usize,
-    left: i64,
-    top: usize,
-    band: &mut PageBand<A>,
-)
-    requires skip { skip < 64 }
-    requires few { h ≤ length words.now }
-    requires room { top + h ≤ PAGE_ROWS }
-    ensures { RowsPainted PAGE_ROWS Black (halves_along words.now way skip left top h) band.old band.new }
-{
-    match way {
-        Way::Up => {
-            for i in 0..h {
-                or_half_from(words[h - 1 - i], skip, left, band.row_mut(top + i));
-            }
-        }
-        Way::Down => {
-            for i in 0..h {
-                or_half_from(words[i], skip, left, band.row_mut(top + i));
-            }
-        }
     }
 }
 

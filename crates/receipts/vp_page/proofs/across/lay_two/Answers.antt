@@ -30,24 +30,23 @@ returns g c =
     let left = to_z w64 (of_z w64 c.left_of-left.result) in
     let fits : SFits w64 c.left_of-left.result = search rules in
     let all : from + c.args.rows ≡ from + first + second = omega arith in
-    let half = λ (skip n i s : ℕ). ltb s 32 && word_dot (get_or turned (ordered way n i) 0) (s + skip) in
-    let word : (skip n k s : ℕ) → k < n → s < 32 → half skip n (ordered way n k) s ≡ word_dot (get_or turned k 0) (s + skip) =
-    λ skip n k s h l. rw (lt-ltb s 32 l) (ap (λ i. word_dot (get_or turned i 0) (s + skip)) (ordered_back way n k h)) in
     rows_same Black _ _ _ _ (λ x y _. ap (λ n. span from n (along_of a way y) && lines_across a way c.args.v lines x y) (sym all))
     (rows_then _ _ _ _ _ _ (λ x y. stretch_more from (from + first) (from + first + second) (along_of a way y) (lines_across a way c.args.v lines x y) (omega arith) (omega arith))
-    (rows_same Black _ _ _ _ (λ x y _. stretch_laid a way c.args.v lines from first c.top_of-top.result 32 (half 0 first) left
+    (rows_same Black _ _ _ _ (λ x y _. stretch_laid a way c.args.v lines from first c.top_of-top.result 32 (λ i. word_dot (get_or c.halves_of.result (ordered way first i) 0)) left
     c.requires.wide c.requires.lines (omega (arith, c.requires.long)) c.top_of-top.ensures (rw (to_z-of_z w64 c.left_of-left.result fits) c.left_of-left.ensures)
     (λ k s h l.
     let line : (s + 0) % 32 ≡ s = omega (arith, l) in
     let place : from + 64 * ((s + 0) / 32) + k ≡ from + k = omega (arith, l) in
     let near : k < 64 = omega (arith, h) in
-    word 0 first k s h l ∙ c.turned_square-turned.ensures (s + 0) k (omega (arith, l)) near ∙ (rw (line, place) at (c.two_of-squares.ensures k (s + 0) near (omega (arith, l)))))
-    (λ i s g. rw (le-ltb s 32 g) refl) x y) c.lay_halves.ensures)
-    (rows_same Black _ _ _ _ (λ x y _. stretch_laid a way c.args.v lines (from + first) second c.top_of-next.result 32 (half 32 second) left
+    ap (λ i. word_dot (get_or c.halves_of.result i 0) s) (ordered_back way first k h) ∙ c.halves_of.ensures s k ∙ rw (lt-ltb s 32 l) (c.turned_square-turned.ensures (s + 0) k (omega (arith, l)) near
+    ∙ (rw (line, place) at (c.two_of-squares.ensures k (s + 0) near (omega (arith, l))))))
+    (λ i s g. c.halves_of.ensures s (ordered way first i) ∙ rw (le-ltb s 32 g) refl) x y) c.lay_words.ensures)
+    (rows_same Black _ _ _ _ (λ x y _. stretch_laid a way c.args.v lines (from + first) second c.top_of-next.result 32 (λ i. word_dot (get_or c.halves_of-2.result (ordered way second i) 0)) left
     c.requires.wide c.requires.lines (omega (arith, c.requires.long)) c.top_of-next.ensures (rw (to_z-of_z w64 c.left_of-left.result fits) c.left_of-left.ensures)
     (λ k s h l.
     let line : (s + 32) % 32 ≡ s = omega (arith, l) in
     let place : from + 64 * ((s + 32) / 32) + k ≡ from + first + k = omega (arith, l, h) in
     let near : k < 64 = omega (arith, h, c.requires.few) in
-    word 32 second k s h l ∙ c.turned_square-turned.ensures (s + 32) k (omega (arith, l)) near ∙ (rw (line, place) at (c.two_of-squares.ensures k (s + 32) near (omega (arith, l)))))
-    (λ i s g. rw (le-ltb s 32 g) refl) x y) c.lay_halves-2.ensures))
+    ap (λ i. word_dot (get_or c.halves_of-2.result i 0) s) (ordered_back way second k h) ∙ c.halves_of-2.ensures s k ∙ rw (lt-ltb s 32 l) (c.turned_square-turned.ensures (s + 32) k (omega (arith, l)) near
+    ∙ (rw (line, place) at (c.two_of-squares.ensures k (s + 32) near (omega (arith, l))))))
+    (λ i s g. c.halves_of-2.ensures s (ordered way second i) ∙ rw (le-ltb s 32 g) refl) x y) c.lay_words-2.ensures))
