@@ -1,8 +1,8 @@
-use Rattle.std.proofs.Common.{inl, inr, ◌≡◌, ◌<◌, ◌+◌, ◌*◌, ◌/◌, ◌%◌, ◌∙◌, refl, arith, length, length-set, set, get_or-set_same, get_or-set_other}
-use Rattle.std.proofs.lemmas.Bool.{cases_eq, lt-ltb, le-ltb}
+use Rattle.std.proofs.Common.{◌+◌, ◌*◌, ◌/◌, ◌%◌, ◌∙◌, refl, arith, length-set, set}
+use Rattle.std.proofs.lemmas.Bool.{le-ltb}
 use Rattle.vp_page.specs.Runs.{placed}
 use Rattle.vp_page.proofs.Columns.{two_placed}
-use Rattle.vp_page.proofs.Squares.{white_words, other_rows, all_rows}
+use Rattle.vp_page.proofs.Squares.{white_words, all_rows}
 use Rattle.vp_page.proofs.across.two_of.Goals as goal
 
 pub loop-i-init : goal.loop-i-init

@@ -3,7 +3,8 @@ use Rattle.vp_dots.specs.Dots.{span}
 use Rattle.vp_dots.specs.declared.Op.TheVariants.{Black}
 use Rattle.vp_dots.proofs.Paints.{painted_same}
 use Rattle.vp_page.specs.Runs.{depth_of}
-use Rattle.vp_page.proofs.RunRows.{more_white, rises, row_of_black, run_more}
+use Rattle.vp_page.proofs.PageRows.{row_made}
+use Rattle.vp_page.proofs.RunRows.{more_white, rises, run_more}
 use Rattle.vp_page.proofs.runs.spread.Goals.{then-not-is_black, else-not-is_black}
 use Rattle.vp_page.proofs.runs.spread.Goals as goal
 
@@ -40,5 +41,5 @@ pub returns : goal.returns
 returns c = λ ink same x h.
     let a = c.args.area in
     let last : c.loop-i.i ≡ c.args.n = omega (arith, c.loop-i-test.false, c.loop-i.auto.i-end) in
-    row_of_black _ x c.blacken-2.new.row (run_more c.args.begins.now c.args.word c.loop-i.first c.args.n c.args.n a.dx (depth_of a c.args.way) (λ x. span a.x (a.x + a.dx) x) _ ink _ _ _ c.requires.runs
+    row_made _ x c.blacken-2.new.row (run_more c.args.begins.now c.args.word c.loop-i.first c.args.n c.args.n a.dx (depth_of a c.args.way) (λ x. span a.x (a.x + a.dx) x) _ ink _ _ _ c.requires.runs
     (omega (arith, c.loop-i.invariant.before, last)) (omega arith) (λ k r s. c.loop-i.invariant.black k r (omega (arith, s, last))) same c.columns-from-2.ensures.dots (c.loop-i.invariant.done ink same) c.blacken-2.ensures) h
