@@ -94,7 +94,8 @@ pub times_more : (m : Mark) (k n v : ℕ) (row : ℕ → Bool) (layers : List La
     → ((u i : ℕ) → u < line_length m.area m.direction → i < n → row u ≡ m.dot u (k + i))
     → HasPage (Laid (times_mark m.area m.direction v n row) ∷ Laid (first_rows k m) ∷ layers) page
     → HasPage (Laid (first_rows (k + n) m) ∷ layers) page
-times_more m k n v row layers page place same has = same_page _ _ page (λ x y. rw place (more_times (holds m.area x y) (row (along m.area m.direction x y)) (page_dot layers x y) (down m.area m.direction x y) m.top k n (m.dot (along m.area m.direction x y))
+times_more m k n v row layers page place same has = same_page _ _ page (λ x y. rw place (more_times (holds m.area x y) (row (along m.area m.direction x y)) (page_dot layers x y)
+    (down m.area m.direction x y) m.top k n (m.dot (along m.area m.direction x y))
     (λ t i l. same (along m.area m.direction x y) i (lies m.area m.direction x y (within m.area x y t)).in_line l))) (record { laid = omega (arith, place); most = refl; least = refl }) has
 
 -- ink that is laid between two depths, below the first k rows of a mark

@@ -11,7 +11,8 @@ loop-i-init c = record { count = refl; dots = λ x y h l. rw (le-ltb (placed c.a
 pub loop-i-preserved : goal.loop-i-preserved
 loop-i-preserved c = record {
   count = length-set (set c.loop-i.squares _ _) _ _ ∙ length-set c.loop-i.squares _ _ ∙ c.loop-i.invariant.count;
-  dots = two_placed c.args.way _ _ _ _ c.loop-i.i _ _ c.loop-i.invariant.count c.place-at.ensures (omega (arith, c.loop-i-test.true, c.requires.few)) c.dots_from.ensures c.dots_from-in-loop-i.ensures c.loop-i.invariant.dots;
+  dots = two_placed c.args.way _ _ _ _ c.loop-i.i _ _ c.loop-i.invariant.count c.place-at.ensures (omega (arith, c.loop-i-test.true, c.requires.few))
+      c.dots_from.ensures c.dots_from-in-loop-i.ensures c.loop-i.invariant.dots;
 }
 
 pub returns : goal.returns
