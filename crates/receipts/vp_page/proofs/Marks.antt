@@ -26,7 +26,6 @@ shown_white lines n i u e = grind (arith, shown_line)
 -- lines of ink
 module _ (lines : List (List ℕ)) (ink : ℕ → ℕ → Bool) (from width i u : ℕ) (dots : (k x : ℕ) → k < length lines → dot (get_or lines k []) x ≡ ink x (from + k))
     (outside : (x y : ℕ) → ink x y ≡ true → x < width) where
-
   pub ink_white : width ≤ u → line_dot lines i u ≡ false
   ink_white h = grind (arith, no_line)
 

@@ -12,12 +12,30 @@ later_mark : (m : Mark) (rest : List Layer) (x y : ℕ) → IsBlack rest x y →
 later_mark m rest x y h = record { later = Laid m ∷ h.later; mark = h.mark; before = h.before; split = ap (λ r. Laid m ∷ r) h.split; along = h.along; down = h.down; falls = h.falls; black = h.black; unwiped = h.unwiped }
 
 later_wipe : (a : Area) (rest : List Layer) (x y : ℕ) → holds a x y ≡ false → IsBlack rest x y → IsBlack (Wiped a ∷ rest) x y
-later_wipe a rest x y f h = record { later = Wiped a ∷ h.later; mark = h.mark; before = h.before; split = ap (λ r. Wiped a ∷ r) h.split;
-    along = h.along; down = h.down; falls = h.falls; black = h.black; unwiped = (f, h.unwiped) }
+later_wipe a rest x y f h = record {
+  later = Wiped a ∷ h.later;
+  mark = h.mark;
+  before = h.before;
+  split = ap (λ r. Wiped a ∷ r) h.split;
+  along = h.along;
+  down = h.down;
+  falls = h.falls;
+  black = h.black;
+  unwiped = (f, h.unwiped);
+}
 
 later_count : (rest : List Layer) (x y : ℕ) → IsBlack rest x y → IsBlack (CountedAnew ∷ rest) x y
-later_count rest x y h = record { later = CountedAnew ∷ h.later; mark = h.mark; before = h.before; split = ap (λ r. CountedAnew ∷ r) h.split;
-    along = h.along; down = h.down; falls = h.falls; black = h.black; unwiped = h.unwiped }
+later_count rest x y h = record {
+  later = CountedAnew ∷ h.later;
+  mark = h.mark;
+  before = h.before;
+  split = ap (λ r. CountedAnew ∷ r) h.split;
+  along = h.along;
+  down = h.down;
+  falls = h.falls;
+  black = h.black;
+  unwiped = h.unwiped;
+}
 
 black_if : (layers : List Layer) (x y : ℕ) → page_dot layers x y ≡ true → IsBlack layers x y
 black_if [] x y e = cc

@@ -16,8 +16,11 @@ use Rattle.vp_page.proofs.across.lay_two.Goals as goal
 
 pub returns-then-is_white_square : goal.returns-then-is_white_square
 returns-then-is_white_square g c = nothing_painted _ c.args.band.now (λ x y _. white_stretch c.args.area c.args.way c.args.v c.args.lines.now c.args.from c.args.rows x y
-    (λ i u p q. grind (arith, two_white c.args.way c.args.lines.now c.two_of-squares.result c.args.from i (u - c.args.from) c.requires.lines (omega (arith, p, q, c.requires.few)) c.two_of-squares.ensures
-    (c.is_white_square.ensures c.if-is_white_square.true))))
+    (λ i u p q. grind (
+      arith,
+      two_white c.args.way c.args.lines.now c.two_of-squares.result c.args.from i (u - c.args.from) c.requires.lines (omega (arith, p, q, c.requires.few)) c.two_of-squares.ensures
+          (c.is_white_square.ensures c.if-is_white_square.true),
+    )))
 
 pub returns : goal.returns
 returns g c =

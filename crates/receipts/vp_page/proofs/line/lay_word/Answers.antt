@@ -15,7 +15,7 @@ pub loop-n-preserved : goal.loop-n-preserved
 loop-n-preserved g c =
     let next : 8 * (c.loop-n.n + 1) ≡ 8 * c.loop-n.n + 8 = omega arith in
     rw next (rows_then _ _ _ _ _ _ (λ d k. byte_more c.args.word c.args.top c.loop-n.n 8 k c.to_be_bytes-bytes.result (eqb d c.args.x) c.to_be_bytes-bytes.ensures (omega arith)
-        (omega arith)) c.loop-n.invariant c.lay_byte.ensures)
+    (omega arith)) c.loop-n.invariant c.lay_byte.ensures)
 
 pub returns-then-rows-ne0 : goal.returns-then-rows-ne0
 returns-then-rows-ne0 g c =
