@@ -1,12 +1,12 @@
 -- Lines that are alike along some dots, and the rows of the page that are.
-use Rattle.std.proofs.Common.{◌≡◌, ℕ, ◌+◌, ◌-◌, ◌*◌, ◌/◌, ◌%◌, ◌<◌, ◌≤◌, Bool, true, false, not, cond, eqb, ltb, ◌&&◌, ◌||◌, refl, ap, ◌∙◌, arith, List, length, get_or, replicate, bit_and}
+use Rattle.std.proofs.Common.{◌≡◌, ℕ, ◌+◌, ◌-◌, ◌*◌, ◌/◌, ◌%◌, ◌<◌, ◌≤◌, Bool, true, false, not, cond, eqb, ltb, ◌&&◌, ◌||◌, refl, ap, arith, List, length, get_or, replicate, bit_and}
 use Rattle.std.specs.Int.{bit_at}
 use lib.Lanes.{zip2, chunk, put_chunk}
 use Rattle.std.proofs.lemmas.Simd.{get_or-zip2, get_or-chunk, length-chunk}
 use Rattle.std.proofs.lemmas.Bool.Decides.{nat_tests}
 use Rattle.std.proofs.lemmas.Nat.Bits.{bit_at-zero}
 use Rattle.std.proofs.lemmas.List.{get_or-replicate, length-replicate}
-use Rattle.std.proofs.lemmas.Bool.{lt-ltb, le-leb, true≢false}
+use Rattle.std.proofs.lemmas.Bool.{lt-ltb, true≢false}
 use Rattle.vp_dots.specs.Dots.{bit, dot, span}
 use Rattle.vp_dots.specs.Words.{word_dot}
 use Rattle.vp_dots.specs.Painting.{Painted}
@@ -20,9 +20,7 @@ use Rattle.vp_dots.proofs.Swaps.{every_at}
 use Rattle.vp_dots.proofs.Words.{and_true}
 use Rattle.vp_page.specs.declared.line.TheConstants.{LINE_DOTS}
 use Rattle.vp_page.specs.declared.page.TheConstants.{PAPER_DOTS}
-use Rattle.vp_page.specs.Areas.{holds}
 use Rattle.vp_page.proofs.WordsOnRows.{long_on}
-use Rattle.vp_page.specs.declared.area.Area.{Area}
 
 -- what was painted black nowhere
 pub black_none : (a b : Bool) → cond a true b ≡ false → (a ≡ false) × (b ≡ false)
@@ -46,31 +44,17 @@ kept_bytes kept row i n there room = painted_block White (λ d. not (dot kept d)
 pub kept_more : (k d : ℕ) (b : Bool) → (ltb (d / 8) (16 * (k + 1)) && b) ≡ ((ltb (d / 8) (16 * k) && b) || (span (16 * k) (16 * k + 16) (d / 8) && b))
 kept_more k d b = grind (arith, nat_tests)
 
-pub none_kept : (d : ℕ) (b : Bool) → (ltb (d / 8) (16 * 0) && b) ≡ false
-none_kept d b = grind (arith, nat_tests)
-
 black_row : (n x : ℕ) → x / 8 < n → dot (replicate n 255) x ≡ true
 unfolding dot bit
 black_row n x h = rw (get_or-replicate {A = ℕ} n (x / 8) 255 0 h) (every_at 8 (λ k. eqb (bit_at 255 k) 1) refl (7 - x % 8) (omega arith))
-
-whitened : (s : Bool) → cond s false true ≡ not s
-whitened s = grind arith
 
 -- a black row that is made white along an area
 pub kept_row : (from to x : ℕ) (new : List ℕ) → Painted White (span from to) (replicate 72 255) new → x < PAPER_DOTS → dot new x ≡ not (span from to x)
 kept_row from to x new p h = grind (arith, length-replicate, black_row 72 x)
 
--- and what is not kept of a row that an area has
-pub wiped_dot : (a : Area) (from to x y : ℕ) (k : Bool) → k ≡ not (span a.x (a.x + a.dx) x) → from ≤ y → y < to → a.y ≤ y → y < a.y + a.dy
-    → not k ≡ (span from to y && holds a x y)
-wiped_dot a from to x y k e p q r s = grind (arith, le-leb, lt-ltb, not, and_true)
-
 white_lane : (j k : ℕ) → j < 64 → bit (get_or (replicate 64 0) j 0) k ≡ false
 unfolding bit
 white_lane j k m = rw (get_or-replicate {A = ℕ} 64 j 0 0 m) (ap (λ n. eqb n 1) (bit_at-zero k))
-
-and_all : (b : Bool) → (b && true) ≡ b
-and_all b = grind arith
 
 -- 64 white bytes
 pub white_block : (i : ℕ) (row : List ℕ) → i + 64 ≤ length row → Painted White (λ d. span i (i + 64) (d / 8)) row (put_chunk i row (replicate 64 0))

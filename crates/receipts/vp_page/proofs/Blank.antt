@@ -1,5 +1,5 @@
 -- A white page.
-use Rattle.std.proofs.Common.{◌++◌, drop, ◌≡◌, ℕ, ◌-◌, ◌/◌, ◌%◌, ◌<◌, false, eqb, ap, arith, List, [], length, get_or, replicate}
+use Rattle.std.proofs.Common.{◌++◌, drop, ◌≡◌, ℕ, ◌/◌, ◌<◌, false, arith, List, [], length, get_or, replicate}
 use Rattle.std.proofs.lemmas.Bool.Decides.{nat_tests}
 use Rattle.std.proofs.lemmas.List.{get_or-drop, get_or_append_left, get_or-append_right, get_or_past, get_or-replicate, length-replicate}
 use Rattle.std.proofs.lemmas.Nat.Bits.{bit_at-zero}

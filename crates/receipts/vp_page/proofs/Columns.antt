@@ -16,16 +16,6 @@ use Rattle.vp_page.proofs.Marks.{shown_line}
 use Rattle.vp_page.proofs.RunRows.{run_in}
 use Rattle.vp_page.proofs.Squares.{and_false, no_line}
 
--- and back
-pub placed_back : (way : Way) (n i k : ℕ) → k < n → i ≡ placed way n k → placed way n i ≡ k
-placed_back way n i k h e = grind arith
-
-pub placed_in : (way : Way) (n k : ℕ) → k < n → placed way n k < n
-placed_in way n k h = grind arith
-
-pub placed_there : (way : Way) (n i k : ℕ) → i < n → placed way n i ≡ k → i ≡ placed way n k
-placed_there way n i k h e = grind arith
-
 -- one line more of a square of so many words
 pub line_placed : (way : Way) (n : ℕ) (square : List ℕ) (lines : List (List ℕ)) (from p k word : ℕ) → length square ≡ n → p ≡ placed way n k → k < n
     → ((x : ℕ) → x < 64 → word_dot word x ≡ line_dot lines k (from + x))

@@ -36,7 +36,8 @@ exchanged_lane xs n s mask i long h =
     ∙ ap (λ x. bit_or x (get_or (zip2 bit_and high (replicate n mask)) i 0)) (each low n low_long shl s i h ∙ ap (λ x. shl x s) (each xs n long bit_and mask i h))
     ∙ ap (bit_or (shl (bit_and (get_or xs i 0) mask) s)) (each high n high_long bit_and mask i h ∙ ap (λ x. bit_and x mask) (each xs n long shr s i h))
 
-pub length-exchanged : (xs : List ℕ) (n s mask : ℕ) → length xs ≡ n → length (zip2 bit_or (zip2 shl (zip2 bit_and xs (replicate n mask)) (replicate n s)) (zip2 bit_and (zip2 shr xs (replicate n s)) (replicate n mask))) ≡ n
+pub length-exchanged : (xs : List ℕ) (n s mask : ℕ) → length xs ≡ n
+    → length (zip2 bit_or (zip2 shl (zip2 bit_and xs (replicate n mask)) (replicate n s)) (zip2 bit_and (zip2 shr xs (replicate n s)) (replicate n mask))) ≡ n
 length-exchanged xs n s mask long = grind (arith, long_each, length-zip2, length-replicate)
 
 -- the three exchanges of a byte: of its halves, of theirs, and of theirs

@@ -4,7 +4,7 @@ use Rattle.std.specs.Int.{to_be_bytes, w64}
 use Rattle.std.proofs.lemmas.Bool.Decides.{nat_tests}
 use Rattle.std.proofs.lemmas.Nat.Bits.{bit_at-zero}
 use Rattle.std.proofs.lemmas.List.{length-replicate}
-use Rattle.std.proofs.lemmas.Bool.{false_from_ne_true, lt-leb, le-leb}
+use Rattle.std.proofs.lemmas.Bool.{false_from_ne_true, le-leb}
 use Rattle.vp_dots.specs.Dots.{bit, dot, shifted}
 use Rattle.vp_dots.specs.Places.{RowsPainted}
 use Rattle.vp_dots.specs.Words.{word_dot}
@@ -33,10 +33,6 @@ white_byte byte top rows k e z = grind (arith, bit_at-zero)
 
 pub white_column : (word top rows k : ℕ) (e : Bool) → word ≡ 0 → (e && (leb top k && (ltb (k - top) rows && word_dot word (k - top)))) ≡ false
 white_column word top rows k e z = grind (arith, white_word)
-
--- a column of dots from one row on: none above it
-pub no_bit : (top k : ℕ) (e b : Bool) → k < top → (e && (leb top k && b)) ≡ false
-no_bit top k e b h = rw (lt-leb top k h) (and_false e)
 
 -- the dot of one row
 pub bit_row : (byte top i : ℕ) (e : Bool) → (e && bit byte (7 - i)) ≡ (e && (leb top (top + i) && bit byte (7 - (top + i - top))))

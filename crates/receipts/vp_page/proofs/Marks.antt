@@ -40,13 +40,16 @@ no_ink ink width u v outside h = false_from_ne_true (ink u v) (λ t. absurd (let
 pub ink_run : (lines : List (List ℕ)) (f : ℕ → Bool) (width i u : ℕ) → width ≤ LINE_DOTS → dot (get_or lines i []) u ≡ f u → (width ≤ u → f u ≡ false) → line_dot lines i u ≡ f u
 ink_run lines f width i u h e white = grind (arith, lt-ltb, le-ltb)
 
-module _ (a : Area) (v : ℕ) (lines : List (List ℕ)) (shown x y : ℕ) (few : length lines ≤ AT_ONCE) (short : (i : ℕ) → i < length lines → length (get_or lines i []) ≤ LINE_BYTES) (deep : v < a.dy) (is : shown ≡ min (length lines) (a.dy - v)) where
+module _ (a : Area) (v : ℕ) (lines : List (List ℕ)) (shown x y : ℕ) (few : length lines ≤ AT_ONCE) (short : (i : ℕ) → i < length lines → length (get_or lines i []) ≤ LINE_BYTES) (deep : v < a.dy)
+    (is : shown ≡ min (length lines) (a.dy - v)) where
   -- lines that run to the right
-  pub right_mark : (leb (a.y + v) y && (ltb (y - (a.y + v)) (length (take shown lines)) && (leb a.x x && (ltb (x - a.x) a.dx && dot (get_or (take shown lines) (y - (a.y + v)) []) (x - a.x))))) ≡ mark_dot (lines_mark a LeftToRight v lines) x y
+  pub right_mark : (leb (a.y + v) y && (ltb (y - (a.y + v)) (length (take shown lines)) && (leb a.x x && (ltb (x - a.x) a.dx && dot (get_or (take shown lines) (y - (a.y + v)) []) (x - a.x)))))
+      ≡ mark_dot (lines_mark a LeftToRight v lines) x y
   right_mark = grind (arith, nat_tests, length-take, get_or-take, past_line, no_line)
 
   -- lines that run to the left
   pub left_mark : (top : ℕ) → top ≡ a.y + (a.dy - v - shown)
-      → (leb top y && (ltb (y - top) (length (take shown lines)) && (ltb x (a.x + a.dx) && (ltb (a.x + a.dx - 1 - x) a.dx && dot (get_or (take shown lines) (length (take shown lines) - 1 - (y - top)) []) (a.x + a.dx - 1 - x)))))
+      → (leb top y && (ltb (y - top) (length (take shown lines)) && (ltb x (a.x + a.dx) && (ltb (a.x + a.dx - 1 - x) a.dx
+      && dot (get_or (take shown lines) (length (take shown lines) - 1 - (y - top)) []) (a.x + a.dx - 1 - x)))))
       ≡ mark_dot (lines_mark a RightToLeft v lines) x y
   left_mark top begins = grind (arith, nat_tests, length-take, get_or-take, past_line, no_line)

@@ -1,5 +1,5 @@
 -- Rows made of words, and laid along the page.
-use Rattle.std.proofs.Common.{◌≡◌, ℕ, ◌+◌, ◌-◌, ◌*◌, ◌/◌, ◌<◌, ◌≤◌, min, Bool, true, false, cond, ltb, leb, ◌&&◌, ◌||◌, sym, ap, ◌∙◌, arith, List, length, take, replicate, ◌^◌, ◌%◌}
+use Rattle.std.proofs.Common.{◌≡◌, ℕ, ◌+◌, ◌-◌, ◌*◌, ◌/◌, ◌<◌, ◌≤◌, min, Bool, true, false, cond, ltb, leb, ◌&&◌, ◌∙◌, arith, List, length, take, replicate, ◌^◌, ◌%◌}
 use Rattle.std.proofs.lemmas.Bool.{lt-ltb, le-ltb, lt-leb, le-leb}
 use Rattle.std.proofs.lemmas.List.{get_or-take, length-replicate, length-take}
 use Rattle.std.proofs.lemmas.Bool.Decides.{nat_tests}
@@ -17,10 +17,6 @@ use Rattle.vp_page.proofs.Squares.{and_false}
 
 pub on_white : (b o : Bool) → o ≡ false → cond b true o ≡ b
 on_white b o e = grind arith
-
--- no word yet
-pub none_before : (first d : ℕ) (b : Bool) → (ltb d (64 * (first + 0)) && (leb (64 * first) d && b)) ≡ false
-none_before first d b = grind (arith, lt-leb, and_false, le-ltb)
 
 -- what stands on a row that was white
 pub row_made : (ink : ℕ → Bool) (x : ℕ) (row : List ℕ) → Painted Black ink (replicate 72 0) row → x < PAPER_DOTS → dot row x ≡ ink x
@@ -78,20 +74,3 @@ below_top top k a b h e = grind arith
 -- a line has no dots past the bytes of its row
 pub reach : (n dx u : ℕ) (row : List ℕ) (b : Bool) → n ≤ dx → (u < dx → u < 8 * length row → u < n) → b ≡ dot row u → (ltb u n && b) ≡ (ltb u dx && dot row u)
 reach n dx u row b few all same = grind (arith, lt-ltb, le-ltb, dot_past, and_false)
-
--- lines that are laid one below the other: none yet
-pub no_lines : (top y : ℕ) (b : Bool) → (ltb y (top + 0) && (leb top y && b)) ≡ false
-no_lines top y b = grind (arith, lt-leb, and_false, le-ltb)
-
--- as many more as are the same
-pub lines_more : (top i t y : ℕ) (ink : ℕ → Bool) → ((j : ℕ) → j < t → ink (i + j) ≡ ink i)
-    → (ltb y (top + (i + t)) && (leb top y && ink (y - top))) ≡ (ltb y (top + i) && (leb top y && ink (y - top)) || leb (top + i) y && (ltb (y - (top + i)) t && ink i))
-lines_more top i t y ink same = grind (arith, same (y - (top + i)))
-
--- lines that are laid one above the other: none yet
-pub none_below : (top n y : ℕ) (b : Bool) → (leb (top + (n - 0)) y && (ltb (y - top) n && b)) ≡ false
-none_below top n y b = grind (arith, lt-leb, le-ltb, and_false)
-
--- all of them
-pub all_lines : (top n i y : ℕ) (b : Bool) → n ≤ i → (leb (top + (n - i)) y && b) ≡ (leb top y && b)
-all_lines top n i y b h = grind arith

@@ -1,7 +1,6 @@
 -- Layers, and what is painted for them.
 use Rattle.std.proofs.Common.{◌≡◌, ℕ, ◌+◌, ◌-◌, ◌<◌, ◌≤◌, Bool, true, false, not, min, max, cond, ltb, leb, eqb, ◌&&◌, ◌||◌, refl, ap, ◌∙◌, arith, List, [], ◌∷◌, length, get_or}
 use Rattle.std.proofs.lemmas.Bool.Decides.{nat_tests}
-use Rattle.vp_page.specs.declared.across.TheConstants.{AT_ONCE}
 use Rattle.vp_page.specs.declared.page.TheConstants.{PAGE_ROWS, PAPER_DOTS}
 use Rattle.vp_dots.specs.Dots.{dot, span}
 use Rattle.vp_dots.specs.Places.{RowsPainted}
@@ -79,7 +78,7 @@ pub rows_make_an_image : RowsMakeAnImage
 rows_make_an_image = grind (arith, nat_tests, nothing_laid, no_row, same_page, one_more, lies, within, enough)
 
 -- lines that are laid at once below the first k rows of a mark
-pub lines_more : (m : Mark) (k n : ℕ) (lines : List (List ℕ)) (layers : List Layer) (page : Paged) → n ≤ AT_ONCE → length lines ≡ n
+pub lines_more : (m : Mark) (k n : ℕ) (lines : List (List ℕ)) (layers : List Layer) (page : Paged) → n ≤ 192 → length lines ≡ n
     → ((u w : ℕ) → u < line_length m.area m.direction → w < n → line_dot lines w u ≡ m.dot u (k + w))
     → HasPage (Laid (lines_mark m.area m.direction (m.top + k) lines) ∷ Laid (first_rows k m) ∷ layers) page
     → HasPage (Laid (first_rows (k + n) m) ∷ layers) page
@@ -94,7 +93,8 @@ pub times_more : (m : Mark) (k n v : ℕ) (row : ℕ → Bool) (layers : List La
     → ((u i : ℕ) → u < line_length m.area m.direction → i < n → row u ≡ m.dot u (k + i))
     → HasPage (Laid (times_mark m.area m.direction v n row) ∷ Laid (first_rows k m) ∷ layers) page
     → HasPage (Laid (first_rows (k + n) m) ∷ layers) page
-times_more m k n v row layers page place same has = same_page _ _ page (λ x y. rw place (more_times (holds m.area x y) (row (along m.area m.direction x y)) (page_dot layers x y) (down m.area m.direction x y) m.top k n (m.dot (along m.area m.direction x y))
+times_more m k n v row layers page place same has = same_page _ _ page (λ x y. rw place (more_times (holds m.area x y) (row (along m.area m.direction x y)) (page_dot layers x y)
+    (down m.area m.direction x y) m.top k n (m.dot (along m.area m.direction x y))
     (λ t i l. same (along m.area m.direction x y) i (lies m.area m.direction x y (within m.area x y t)).in_line l))) (record { laid = omega (arith, place); most = refl; least = refl }) has
 
 -- ink that is laid between two depths, below the first k rows of a mark

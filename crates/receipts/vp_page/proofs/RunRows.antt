@@ -1,21 +1,17 @@
 -- Lines that are laid across the page many times each.
-use Rattle.std.proofs.Common.{inl, inr, ◌≡◌, ℕ, zero, suc, ◌+◌, ◌-◌, ◌/◌, ◌<◌, ◌≤◌, min, Bool, true, false, cond, ltb, leb, ◌&&◌, ◌||◌, sym, ◌∙◌, arith, add-one, List, get_or, replicate}
+use Rattle.std.proofs.Common.{inl, inr, ◌≡◌, ℕ, zero, suc, ◌+◌, ◌-◌, ◌/◌, ◌<◌, ◌≤◌, min, Bool, true, false, cond, ltb, leb, ◌&&◌, ◌||◌, sym, ◌∙◌, arith, add-one, List, get_or}
 use Rattle.std.proofs.lemmas.Bool.{cases_lt, lt-ltb, le-ltb, lt-leb, le-leb, and_parts}
 use Rattle.std.proofs.lemmas.Bool.Decides.{nat_tests}
-use Rattle.std.proofs.lemmas.List.{length-replicate}
-use Rattle.vp_dots.specs.Dots.{dot, span}
+use Rattle.vp_dots.specs.Dots.{span}
 use Rattle.vp_dots.specs.Words.{word_dot}
 use Rattle.vp_dots.specs.Painting.{Painted}
 use Rattle.vp_dots.specs.declared.Op.TheVariants.{Black}
 use Rattle.vp_dots.proofs.Paints.{painted_same, painted_then}
-use Rattle.vp_page.specs.declared.page.TheConstants.{PAPER_DOTS}
 use Rattle.vp_page.specs.Areas.{depth, holds}
 use Rattle.vp_page.specs.Layers.{mark_dot}
 use Rattle.vp_page.specs.Runs.{AreRuns, across, across_dot, along_of, between, depth_of, topmost}
 use Rattle.vp_page.specs.declared.area.Area.{Area}
 use Rattle.vp_page.specs.declared.area.Way.{Way}
-use Rattle.vp_page.proofs.Blank.{dot_white}
-use Rattle.vp_page.proofs.PageRows.{on_white}
 
 -- one more line that is black, or white
 module _ (b0 bi bn w : ℕ) (t : Bool) (from : b0 ≤ bi) (to : bi ≤ bn) where
@@ -27,9 +23,6 @@ module _ (b0 bi bn w : ℕ) (t : Bool) (from : b0 ≤ bi) (to : bi ≤ bn) where
 
   pub more_white : (v : Bool) → (bi ≤ w → w < bn → v ≡ false) → (t && (span b0 bi w && v)) ≡ (t && (span b0 bn w && v))
   more_white v e = grind arith
-
-pub row_of_black : (ink : ℕ → Bool) (x : ℕ) (row : List ℕ) → Painted Black ink (replicate 72 0) row → x < PAPER_DOTS → dot row x ≡ ink x
-row_of_black ink x row p l = p.dots_are x (omega (arith, length-replicate {A = ℕ} 72 0)) ∙ on_white (ink x) _ (dot_white 72 x (omega arith))
 
 -- the line of a depth
 pub line_at : (begins : List ℕ) (n w : ℕ) → get_or begins 0 0 ≤ w → w < get_or begins n 0 → (i : ℕ) × (i < n) × (get_or begins i 0 ≤ w) × (w < get_or begins (i + 1) 0)

@@ -1,5 +1,5 @@
 -- Squares laid across the page.
-use Rattle.std.proofs.Common.{◌≡◌, ℕ, ◌+◌, ◌<◌, ◌≤◌, Bool, false, ltb, ◌&&◌, ap, ◌∙◌, arith, List, [], length, get_or, replicate}
+use Rattle.std.proofs.Common.{◌≡◌, ℕ, ◌<◌, ◌≤◌, Bool, false, ltb, ◌&&◌, ap, ◌∙◌, arith, List, [], length, get_or, replicate}
 use Rattle.std.proofs.lemmas.List.{get_or_past, get_or-replicate}
 use Rattle.std.proofs.lemmas.Bool.{lt-ltb, le-ltb}
 use Rattle.std.proofs.lemmas.Nat.Bits.{bit_at-zero}
@@ -27,10 +27,6 @@ white_words y x h = rw (get_or-replicate {A = ℕ} 64 y 0 0 h) (white_word x)
 -- where there is no line there is no dot
 pub no_line : (lines : List (List ℕ)) (i u : ℕ) → length lines ≤ i → line_dot lines i u ≡ false
 no_line lines i u h = rw (get_or_past {X = List ℕ} lines i [] h) (ap (λ b. ltb u LINE_DOTS && b) (dot_past [] u (omega arith)) ∙ and_false (ltb u LINE_DOTS))
-
--- another line than the next one
-pub other_rows : (i k : ℕ) (b : Bool) → (i ≡ k → ⊥) → (ltb i k && b) ≡ (ltb i (k + 1) && b)
-other_rows i k b n = grind (arith, lt-ltb, le-ltb)
 
 -- all lines
 pub all_rows : (lines : List (List ℕ)) (i n u : ℕ) → n ≡ length lines → (ltb i n && line_dot lines i u) ≡ line_dot lines i u

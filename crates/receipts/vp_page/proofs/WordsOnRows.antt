@@ -1,5 +1,5 @@
 -- Words painted on rows of the page.
-use Rattle.std.proofs.Common.{min, ◌≡◌, ℕ, ◌+◌, ◌-◌, ◌*◌, ◌/◌, ◌%◌, ◌^◌, ◌<◌, ◌≤◌, Bool, true, false, cond, eqb, ltb, leb, ◌&&◌, ◌||◌, sym, ap, ◌∙◌, arith, List, bit_and, bit_or, length, get_or, set}
+use Rattle.std.proofs.Common.{min, ◌≡◌, ℕ, ◌+◌, ◌-◌, ◌*◌, ◌/◌, ◌%◌, ◌^◌, ◌<◌, ◌≤◌, Bool, true, cond, eqb, ltb, leb, ◌&&◌, sym, ap, ◌∙◌, arith, List, bit_and, bit_or, length, get_or, set}
 use lib.Lanes.{zip2, chunk, put_chunk}
 use Rattle.std.specs.Int.{to_be_bytes, w64}
 use Rattle.std.proofs.lemmas.Simd.{get_or-zip2, get_or-chunk, length-zip2, length-chunk}
@@ -78,40 +78,11 @@ half_dot word mask skip x left = grind (arith, bit_of_and, bit_low64, bit_shl, l
 pub word_bytes : (word x : ℕ) (bytes : List ℕ) → bytes ≡ to_be_bytes w64 word → (ltb x 64 && dot bytes (8 * 0 + x)) ≡ word_dot word x
 word_bytes word x bytes e = grind (arith, word_row)
 
-module _ (line : List ℕ) (q k d : ℕ) where
-  -- after the last ones
-  pub words_all : length line ≤ 8 * k → (ltb d (8 * q + 64 * k) && (leb (8 * q) d && dot line (d - 8 * q))) ≡ (leb (8 * q) d && dot line (d - 8 * q))
-  words_all all = grind (arith, nat_tests, dot_past)
-
--- bytes of a line that is turned end for end: those before a place, and more
-module _ (q n d : ℕ) (line : List ℕ) where
-  abbrev reversed : ℕ → Bool
-  reversed e = leb (8 * q) e && (ltb (e - 8 * q) (8 * n) && dot line (8 * n - 1 - (e - 8 * q)))
-
-  -- after the last ones
-  pub reversed_all : (k : ℕ) → n ≤ k → (ltb d (8 * q + 8 * k) && reversed d) ≡ reversed d
-  reversed_all k all = grind arith
-
--- before the first ones
-pub words_none : (q d : ℕ) (b : Bool) → (ltb d (8 * q + 64 * 0) && (leb (8 * q) d && b)) ≡ false
-words_none q d b = grind (arith, nat_tests)
-
--- sixteen more bytes
-pub sixteen_more : (i k d : ℕ) (b : Bool) → (span i (i + 16 * (k + 1)) (d / 8) && b) ≡ ((span i (i + 16 * k) (d / 8) && b) || (span (i + 16 * k) (i + 16 * k + 16) (d / 8) && b))
-sixteen_more i k d b = grind (arith, nat_tests)
-
--- behind the ones before them
-pub sixteen_apart : (i k d : ℕ) (b : Bool) → ((span i (i + 16 * k) (d / 8) && b) && (span (i + 16 * k) (i + 16 * k + 16) (d / 8) && b)) ≡ false
-sixteen_apart i k d b = grind (arith, nat_tests)
-
-pub no_sixteen : (i d : ℕ) (b : Bool) → (span i (i + 16 * 0) (d / 8) && b) ≡ false
-no_sixteen i d b = grind (arith, nat_tests)
+-- the words of a line, after the last ones
+pub words_all : (line : List ℕ) (q k d : ℕ) → length line ≤ 8 * k → (ltb d (8 * q + 64 * k) && (leb (8 * q) d && dot line (d - 8 * q))) ≡ (leb (8 * q) d && dot line (d - 8 * q))
+words_all line q k d all = grind (arith, nat_tests, dot_past)
 
 -- a dot that is black among those bytes alone
 pub among : (first bytes at n x top y : ℕ) (b c : Bool) → bytes ≤ 16 * n → at ≡ min first (72 - 16 * n) → n ≡ 2 → x < PAPER_DOTS → (b ≡ true → span first (first + bytes) (x / 8) ≡ true) → b ≡ c → top ≤ y
     → (span at (at + 16 * n) (x / 8) && b) ≡ (leb top y && c)
 among first bytes at n x top y b c e a few h s t l = grind (arith, nat_tests)
-
--- the rows from one on
-pub rows_in : (top i h k : ℕ) (b : Bool) → i ≡ h → (ltb k (top + i) && (leb top k && b)) ≡ (leb top k && (ltb (k - top) h && b))
-rows_in top i h k b e = grind (arith, nat_tests, e)

@@ -13,7 +13,8 @@ returns g c =
     let n = c.args.rows in
     let way = c.args.way in
     let square = c.turned_square-square.result in
-    rows_same Black _ _ _ _ (λ x y _. stretch_laid c.args.area way c.args.v c.args.lines.now c.args.from n c.top_of-top.result 64 (λ i. word_dot (get_or square (ordered way n i) 0)) (to_z w64 (of_z w64 c.left_of-left.result))
+    rows_same Black _ _ _ _ (λ x y _. stretch_laid c.args.area way c.args.v c.args.lines.now c.args.from n c.top_of-top.result 64 (λ i. word_dot (get_or square (ordered way n i) 0))
+    (to_z w64 (of_z w64 c.left_of-left.result))
     c.requires.wide c.requires.lines c.requires.long c.top_of-top.ensures (rw (to_z-of_z w64 c.left_of-left.result (search rules)) c.left_of-left.ensures)
     (λ k s h l. grind (arith, ordered_back, c.requires.few, c.turned_square-square.ensures s k, c.square_of.ensures k s))
     (λ i s g. rw (le-ltb s 64 g) refl) x y) c.lay_words.ensures

@@ -1,7 +1,8 @@
-use Rattle.std.proofs.Common.{◌≡◌, ℕ, ◌<◌, ◌-◌, ◌+◌, ◌*◌, ◌/◌, ◌%◌, ◌∙◌, ◌&&◌, ap, sym, refl, get_or, w64, to_z, of_z, arith, rules, ltb}
+use Rattle.std.proofs.lemmas.Bool.Decides.{nat_tests}
+use Rattle.std.proofs.Common.{◌≡◌, ℕ, ◌-◌, ◌+◌, ◌&&◌, ap, sym, refl, get_or, w64, to_z, of_z, arith, rules, ltb}
 use mir.Val.{SFits}
 use Rattle.std.proofs.lemmas.Int.{to_z-of_z}
-use Rattle.std.proofs.lemmas.Bool.{lt-ltb, le-ltb}
+use Rattle.std.proofs.lemmas.Bool.{le-ltb}
 use Rattle.vp_dots.specs.Dots.{span}
 use Rattle.vp_dots.specs.Words.{word_dot}
 use Rattle.vp_dots.specs.declared.Op.TheVariants.{Black}
@@ -14,9 +15,12 @@ use Rattle.vp_page.proofs.Squares.{nothing_painted}
 use Rattle.vp_page.proofs.across.lay_two.Goals as goal
 
 pub returns-then-is_white_square : goal.returns-then-is_white_square
-returns-then-is_white_square g c = nothing_painted _ c.args.band.now (λ x y _. white_stretch c.args.area c.args.way c.args.v c.args.lines.now c.args.from c.args.rows x y (λ i u p q.
-    let place : c.args.from + (u - c.args.from) ≡ u = omega (arith, p) in
-    rw place at (two_white c.args.way c.args.lines.now c.two_of-squares.result c.args.from i (u - c.args.from) c.requires.lines (omega (arith, p, q, c.requires.few)) c.two_of-squares.ensures (c.is_white_square.ensures c.if-is_white_square.true))))
+returns-then-is_white_square g c = nothing_painted _ c.args.band.now (λ x y _. white_stretch c.args.area c.args.way c.args.v c.args.lines.now c.args.from c.args.rows x y
+    (λ i u p q. grind (
+      arith,
+      two_white c.args.way c.args.lines.now c.two_of-squares.result c.args.from i (u - c.args.from) c.requires.lines (omega (arith, p, q, c.requires.few)) c.two_of-squares.ensures
+          (c.is_white_square.ensures c.if-is_white_square.true),
+    )))
 
 pub returns : goal.returns
 returns g c =
@@ -34,19 +38,9 @@ returns g c =
     (rows_then _ _ _ _ _ _ (λ x y. stretch_more from (from + first) (from + first + second) (along_of a way y) (lines_across a way c.args.v lines x y) (omega arith) (omega arith))
     (rows_same Black _ _ _ _ (λ x y _. stretch_laid a way c.args.v lines from first c.top_of-top.result 32 (λ i. word_dot (get_or c.halves_of.result (ordered way first i) 0)) left
     c.requires.wide c.requires.lines (omega (arith, c.requires.long)) c.top_of-top.ensures (rw (to_z-of_z w64 c.left_of-left.result fits) c.left_of-left.ensures)
-    (λ k s h l.
-    let line : (s + 0) % 32 ≡ s = omega (arith, l) in
-    let place : from + 64 * ((s + 0) / 32) + k ≡ from + k = omega (arith, l) in
-    let near : k < 64 = omega (arith, h) in
-    ap (λ i. word_dot (get_or c.halves_of.result i 0) s) (ordered_back way first k h) ∙ c.halves_of.ensures s k ∙ rw (lt-ltb s 32 l) (c.turned_square-turned.ensures (s + 0) k (omega (arith, l)) near
-    ∙ (rw (line, place) at (c.two_of-squares.ensures k (s + 0) near (omega (arith, l))))))
+    (λ k s h l. grind (arith, nat_tests, ordered_back, c.halves_of.ensures s k, c.turned_square-turned.ensures (s + 0) k, c.two_of-squares.ensures k (s + 0)))
     (λ i s g. c.halves_of.ensures s (ordered way first i) ∙ rw (le-ltb s 32 g) refl) x y) c.lay_words.ensures)
     (rows_same Black _ _ _ _ (λ x y _. stretch_laid a way c.args.v lines (from + first) second c.top_of-next.result 32 (λ i. word_dot (get_or c.halves_of-2.result (ordered way second i) 0)) left
     c.requires.wide c.requires.lines (omega (arith, c.requires.long)) c.top_of-next.ensures (rw (to_z-of_z w64 c.left_of-left.result fits) c.left_of-left.ensures)
-    (λ k s h l.
-    let line : (s + 32) % 32 ≡ s = omega (arith, l) in
-    let place : from + 64 * ((s + 32) / 32) + k ≡ from + first + k = omega (arith, l, h) in
-    let near : k < 64 = omega (arith, h, c.requires.few) in
-    ap (λ i. word_dot (get_or c.halves_of-2.result i 0) s) (ordered_back way second k h) ∙ c.halves_of-2.ensures s k ∙ rw (lt-ltb s 32 l) (c.turned_square-turned.ensures (s + 32) k (omega (arith, l)) near
-    ∙ (rw (line, place) at (c.two_of-squares.ensures k (s + 32) near (omega (arith, l))))))
+    (λ k s h l. grind (arith, nat_tests, ordered_back, c.requires.few, c.halves_of-2.ensures s k, c.turned_square-turned.ensures (s + 32) k, c.two_of-squares.ensures k (s + 32)))
     (λ i s g. c.halves_of-2.ensures s (ordered way second i) ∙ rw (le-ltb s 32 g) refl) x y) c.lay_words-2.ensures))

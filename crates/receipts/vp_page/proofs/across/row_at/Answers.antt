@@ -1,9 +1,9 @@
 use Rattle.std.proofs.Common.{◌+◌, ◌&&◌, ◌∙◌, ap, sym, arith}
 use Rattle.vp_dots.specs.Dots.{span}
 use Rattle.vp_page.specs.Runs.{depth_of}
+use Rattle.vp_page.proofs.PageRows.{row_made}
 use Rattle.vp_page.proofs.Blank.{dot_white}
 use Rattle.vp_page.proofs.Columns.{all_lines, black_lines, white_lines}
-use Rattle.vp_page.proofs.RunRows.{row_of_black}
 use Rattle.vp_page.proofs.Squares.{and_false}
 use Rattle.vp_page.proofs.across.row_at.Goals as goal
 
@@ -17,11 +17,11 @@ pub returns-in-Black : goal.returns-in-Black
 returns-in-Black c = λ x h.
     let a = c.args.area in
     let w = depth_of a c.args.way x in
-    row_of_black _ x c.fill_dots.new.row c.fill_dots.ensures h ∙ c.columns-left.ensures.dots x
+    row_made _ x c.fill_dots.new.row c.fill_dots.ensures h ∙ c.columns-left.ensures.dots x
     ∙ ap (λ b. span a.x (a.x + a.dx) x && b) (black_lines c.args.lines.now c.args.v w c.args.at (rw c.in-Black.is at c.requires.shade))
 
 pub returns-after-loop-i : goal.returns-after-loop-i
 returns-after-loop-i c = λ x h.
     let a = c.args.area in
-    row_of_black _ x c.loop-i.row c.loop-i.invariant h
+    row_made _ x c.loop-i.row c.loop-i.invariant h
     ∙ ap (λ b. span a.x (a.x + a.dx) x && b) (all_lines c.args.lines.now c.args.v (depth_of a c.args.way x) c.args.at c.loop-i.i (omega (arith, c.loop-i-test.false)))

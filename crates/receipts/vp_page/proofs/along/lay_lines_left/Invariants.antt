@@ -12,7 +12,8 @@ invariant-loop-i g l =
     let a = l.fn.area in
     record {
       within : l.i ≤ length l.lines;
-      laid : RowsPainted PAGE_ROWS Black (λ x y. leb (l.top + (n - l.i)) y && (ltb (y - l.top) n && (ltb x (a.x + a.dx) && (ltb (a.x + a.dx - 1 - x) a.dx && dot (get_or l.lines (n - 1 - (y - l.top)) []) (a.x + a.dx - 1 - x))))) l.fn.band l.band;
+      laid : RowsPainted PAGE_ROWS Black (λ x y. leb (l.top + (n - l.i)) y && (ltb (y - l.top) n && (ltb x (a.x + a.dx) && (ltb (a.x + a.dx - 1 - x) a.dx
+          && dot (get_or l.lines (n - 1 - (y - l.top)) []) (a.x + a.dx - 1 - x))))) l.fn.band l.band;
     }
 
 abbrev pub decreases-loop-i : goal.decreases-loop-i

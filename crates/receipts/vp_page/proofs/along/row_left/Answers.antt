@@ -1,8 +1,7 @@
 use Rattle.std.proofs.lemmas.Bool.Decides.{nat_tests}
 use Rattle.std.proofs.Common.{◌≡◌, ◌+◌, ◌*◌, ◌/◌, false, cond, ap, arith, length, ◌∙◌}
 use Rattle.vp_dots.specs.Dots.{span}
-use Rattle.vp_dots.proofs.Paints.{painted_none}
-use Rattle.vp_page.proofs.PageRows.{clipped_left, none_before, row_made, whole_left}
+use Rattle.vp_page.proofs.PageRows.{clipped_left, row_made, whole_left}
 use Rattle.vp_page.proofs.along.row_left.Goals as goal
 
 pub returns-then-is_whole : goal.returns-then-is_whole
@@ -11,7 +10,7 @@ returns-then-is_whole c = λ x h. row_made _ x c.or_reversed.new.row c.or_revers
     (let room = c.is_whole.ensures.on_page c.if-is_whole.true in omega (arith, c.told-line, room))
 
 pub loop-i-init : goal.loop-i-init
-loop-i-init c = painted_none _ _ _ (λ d l. none_before (c.args.begin / 64) d _)
+loop-i-init c = grind (arith, nat_tests)
 
 pub loop-i-preserved : goal.loop-i-preserved
 loop-i-preserved c = grind (arith, nat_tests)

@@ -1,8 +1,7 @@
 use Rattle.std.proofs.lemmas.Bool.Decides.{nat_tests}
 use Rattle.std.proofs.Common.{◌≡◌, ◌+◌, ◌*◌, ◌/◌, false, cond, ap, arith, length, ◌∙◌}
 use Rattle.vp_dots.specs.Dots.{span}
-use Rattle.vp_dots.proofs.Paints.{painted_none}
-use Rattle.vp_page.proofs.PageRows.{clipped_right, none_before, row_made, whole_right}
+use Rattle.vp_page.proofs.PageRows.{clipped_right, row_made, whole_right}
 use Rattle.vp_page.proofs.along.row_right.Goals as goal
 
 pub returns-then-is_whole : goal.returns-then-is_whole
@@ -10,7 +9,7 @@ returns-then-is_whole c = λ x h. row_made _ x c.or_words.new.row c.or_words.ens
     ∙ whole_right c.args.line.now c.args.begin c.args.long x (c.is_whole.ensures.begins c.if-is_whole.true) (c.is_whole.ensures.words c.if-is_whole.true)
 
 pub loop-i-init : goal.loop-i-init
-loop-i-init c = painted_none _ _ _ (λ d l. none_before (c.args.begin / 64) d _)
+loop-i-init c = grind (arith, nat_tests)
 
 pub loop-i-preserved : goal.loop-i-preserved
 loop-i-preserved c = grind (arith, nat_tests)

@@ -16,7 +16,8 @@ pub loop-k-preserved : goal.loop-k-preserved
 loop-k-preserved c =
     let line = c.args.line.now in
     let k = c.loop-k.k in
-    black_then (λ u. ltb (u / 8) (16 * k) && changes_at line u) (λ u. span (16 * k) (16 * k + 16) (u / 8) && changes_at line u) _ _ _ _ c.loop-k.invariant c.or_changes_from-in-loop-k.ensures (λ u. kept_more k u (changes_at line u))
+    black_then (λ u. ltb (u / 8) (16 * k) && changes_at line u) (λ u. span (16 * k) (16 * k + 16) (u / 8) && changes_at line u) _ _ _ _ c.loop-k.invariant c.or_changes_from-in-loop-k.ensures
+    (λ u. kept_more k u (changes_at line u))
 
 pub returns : goal.returns
 returns c = bytes_all Black (changes_at c.args.line.now) (16 * c.loop-k.k) _ _ (omega (arith, c.requires)) c.loop-k.invariant

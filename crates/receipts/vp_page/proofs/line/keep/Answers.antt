@@ -1,12 +1,9 @@
-use Rattle.std.proofs.Common.{not, arith}
-use Rattle.vp_dots.specs.Dots.{dot}
-use Rattle.vp_dots.specs.declared.Op.TheVariants.{White}
-use Rattle.vp_dots.proofs.Paints.{painted_none}
-use Rattle.vp_page.proofs.Alike.{none_kept}
+use Rattle.std.proofs.lemmas.Bool.Decides.{nat_tests}
+use Rattle.std.proofs.Common.{arith}
 use Rattle.vp_page.proofs.line.keep.Goals as goal
 
 pub loop-k-init : goal.loop-k-init
-loop-k-init c = painted_none White _ c.args.row.now (λ d l. none_kept d (not (dot c.args.kept.now d)))
+loop-k-init c = grind (arith, nat_tests)
 
 pub loop-k-preserved : goal.loop-k-preserved
 loop-k-preserved c = grind arith

@@ -1,17 +1,17 @@
+use Rattle.std.proofs.lemmas.Bool.Decides.{nat_tests}
 use Rattle.std.proofs.Common.{◌≡◌, ◌+◌, ◌-◌, ◌&&◌, eqb, leb, sym, arith}
 use Rattle.vp_dots.specs.Dots.{bit}
 use Rattle.vp_dots.specs.declared.Op.TheVariants.{Black}
 use Rattle.vp_dots.proofs.Paints.{painted_same}
-use Rattle.vp_dots.proofs.Placing.{rows_init, rows_more}
-use Rattle.vp_page.proofs.Lines.{bit_row, column_rows, no_bit, nothing, white_byte}
-use Rattle.vp_page.proofs.Rows.{rows_same}
+use Rattle.vp_dots.proofs.Placing.{rows_more}
+use Rattle.vp_page.proofs.Lines.{bit_row, nothing, white_byte}
 use Rattle.vp_page.proofs.line.lay_byte.Goals as goal
 
 pub returns-then-byte-eq0 : goal.returns-then-byte-eq0
 returns-then-byte-eq0 g c = nothing _ c.args.band.now (λ d k. white_byte c.args.byte c.args.top c.args.rows k (eqb d c.args.x) c.if-byte-eq0.true)
 
 pub loop-i-init : goal.loop-i-init
-loop-i-init g c = rows_init _ _ (λ d k. eqb d c.args.x && (leb c.args.top k && bit c.args.byte (7 - (k - c.args.top)))) _ c.args.band.now (λ d k h. no_bit c.args.top k (eqb d c.args.x) _ (omega arith))
+loop-i-init g c = grind (arith, nat_tests)
 
 pub loop-i-preserved : goal.loop-i-preserved
 loop-i-preserved g c =
@@ -21,4 +21,4 @@ loop-i-preserved g c =
     (painted_same Black _ _ _ _ (λ d l. bit_row c.args.byte c.args.top c.loop-i.i (eqb d c.args.x)) (rw (sym c.row_mut.ensures.value) c.lay_dot.ensures)))
 
 pub returns : goal.returns
-returns g c = rows_same Black _ _ _ _ (λ d k _. column_rows c.args.top c.loop-i.i c.args.rows k (eqb d c.args.x) _ (omega arith)) c.loop-i.invariant
+returns g c = grind (arith, nat_tests)

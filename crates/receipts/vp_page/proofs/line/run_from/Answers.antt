@@ -9,5 +9,5 @@ pub loop-n-preserved : goal.loop-n-preserved
 loop-n-preserved c = record {
   some = omega arith;
   within = omega (arith, c.loop-n-test.true, c.min.ensures);
-  same = λ i u h. grind (arith, c.loop-n.invariant.some, c.loop-n.invariant.same i u, c.loop-n.invariant.same (c.loop-n.n - 1) u, c.requires.told (c.args.from + (c.loop-n.n - 1)) u, c.loop-n-test.true, c.min.ensures, c.if-same-from.true);
+  same = λ i u h. grind (arith, c.loop-n.invariant.some, c.loop-n.invariant.same i u, c.loop-n.invariant.same (c.loop-n.n - 1) u, c.requires.told (c.args.from + (c.loop-n.n - 1)) u);
 }

@@ -23,7 +23,8 @@ loop-line-preserved-then-n-gt0 g c =
     let white : (u w : ℕ) → width ≤ u → shown u w ≡ false = λ u w h. no_ink ink width u (w - c.args.top) (λ x y t. (g.met.I.Ink.outside c.args.ink.now x y t).0) h in
     record {
       within = omega (arith, deep);
-      laid = λ layers page. between_more m c.loop-line.line (get_or begins 0 0) (get_or begins n 0) (get_or begins n 0 - c.args.top) shown layers _ d.ensures.first (omega (arith, some)) (omega (arith, some, d.ensures.first))
+      laid = λ layers page. between_more m c.loop-line.line (get_or begins 0 0) (get_or begins n 0) (get_or begins n 0 - c.args.top) shown layers _ d.ensures.first (omega (arith, some))
+          (omega (arith, some, d.ensures.first))
           (λ u w _ _ _. refl)
           (rw long at (c.lay_runs.ensures shown
           (λ i u w h p q. let i_in : i < n = omega (arith, h, long) in

@@ -23,4 +23,5 @@ loop-line-preserved g c =
 pub returns : goal.returns
 returns g c = λ layers page.
     let m : Mark = record { area = c.args.area; direction = c.args.direction; top = c.args.top; high = g.I.Ink.height c.args.ink.now; dot = g.I.Ink.ink_at c.args.ink.now } in
-    rows_make_an_image.all m c.loop-line.line layers _ (λ u w e l. let within = g.met.I.Ink.outside c.args.ink.now u w e in omega (arith, within.1, l, c.depth.ensures)) (omega (arith, c.depth.ensures)) (c.loop-line.invariant.laid layers page)
+    rows_make_an_image.all m c.loop-line.line layers _ (λ u w e l. let within = g.met.I.Ink.outside c.args.ink.now u w e in omega (arith, within.1, l, c.depth.ensures)) (omega (arith, c.depth.ensures))
+    (c.loop-line.invariant.laid layers page)

@@ -12,13 +12,15 @@ use Rattle.vp_page.proofs.page.Page.lay_long.Goals as goal
 pub returns-in-BottomToTop : goal.returns-in-BottomToTop
 returns-in-BottomToTop g c = λ layers page.
     let room : c.from-depth.result ≡ c.args.area.dx = c.from-depth.ensures ∙ c.depth.ensures ∙ ap (depth c.args.area) c.in-BottomToTop.is in
-    rw c.in-BottomToTop.is (laid layers _ _ _ (subst (HasPage layers) (sym c.self.view_is) page) _ (λ x y h k. across_mark c.args.area Up c.args.v _ c.args.lines.now c.requires.few (omega (arith, c.min-shown.ensures, room)) x y)
+    rw c.in-BottomToTop.is (laid layers _ _ _ (subst (HasPage layers) (sym c.self.view_is) page) _ (λ x y h k. across_mark c.args.area Up c.args.v _ c.args.lines.now c.requires.few
+    (omega (arith, c.min-shown.ensures, room)) x y)
     c.lay_lines.ensures (omega (arith, c.saturating_add-count.ensures, c.min-shown.ensures, room)) refl)
 
 pub returns-in-TopToBottom : goal.returns-in-TopToBottom
 returns-in-TopToBottom g c = λ layers page.
     let room : c.from-depth.result ≡ c.args.area.dx = c.from-depth.ensures ∙ c.depth.ensures ∙ ap (depth c.args.area) c.in-TopToBottom.is in
-    rw c.in-TopToBottom.is (laid layers _ _ _ (subst (HasPage layers) (sym c.self.view_is) page) _ (λ x y h k. across_mark c.args.area Down c.args.v _ c.args.lines.now c.requires.few (omega (arith, c.min-shown.ensures, room)) x y)
+    rw c.in-TopToBottom.is (laid layers _ _ _ (subst (HasPage layers) (sym c.self.view_is) page) _ (λ x y h k. across_mark c.args.area Down c.args.v _ c.args.lines.now c.requires.few
+    (omega (arith, c.min-shown.ensures, room)) x y)
     c.lay_lines-in-TopToBottom.ensures (omega (arith, c.saturating_add-count.ensures, c.min-shown.ensures, room)) refl)
 
 pub invariant_of-self : goal.invariant_of-self

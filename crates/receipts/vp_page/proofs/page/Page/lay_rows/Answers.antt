@@ -13,7 +13,8 @@ returns-in-LeftToRight g c = λ layers page.
     let a = c.args.area in
     let room : c.from-depth.result ≡ a.dy = c.from-depth.ensures ∙ c.depth.ensures ∙ ap (depth a) c.in-LeftToRight.is in
     rw c.in-LeftToRight.is (laid layers _ _ _ (subst (HasPage layers) (sym c.self.view_is) page) (rows_mark a LeftToRight c.args.v c.args.wide c.args.rows c.args.bytes.now)
-    (λ x y h k. whole_right a c.args.v c.args.wide c.args.rows c.min-shown.result _ c.args.bytes.now (c.if-are_whole.ensures refl) (omega (arith, c.if-v-depth.false, room)) (omega (arith, c.min-shown.ensures, room)) (omega arith) x y) c.lay_whole.ensures (omega (arith, c.saturating_add-count.ensures, c.min-shown.ensures, room)) refl)
+    (λ x y h k. whole_right a c.args.v c.args.wide c.args.rows c.min-shown.result _ c.args.bytes.now (c.if-are_whole.ensures refl) (omega (arith, c.if-v-depth.false, room)) (omega (arith, c.min-shown.ensures, room))
+    (omega arith) x y) c.lay_whole.ensures (omega (arith, c.saturating_add-count.ensures, c.min-shown.ensures, room)) refl)
 
 pub returns-in-RightToLeft : goal.returns-in-RightToLeft
 returns-in-RightToLeft g c = λ layers page. grind (arith, nat_tests, whole_left)
