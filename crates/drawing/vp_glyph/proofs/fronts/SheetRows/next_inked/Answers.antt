@@ -1,5 +1,5 @@
 use Rattle.std.proofs.Common.{arith}
-use Rattle.vp_glyph.proofs.fronts.Shown.next_inked.Goals as goal
+use Rattle.vp_glyph.proofs.fronts.SheetRows.next_inked.Goals as goal
 
 pub returns-clause-white : goal.returns-clause-white
 returns-clause-white c =
