@@ -27,8 +27,7 @@ record BehindComment (text : List ℕ) (b : ℕ) (rest : List ℕ) : Type 0 wher
   parts : text ≡ body ++ end ∷ (gap ++ b ∷ rest)
 
 one_more : (c : ℕ) (body : List ℕ) → ends_line c ≡ false → Comment body → Comment (c ∷ body)
-one_more c body n h zero l = n
-one_more c body n h (suc k) l = h k (omega arith)
+one_more c body h1 h2 = grind arith
 
 comment_behind : (c : ℕ) (text : List ℕ) (b : ℕ) (rest : List ℕ) → c ≡ 35 → BehindComment text b rest → Behind (c ∷ text) b rest
 comment_behind c text b rest e h = record {
@@ -120,33 +119,11 @@ told_is text g l =
     }
 
 number_read : (text : List ℕ) (number : Number) → number_behind text ≡ Some number → IsNumber text number
-number_read text number e = elim (cases_Bool (begins_gap text && ltb 0 (prefix_len digit (past_gap text)))) [
-  | inl y ↦
-      let both = and_parts (begins_gap text) (ltb 0 (prefix_len digit (past_gap text))) y in
-      let P : Number → Type 0 = λ m. IsNumber text m in
-      subst P (some_same (ap (λ b. cond b (Some (told text)) None) (sym y) ∙ e)) (told_is text both.0 (ltb-true 0 _ both.1))
-  | inr n ↦ none_some (ap (λ b. cond b (Some (told text)) None) (sym n) ∙ e)
-]
-  where
-    some_same : {x y : Number} → ◌≡◌ {A = Option Number} (Some x) (Some y) → x ≡ y
-    some_same h = cc
-
-    none_some : {P : Type 0} {y : Number} → ◌≡◌ {A = Option Number} None (Some y) → P
-    none_some h = cc
+number_read text number e = grind (arith, cases_Bool, and_parts, told_is, ltb-true)
 
 -- a white byte, and then the raster
 white_read : (text raster : List ℕ) → behind_white text ≡ Some raster → (b : ℕ) × (white b ≡ true) × (text ≡ b ∷ raster)
-white_read [] raster e = cc
-white_read (b ∷ text) raster e = elim (cases_Bool (white b)) [
-  | inl y ↦ let same : ◌≡◌ {A = Option (List ℕ)} (Some text) (Some raster) = rw y at e in (b, y, ap (λ (t : List ℕ). b ∷ t) (some_same same))
-  | inr n ↦ let other : ◌≡◌ {A = Option (List ℕ)} None (Some raster) = rw n at e in none_some other
-]
-  where
-    some_same : {x y : List ℕ} → ◌≡◌ {A = Option (List ℕ)} (Some x) (Some y) → x ≡ y
-    some_same h = cc
-
-    none_some : {P : Type 0} {y : List ℕ} → ◌≡◌ {A = Option (List ℕ)} None (Some y) → P
-    none_some h = cc
+white_read text raster h1 = grind (arith, cases_Bool)
 
 by_height : (text : List ℕ) (first : Number) (header : Header) → IsNumber text first → (o : Option Number) → number_behind first.rest ≡ o
     → (second : Number) → o ≡ Some second → (raster : List ℕ) → behind_white second.rest ≡ Some raster

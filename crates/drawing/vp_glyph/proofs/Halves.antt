@@ -9,23 +9,14 @@ use Rattle.vp_dots.proofs.Words.{bit_shr}
 use Rattle.vp_glyph.specs.Halves.{half_dot}
 
 or_is : (a b : Bool) → cond b true a ≡ (a || b)
-or_is true true = refl
-or_is true false = refl
-or_is false true = refl
-or_is false false = refl
+or_is a b = grind arith
 
 pub or_half : (v w x : ℕ) → half_dot (bit_or v w) x ≡ (half_dot v x || half_dot w x)
-or_half v w x = elim (cases_lt x 32) [
-  | inl l ↦ rw (lt-ltb x 32 l) (bit_of_or v w (31 - x) ∙ or_is (bit v (31 - x)) (bit w (31 - x)))
-  | inr g ↦ rw (le-ltb x 32 g) refl
-]
+or_half v w x = grind (arith, cases_lt, lt-ltb, bit_of_or, or_is, le-ltb)
 
 pub white_half : (x : ℕ) → half_dot 0 x ≡ false
 unfolding bit
-white_half x = elim (cases_lt x 32) [
-  | inl l ↦ rw (lt-ltb x 32 l) (ap (λ b. eqb b 1) (bit_at-zero (31 - x)))
-  | inr g ↦ rw (le-ltb x 32 g) refl
-]
+white_half x = grind (arith, cases_lt, lt-ltb, bit_at-zero, le-ltb)
 
 -- the left half of a word
 pub half_left : (w x : ℕ) → x < 32 → half_dot (w / 2 ^ 32) x ≡ word_dot w x

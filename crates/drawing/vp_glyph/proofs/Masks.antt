@@ -38,11 +38,7 @@ edges_are n w s x p l = elim (cases_lt x (edge_at n w s)) [
 -- one more mask
 pub mask_more : (w s : ℕ) (masks : List ℕ) (mask from to : ℕ) → s < length masks → s < 12 → from ≡ edge_at 12 w s → to ≡ edge_at 12 w (s + 1) → ((x : ℕ) → word_dot mask x ≡ span from to x)
     → ((r x : ℕ) → r < s → word_dot (get_or masks r 0) x ≡ (ltb x w && eqb (x * 12 / w) r)) → (r x : ℕ) → r < s + 1 → word_dot (get_or (set masks s mask) r 0) x ≡ (ltb x w && eqb (x * 12 / w) r)
-mask_more w s masks mask from to l k e f m h r x b = elim (cases_eq r s) [
-  | inl y ↦ ap (λ i. word_dot (get_or (set masks s mask) i 0) x) y ∙ ap (λ n. word_dot n x) (get_or-set_same masks s mask 0 l) ∙ m x
-      ∙ ap (λ n. span n to x) e ∙ ap (λ n. span (edge_at 12 w s) n x) f ∙ edges_are 12 w s x (omega arith) k ∙ ap (λ i. ltb x w && eqb (x * 12 / w) i) (sym y)
-  | inr n ↦ ap (λ v. word_dot v x) (get_or-set_other masks s r mask 0 n) ∙ h r x (omega arith)
-]
+mask_more w s masks mask from to l k e f m h r x b = grind (arith, cases_eq, get_or-set_same, edges_are, get_or-set_other)
 
 -- no dot yet
 pub stretch_none : (f : ℕ → Bool) (width x : ℕ) → false ≡ (ltb x width && (ltb (x * 12 / width) 0 && f (x * 12 / width)))
@@ -51,10 +47,7 @@ stretch_none f width x = grind (arith, nat_tests)
 -- the dots of a word that fall on the dots of one mask more
 pub stretch_more : (f : ℕ → Bool) (width wide more new s x : ℕ) → word_dot wide x ≡ (ltb x width && (ltb (x * 12 / width) s && f (x * 12 / width)))
     → word_dot more x ≡ (f s && (ltb x width && eqb (x * 12 / width) s)) → new ≡ bit_or wide more → word_dot new x ≡ (ltb x width && (ltb (x * 12 / width) (s + 1) && f (x * 12 / width)))
-stretch_more f width wide more new s x p q e = ap (λ n. word_dot n x) e ∙ or_dot wide more x ∙ rw (p, q) (elim (cases_eq (x * 12 / width) s) [
-  | inl y ↦ (let g : f (x * 12 / width) ≡ f s = ap f y in rw g (grind (arith, nat_tests)))
-  | inr n ↦ grind (arith, nat_tests)
-])
+stretch_more f width wide more new s x p q e = grind (arith, or_dot, cases_eq)
 
 -- all twelve
 pub stretch_all : (f : ℕ → Bool) (width wide s x : ℕ) → 12 ≤ s → word_dot wide x ≡ (ltb x width && (ltb (x * 12 / width) s && f (x * 12 / width))) → word_dot wide x ≡ (ltb x width && f (x * 12 / width))
@@ -76,15 +69,12 @@ shift_more at n f d = elim (met at d) [
 ]
 
 and_assoc : (a b c : Bool) → (a && (b && c)) ≡ (a && b && c)
-and_assoc true b c = refl
-and_assoc false b c = refl
+and_assoc a b c = grind arith
 
 module _ (at at' : ℤ) (glyph : ℕ → Bool) (left width wide : ℕ) (e : at' ≡ at +ℤ pos left) (h : (x : ℕ) → word_dot wide x ≡ (ltb x width && glyph (x * 12 / width))) where
   -- a word from a place on
   pub word_placed : (d : ℕ) → shifted at' (word_dot wide) d ≡ shifted at (ink 12 glyph left width) d
-  word_placed d = ap (λ z. shifted z (word_dot wide) d) e ∙ shift_more at left (word_dot wide) d
-      ∙ shifted_same at (λ x. leb left x && word_dot wide (x - left)) (ink 12 glyph left width) d
-      (λ x _. ap (λ t. leb left x && t) (h (x - left)) ∙ and_assoc (leb left x) (ltb (x - left) width) (glyph ((x - left) * 12 / width)))
+  word_placed d = grind (arith, shift_more, shifted_same, and_assoc)
 
   -- and painted there
   pub word_painted : (op : Op) (a b : List ℕ) → Painted op (shifted at' (word_dot wide)) a b → Painted op (shifted at (ink 12 glyph left width)) a b

@@ -12,44 +12,29 @@ use Rattle.vp_dots.proofs.Shifts.{shifted_none}
 
 -- a quotient by its bounds
 pub quotient : (a w s : ℕ) → 0 < w → s * w ≤ a → a < (s + 1) * w → a / w ≡ s
-quotient a w s p l h =
-    let low : s ≤ a / w = (le-div_iff_mul-le {k = w} {x = s} {y = a} p).1 l in
-    let high : a / w < s + 1 = (div-lt_iff_lt-mul {k = w} {x = a} {y = s + 1} p).1 h in
-    omega arith
+quotient a w s p l h = grind (arith, le-div_iff_mul-le, div-lt_iff_lt-mul)
 
 -- where dot s of n begins, drawn w wide in all
 abbrev pub edge_at : ℕ → ℕ → ℕ → ℕ
 edge_at n w s = (s * w + (n - 1)) / n
 
 pub from_edge : (n w s u : ℕ) → 0 < n → edge_at n w s ≤ u → s * w ≤ u * n
-from_edge n w s u p l =
-    let h : s * w + (n - 1) < (u + 1) * n = (div-lt_iff_lt-mul {k = n} {x = s * w + (n - 1)} {y = u + 1} p).0 (omega arith) in
-    omega arith
+from_edge n w s u p l = grind (arith, div-lt_iff_lt-mul)
 
 pub before_edge : (n w s u : ℕ) → 0 < n → u < edge_at n w s → u * n < s * w
-before_edge n w s u p l =
-    let h : (u + 1) * n ≤ s * w + (n - 1) = (le-div_iff_mul-le {k = n} {x = u + 1} {y = s * w + (n - 1)} p).0 (omega arith) in
-    omega arith
+before_edge n w s u p l = grind (arith, le-div_iff_mul-le)
 
 pub edge_first : (n w : ℕ) → 0 < n → edge_at n w 0 ≡ 0
 edge_first n w p = let h : (0 * w + (n - 1)) / n < 1 = (div-lt_iff_lt-mul {k = n} {x = 0 * w + (n - 1)} {y = 1} p).1 (omega arith) in omega arith
 
 pub edge_more : (n w s : ℕ) → 0 < n → edge_at n w s ≤ edge_at n w (s + 1)
-edge_more n w s p =
-    let m = div-mul-le_self (s * w + (n - 1)) n in
-    (le-div_iff_mul-le {k = n} {x = edge_at n w s} {y = (s + 1) * w + (n - 1)} p).1 (omega (arith, m))
+edge_more n w s p = grind (arith, div-mul-le_self, le-div_iff_mul-le)
 
 pub edge_last : (n w : ℕ) → 0 < n → edge_at n w n ≡ w
-edge_last n w p =
-    let low : w ≤ edge_at n w n = (le-div_iff_mul-le {k = n} {x = w} {y = n * w + (n - 1)} p).1 (omega arith) in
-    let high : edge_at n w n < w + 1 = (div-lt_iff_lt-mul {k = n} {x = n * w + (n - 1)} {y = w + 1} p).1 (omega arith) in
-    omega arith
+edge_last n w p = grind (arith, le-div_iff_mul-le, div-lt_iff_lt-mul)
 
 pub edge_within : (n w s : ℕ) → 0 < n → s ≤ n → edge_at n w s ≤ w
-edge_within n w s p l =
-    let m : s * w ≤ n * w = mul-le-mul_right w l in
-    let high : edge_at n w s < w + 1 = (div-lt_iff_lt-mul {k = n} {x = s * w + (n - 1)} {y = w + 1} p).1 (omega arith) in
-    omega arith
+edge_within n w s p l = grind (arith, mul-le-mul_right, div-lt_iff_lt-mul)
 
 -- n dots from a place on, drawn so wide in all
 abbrev pub ink : ℕ → (ℕ → Bool) → ℕ → ℕ → ℕ → Bool
@@ -77,11 +62,7 @@ module _ (op : Op) (at : ℤ) (f : ℕ → Bool) where
   -- a run without ink
   pub run_blank : (from to : ℕ) (a b : List ℕ) → from ≤ to → Painted op (shifted at (λ x. ltb x from && f x)) a b
       → ((x : ℕ) → from ≤ x → x < to → f x ≡ false) → Painted op (shifted at (λ x. ltb x to && f x)) a b
-  run_blank from to a b l p h = moved_same op at (λ x. ltb x from && f x) (λ x. ltb x to && f x) a b
-      (λ x. elim (cases_lt x from) [
-        | inl y ↦ grind (arith, nat_tests)
-        | inr g ↦ elim (cases_lt x to) [ inl z ↦ rw (h x g z) (grind (arith, nat_tests)) | inr o ↦ grind (arith, nat_tests) ]
-      ]) p
+  run_blank from to a b l p h = grind (arith, moved_same, cases_lt)
 
 module _ (op : Op) (at : ℤ) (n : ℕ) (glyph : ℕ → Bool) (left width : ℕ) where
   -- the dots before s: all before the run is painted, and the run is all ink
@@ -102,16 +83,7 @@ module _ (op : Op) (at : ℤ) (n : ℕ) (glyph : ℕ → Bool) (left width : ℕ
 
     -- a black dot more
     pub running_on : (s from to next : ℕ) (a b : List ℕ) → s < n → Running s from to a b → next ≡ left + edge_at n width (s + 1) → glyph s ≡ true → Running (s + 1) from next a b
-    running_on s from to next a b l r e t =
-        let m = edge_more n width s p in
-        let w = r.edge_is in
-        let g = r.run in
-        record {
-          edge_is = e;
-          run = omega arith;
-          solid = λ x j k. elim (cases_lt x to) [ inl y ↦ r.solid x j y | inr z ↦ ink_is n glyph left width s x p l (omega arith) (omega arith) ∙ t ];
-          painted = r.painted;
-        }
+    running_on s from to next a b l r e t = grind (arith, edge_more, cases_lt, ink_is)
 
     -- a white dot more
     pub running_off : (s from to next : ℕ) (a b c : List ℕ) → s < n → Running s from to a b → Painted op (shifted at (span from to)) b c → next ≡ left + edge_at n width (s + 1) → glyph s ≡ false
