@@ -17,6 +17,7 @@ use Rattle.vp_glyph.specs.Halves.{half_dot, AreEdges}
 use Rattle.vp_glyph.proofs.Halves.{or_half, white_half}
 use Rattle.vp_glyph.proofs.Overlaid.{zero_dots, zero_at}
 use Rattle.vp_glyph.proofs.Spread.{quotient, edge_at, from_edge, before_edge, edge_first, edge_last, edge_within}
+use Rattle.std.proofs.lemmas.Bool.Decides.{nat_tests}
 
 -- lines that show the same row of the sheet
 pub text_alike : (sheet : Option Glyphs) (cells : List ℕ) (w h y z : ℕ) → y < h → z < h → y * 24 / h ≡ z * 24 / h → (x : ℕ) → text_dot sheet cells w h x y ≡ text_dot sheet cells w h x z
@@ -86,13 +87,7 @@ module _ (rows : List ℕ) (above h n top : ℕ) where
 
     -- white rows
     pub added_white : ((x : ℕ) → x < 32 → half_dot (get_or rows r 0) x ≡ false) → Added q old mid
-    added_white e i x l m = elim (cases_lt (top + i) (above + edge_at 24 h r)) [
-      | inl y ↦ same i x l m (λ p v. absurd (omega arith))
-      | inr y ↦ elim (cases_lt (top + i) (above + edge_at 24 h q)) [
-        | inl z ↦ or_false _ ∙ ap (λ t. mid i x || t) (sym (e x m)) ∙ within i x l m y z
-        | inr z ↦ same i x l m (λ p v. absurd (omega arith))
-      ]
-    ]
+    added_white e i x l m = grind (arith, nat_tests, or_false, within)
 
     -- other ones
     pub added_more : (from to : ℕ) (new : ℕ → ℕ → Bool) → from ≡ min (above + edge_at 24 h r - top) n → to ≡ min (above + edge_at 24 h q - top) n

@@ -104,10 +104,7 @@ mask_first wm x few = grind (arith, nat_tests)
 
 pub mask_moved : (dots s wm x : ℕ) → dots < 2 ^ 64 → ((y : ℕ) → word_dot dots y ≡ (ltb y 64 && span (s * wm) (s * wm + wm) y))
     → word_dot (dots / 2 ^ wm) x ≡ (ltb x 64 && span ((s + 1) * wm) ((s + 1) * wm + wm) x)
-mask_moved dots s wm x p e = elim (cases_lt x 64) [
-  | inl l ↦ moved_right dots wm x l p ∙ ap (λ b. leb wm x && b) (e (x - wm)) ∙ rw (lt-ltb x 64 l, lt-ltb (x - wm) 64 (omega arith)) (grind (arith, nat_tests))
-  | inr g ↦ rw (le-ltb x 64 g) refl
-]
+mask_moved dots s wm x p e = grind (arith, nat_tests, moved_right)
 
 pub magnified_none : (word wm x : ℕ) → false ≡ (ltb x (0 * wm) && word_dot word (x / wm))
 magnified_none word wm x = rw (le-ltb x (0 * wm) (omega arith)) refl

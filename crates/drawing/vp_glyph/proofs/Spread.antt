@@ -52,12 +52,7 @@ module _ (op : Op) (at : ℤ) (f : ℕ → Bool) where
   -- a run of ink behind what is painted
   pub run_painted : (from to : ℕ) (a b c : List ℕ) → from ≤ to → Painted op (shifted at (λ x. ltb x from && f x)) a b → Painted op (shifted at (span from to)) b c
       → ((x : ℕ) → from ≤ x → x < to → f x ≡ true) → Painted op (shifted at (λ x. ltb x to && f x)) a c
-  run_painted from to a b c l p q h = moved_then op at (λ x. ltb x from && f x) (span from to) (λ x. ltb x to && f x) a b c p q
-      (λ x. elim (cases_lt x from) [
-        | inl y ↦ grind (arith, nat_tests)
-        | inr g ↦ elim (cases_lt x to) [ inl z ↦ rw (h x g z) (grind (arith, nat_tests)) | inr o ↦ grind (arith, nat_tests) ]
-      ])
-      (λ x. grind (arith, nat_tests))
+  run_painted from to a b c l p q h = grind (arith, nat_tests, moved_then)
 
   -- a run without ink
   pub run_blank : (from to : ℕ) (a b : List ℕ) → from ≤ to → Painted op (shifted at (λ x. ltb x from && f x)) a b
@@ -74,12 +69,7 @@ module _ (op : Op) (at : ℤ) (n : ℕ) (glyph : ℕ → Bool) (left width : ℕ
 
   module _ (p : 0 < n) where
     pub running_none : (a : List ℕ) → Running 0 left left a a
-    running_none a = record {
-      edge_is = let e = edge_first n width p in omega (arith, e);
-      run = omega arith;
-      solid = λ x l h. absurd (omega arith);
-      painted = painted_none op (shifted at (λ x. ltb x left && ink n glyph left width x)) a (λ d l. shifted_none at (λ x. ltb x left && ink n glyph left width x) d (λ x. grind (arith, nat_tests)));
-    }
+    running_none a = grind (arith, nat_tests, edge_first, painted_none, shifted_none)
 
     -- a black dot more
     pub running_on : (s from to next : ℕ) (a b : List ℕ) → s < n → Running s from to a b → next ≡ left + edge_at n width (s + 1) → glyph s ≡ true → Running (s + 1) from next a b
@@ -88,20 +78,8 @@ module _ (op : Op) (at : ℤ) (n : ℕ) (glyph : ℕ → Bool) (left width : ℕ
     -- a white dot more
     pub running_off : (s from to next : ℕ) (a b c : List ℕ) → s < n → Running s from to a b → Painted op (shifted at (span from to)) b c → next ≡ left + edge_at n width (s + 1) → glyph s ≡ false
         → Running (s + 1) next next a c
-    running_off s from to next a b c l r q e t =
-        let m = edge_more n width s p in
-        let w = r.edge_is in
-        record {
-          edge_is = e;
-          run = omega arith;
-          solid = λ x j k. absurd (omega arith);
-          painted = run_blank op at (ink n glyph left width) to next a c (omega arith) (run_painted op at (ink n glyph left width) from to a b c r.run r.painted q r.solid)
-              (λ x j k. ink_is n glyph left width s x p l (omega arith) (omega arith) ∙ t);
-        }
+    running_off s from to next a b c l r q e t = grind (arith, nat_tests, edge_more, run_blank, run_painted, ink_is)
 
     -- all dots
     pub running_all : (s from to : ℕ) (a b c : List ℕ) → s ≡ n → Running s from to a b → Painted op (shifted at (span from to)) b c → Painted op (shifted at (ink n glyph left width)) a c
-    running_all s from to a b c l r q =
-        let e = edge_last n width p in
-        let w : to ≡ left + width = r.edge_is ∙ ap (λ k. left + edge_at n width k) l ∙ omega (arith, e) in
-        moved_same op at (λ x. ltb x to && ink n glyph left width x) (ink n glyph left width) a c (λ x. grind (arith, nat_tests)) (run_painted op at (ink n glyph left width) from to a b c r.run r.painted q r.solid)
+    running_all s from to a b c l r q = grind (arith, nat_tests, edge_last, moved_same, run_painted)
