@@ -1,5 +1,5 @@
 -- Lines, one after the other.
-use Rattle.std.proofs.Common.{◌≡◌, ℕ, zero, suc, ◌+◌, ◌<◌, ◌≤◌, List, [], ◌∷◌, ◌++◌, false, length, take, drop, ◌⊎◌, get_or, eqb, cond, refl, sym, ap, ◌∙◌, arith, length-drop, inl, inr, eq-eqb, Bor, Option, Some, None, MatchOption}
+use Rattle.std.proofs.Common.{◌≡◌, ℕ, zero, suc, ◌+◌, ◌<◌, ◌≤◌, List, [], ◌∷◌, ◌++◌, false, length, take, drop, ◌⊎◌, get_or, eqb, cond, refl, sym, ap, ◌∙◌, arith, length-drop, inl, inr, eq-eqb, Bor, Option, MatchOption}
 use Rattle.std.proofs.lemmas.List.{take_all, length-take-le, drop_more, take-append-drop, append-nil}
 use Rattle.std.proofs.lemmas.List.Elements.{All-nil}
 use Rattle.std.proofs.lemmas.Bool.{cases_eq, cases_lt, le-leb, lt-leb, ne_eqb}

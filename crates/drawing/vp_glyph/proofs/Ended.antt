@@ -1,11 +1,11 @@
 -- How many lines end above a row, and how many pieces they have.
-use Rattle.std.proofs.Common.{inl, inr, ◌⊎◌, ◌≡◌, ℕ, zero, suc, ◌+◌, ◌-◌, ◌*◌, ◌/◌, ◌^◌, ◌<◌, ◌≤◌, min, List, [], ◌∷◌, length, take, drop, Option, MatchOption, Bor, refl, sym, ap, ◌∙◌, arith}
+use Rattle.std.proofs.Common.{inl, inr, ◌⊎◌, ◌≡◌, ℕ, zero, suc, ◌+◌, ◌-◌, ◌*◌, ◌/◌, ◌^◌, ◌<◌, ◌≤◌, min, List, [], ◌∷◌, length, take, drop, Option, MatchOption, Bor, refl, ap, arith}
 use Rattle.std.proofs.Math.Nat.{mul-le-mul_right}
 use Rattle.std.proofs.lemmas.Bool.{cases_lt, cases_eq, le-leb, lt-leb}
 use Rattle.std.proofs.lemmas.List.{length-take-le}
 use Rattle.vp_glyph.specs.Blocks.{BlockLayout, pieces, first, block_lines}
 use Rattle.vp_glyph.specs.Above.{pieces_of, above_of, lines_above, pieces_above}
-use Rattle.vp_glyph.proofs.Stacks.{lines_are, lines_left}
+use Rattle.vp_glyph.proofs.Stacks.{lines_are}
 
 above_most : (b : BlockLayout) (n y : ℕ) → above_of b n y ≤ n
 above_most b zero y = omega arith

@@ -1,5 +1,5 @@
 -- How many pieces the lines of a text have.
-use Rattle.std.proofs.Common.{inl, inr, ◌≡◌, ℕ, ◌+◌, ◌-◌, ◌*◌, ◌<◌, ◌≤◌, List, [], ◌∷◌, Bool, true, false, cond, ◌&&◌, eqb, length, replicate, drop, Option, None, Some, MatchOption, Bor, refl, sym, ap, ◌∙◌, arith, length-drop, ◌/◌, ℤ, pos, ◌+ℤ◌, leb, take}
+use Rattle.std.proofs.Common.{inl, inr, ◌≡◌, ℕ, ◌+◌, ◌-◌, ◌*◌, ◌<◌, ◌≤◌, List, [], ◌∷◌, Bool, true, false, ◌&&◌, length, replicate, drop, Option, None, Some, MatchOption, Bor, refl, sym, ap, ◌∙◌, arith, length-drop, ◌/◌, ℤ, pos, ◌+ℤ◌, leb, take}
 use Rattle.std.proofs.Math.Nat.{div-lt_iff_lt-mul, mul-le-mul_right}
 use Rattle.std.proofs.lemmas.Bool.{cases_eq, cases_lt, false_from_ne_true, le-leb, and_parts, leb-true}
 use Rattle.std.proofs.lemmas.List.{length-replicate, length-take-le}

@@ -1,5 +1,5 @@
 -- Lines over each other, as rows of the sheet.
-use Rattle.std.proofs.Common.{inl, inr, ◌≡◌, ℕ, suc, ◌+◌, ◌-◌, ◌*◌, ◌/◌, ◌%◌, ◌<◌, ◌≤◌, min, Bool, true, false, ltb, leb, ◌&&◌, ◌||◌, ◌⊎◌, get_or, length, take, replicate, refl, sym, ap, ◌∙◌, arith, List, [], ◌∷◌, Option, None, Some, MatchOption, Bor, ℤ}
+use Rattle.std.proofs.Common.{inl, inr, ◌≡◌, ℕ, suc, ◌+◌, ◌-◌, ◌*◌, ◌/◌, ◌<◌, ◌≤◌, min, Bool, true, false, ltb, leb, ◌&&◌, ◌||◌, ◌⊎◌, get_or, length, take, replicate, refl, sym, ap, ◌∙◌, arith, List, [], ◌∷◌, Option, None, Some, MatchOption, Bor, ℤ}
 use Rattle.std.specs.List.{All}
 use Rattle.std.proofs.Math.Nat.{div-lt_iff_lt-mul, le-div_iff_mul-le}
 use Rattle.std.proofs.Math.Seq.{take-length}
@@ -11,7 +11,7 @@ use Rattle.vp_dots.proofs.Shifts.{shifted_none, shifted_same, shifted_or}
 use Rattle.vp_glyph.specs.Halves.{half_dot}
 use Rattle.vp_glyph.specs.Sheets.{Glyphs, sheet_dot}
 use Rattle.vp_glyph.specs.Texts.{sampled_dot, text_dot}
-use Rattle.vp_glyph.specs.Blocks.{pieces, first, indent, line_dot, lines_dot, block_lines, block_width, block_height, block_dot}
+use Rattle.vp_glyph.specs.Blocks.{pieces, first, indent, line_dot, lines_dot, block_lines, block_height, block_dot}
 use Rattle.vp_glyph.specs.Layouts.{AreRowsOf}
 use Rattle.vp_glyph.specs.declared.block.Alignment.{Alignment}
 use Rattle.vp_glyph.proofs.Breaking.{block_few}

@@ -1,5 +1,5 @@
 -- Dots drawn at another width, as words.
-use Rattle.std.proofs.Common.{inl, inr, ◌≡◌, ℕ, ◌+◌, ◌-◌, ◌*◌, ◌/◌, ◌<◌, ◌≤◌, Bool, true, false, eqb, ltb, leb, ◌&&◌, get_or, set, length, eq-eqb, refl, sym, ap, ◌∙◌, arith, List, ℤ, pos, ◌+ℤ◌, bit_or}
+use Rattle.std.proofs.Common.{inl, inr, ◌≡◌, ℕ, ◌+◌, ◌-◌, ◌*◌, ◌/◌, ◌<◌, ◌≤◌, Bool, false, eqb, ltb, leb, ◌&&◌, get_or, set, length, eq-eqb, refl, sym, ◌∙◌, arith, List, ℤ, pos, ◌+ℤ◌, bit_or}
 use Rattle.std.proofs.Math.Nat.{div-lt_iff_lt-mul, le-div_iff_mul-le}
 use Rattle.std.proofs.lemmas.List.{get_or-set_same, get_or-set_other}
 use Rattle.std.proofs.lemmas.Bool.{cases_lt, cases_eq, ne_eqb, lt-ltb, le-ltb, lt-leb, le-leb}

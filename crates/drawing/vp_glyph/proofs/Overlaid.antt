@@ -9,15 +9,14 @@ use Rattle.vp_dots.proofs.Rows.{dot_past}
 use Rattle.vp_dots.specs.Dots.{bit, dot, dots, shifted}
 use Rattle.vp_dots.specs.Painting.{paint, Painted}
 use Rattle.vp_dots.specs.declared.Op.{Op}
-use Rattle.vp_dots.specs.declared.Op.TheVariants.{Black, White, Flip}
+use Rattle.vp_dots.specs.declared.Op.TheVariants.{Black, Flip}
 use Rattle.vp_dots.proofs.Moves.{moved_same}
 use Rattle.vp_dots.proofs.Shifts.{shifted_or}
 use Rattle.vp_glyph.specs.Sheets.{Glyphs}
 use Rattle.vp_glyph.specs.Texts.{text_dot, text_inside}
-use Rattle.vp_glyph.specs.Blocks.{pieces, first, indent, block_lines, line_dot, lines_dot, block_width, block_height, block_dot, block_inside}
+use Rattle.vp_glyph.specs.Blocks.{pieces, first, indent, block_lines, line_dot, lines_dot, block_height, block_dot, block_inside}
 use Rattle.vp_glyph.proofs.Layouts.{layout}
 use Rattle.vp_glyph.specs.declared.block.Alignment.{Alignment}
-use Rattle.vp_glyph.specs.declared.block.Alignment.TheVariants.{Left, Centre, Right}
 use Rattle.vp_glyph.proofs.Drawn.{moved_none}
 use Rattle.vp_glyph.proofs.Stacks.{lines_left, lines_are, line_above, block_past, block_within}
 

@@ -1,5 +1,5 @@
 -- Rows of a band that show the rows of a sheet.
-use Rattle.std.proofs.Common.{inl, inr, ◌≡◌, ℕ, ◌+◌, ◌-◌, ◌*◌, ◌/◌, ◌<◌, ◌≤◌, min, Bool, true, false, ltb, leb, ◌&&◌, ◌||◌, length, take, replicate, refl, sym, ap, ◌∙◌, arith, List, [], ◌∷◌, Option, Some, MatchOption, Bor, ℤ}
+use Rattle.std.proofs.Common.{inl, inr, ◌≡◌, ℕ, ◌+◌, ◌-◌, ◌*◌, ◌/◌, ◌<◌, ◌≤◌, min, Bool, false, ltb, leb, ◌&&◌, ◌||◌, length, take, replicate, refl, sym, ap, ◌∙◌, arith, List, [], ◌∷◌, Option, Some, MatchOption, Bor, ℤ}
 use Rattle.std.proofs.lemmas.Bool.{cases_lt, lt-ltb, le-ltb, le-leb, lt-leb}
 use Rattle.std.proofs.lemmas.List.{length-replicate}
 use Rattle.vp_dots.specs.Dots.{dot, shifted, span}
