@@ -66,7 +66,7 @@ module _ (rows : List ℕ) (above h n top : ℕ) where
   shown_row r q y x k a l m = grind (arith, edge_within, row_alike, cases_lt, edge_upto, le-leb, lt-ltb)
 
   pub added_none : (old : ℕ → ℕ → Bool) → Added 0 old old
-  added_none old i x l m = grind (arith, edge_first, cases_lt, shown_above, and_false, le-ltb, or_false)
+  added_none old i x l m = grind (arith, edge_first, cases_lt, shown_above, le-ltb)
 
   module _ (r q : ℕ) (old mid : ℕ → ℕ → Bool) (k : q ≤ 24) (j : r < q) (a : (p : ℕ) → r ≤ p → p < q → get_or rows p 0 ≡ get_or rows r 0) (o : Added r old mid) where
     -- where none of the rows is shown
@@ -87,7 +87,7 @@ module _ (rows : List ℕ) (above h n top : ℕ) where
 
     -- white rows
     pub added_white : ((x : ℕ) → x < 32 → half_dot (get_or rows r 0) x ≡ false) → Added q old mid
-    added_white e i x l m = grind (arith, nat_tests, or_false, within)
+    added_white e i x l m = grind (arith, nat_tests, within)
 
     -- other ones
     pub added_more : (from to : ℕ) (new : ℕ → ℕ → Bool) → from ≡ min (above + edge_at 24 h r - top) n → to ≡ min (above + edge_at 24 h q - top) n
@@ -111,7 +111,7 @@ module _ (rows : List ℕ) (above h n top : ℕ) where
 
   -- all rows
   pub added_all : (r : ℕ) (old new : ℕ → ℕ → Bool) → r ≡ 24 → Added r old new → (i x : ℕ) → i < n → x < 32 → new i x ≡ (old i x || shown rows above h (top + i) x)
-  added_all r old new z o i x l m = grind (arith, edge_last, cases_lt, lt-ltb, shown_below, and_false)
+  added_all r old new z o i x l m = grind (arith, edge_last, cases_lt, lt-ltb, shown_below)
 
 -- rows to which dots are added, those before s
 module _ (f : ℕ → ℕ → Bool) where
@@ -119,7 +119,7 @@ module _ (f : ℕ → ℕ → Bool) where
   Grown s old new = (r d : ℕ) → r < 24 → d < 32 → half_dot (get_or new r 0) d ≡ (half_dot (get_or old r 0) d || ltb r s && f r d)
 
   pub grown_more : (s word : ℕ) (old mid : List ℕ) → s < length mid → ((d : ℕ) → d < 32 → half_dot word d ≡ f s d) → Grown s old mid → Grown (s + 1) old (set mid s (bit_or (get_or mid s 0) word))
-  grown_more s word old mid k h o r d l m = grind (arith, cases_eq, get_or-set_same, le-ltb, or_false, lt-ltb, or_half, cases_lt, get_or-set_other)
+  grown_more s word old mid k h o r d l m = grind (arith, cases_eq, get_or-set_same, le-ltb, lt-ltb, or_half, cases_lt, get_or-set_other)
 
   pub grown_all : (s : ℕ) (old new : List ℕ) → s ≡ 24 → Grown s old new → (r d : ℕ) → r < 24 → d < 32 → half_dot (get_or new r 0) d ≡ (half_dot (get_or old r 0) d || f r d)
   grown_all s old new e o r d l m = o r d l m ∙ ap (λ t. half_dot (get_or old r 0) d || t && f r d) (lt-ltb r s (omega arith))
@@ -145,7 +145,7 @@ twice_ink a b = grind arith
 
 -- the halves from one on, of which those up to another were blackened, and then those from before it on
 pub blackened_on : (ink a b c d : ℕ) (old mid new : List ℕ) → a ≤ c → c ≤ b → b ≤ d → Blackened ink a b old mid → Blackened ink c d mid new → Blackened ink a d old new
-blackened_on ink a b c d old mid new l m n p q = grind (arith, cases_lt, lt-leb, twice_ink, le-leb, le-ltb, lt-ltb)
+blackened_on ink a b c d old mid new l m n p q = grind (arith, cases_lt, lt-leb, le-leb, le-ltb, lt-ltb)
 
 -- the fronts before row 16 k with what their groups have
 abbrev pub Settled : List ℕ → ℕ → ℕ → List ℕ → List ℕ → Type 0
@@ -160,12 +160,12 @@ module _ (groups : List ℕ) (n : ℕ) where
     elsewhere i x l m g = grind (arith, cases_lt, lt-ltb, le-ltb)
 
     pub settled_white : get_or groups k 0 ≡ 0 → Settled groups n (k + 1) old mid
-    settled_white e i x l m = grind (arith, cases_eq, white_half, and_false, elsewhere)
+    settled_white e i x l m = grind (arith, cases_eq, white_half, elsewhere)
 
     pub settled_more : (from to : ℕ) (new : List ℕ) → from ≡ min (16 * k) n → to ≡ min (16 * (k + 1)) n
         → ((i x : ℕ) → from ≤ i → i < to → half_dot (get_or new i 0) x ≡ (half_dot (get_or mid i 0) x || half_dot (get_or groups k 0) x))
         → ((i : ℕ) → span from to i ≡ false → get_or new i 0 ≡ get_or mid i 0) → Settled groups n (k + 1) old new
-    settled_more from to new e f g u i x l m = grind (arith, cases_eq, le-ltb, or_false, lt-ltb, cases_lt, lt-leb, le-leb, elsewhere)
+    settled_more from to new e f g u i x l m = grind (arith, cases_eq, le-ltb, lt-ltb, cases_lt, lt-leb, le-leb, elsewhere)
 
   -- all groups
   pub settled_all : (k : ℕ) (old new : List ℕ) → length groups ≤ k → Settled groups n k old new → (i x : ℕ) → i < n → x < 32
@@ -174,7 +174,7 @@ module _ (groups : List ℕ) (n : ℕ) where
 
 -- what was blackened, at any place
 pub black_is : (ink from to i x : ℕ) (old new : List ℕ) → Blackened ink from to old new → half_dot (get_or new i 0) x ≡ (half_dot (get_or old i 0) x || span from to i && half_dot ink x)
-black_is ink from to i x old new p = grind (arith, cases_lt, lt-leb, or_false, le-leb, lt-ltb, le-ltb)
+black_is ink from to i x old new p = grind (arith, cases_lt, lt-leb, le-leb, lt-ltb, le-ltb)
 
 -- the ends of many fronts and the groups among them are all of them
 ends_all : (from to first last i : ℕ) → from + 48 ≤ to → first ≡ from / 16 + 1 → last ≡ to / 16 → (span from (from + 16) i || span (to - 16) to i || span first last (i / 16)) ≡ span from to i

@@ -12,7 +12,7 @@ or_is : (a b : Bool) → cond b true a ≡ (a || b)
 or_is a b = grind arith
 
 pub or_half : (v w x : ℕ) → half_dot (bit_or v w) x ≡ (half_dot v x || half_dot w x)
-or_half v w x = grind (arith, cases_lt, lt-ltb, bit_of_or, or_is, le-ltb)
+or_half v w x = grind (arith, cases_lt, lt-ltb, bit_of_or, le-ltb)
 
 pub white_half : (x : ℕ) → half_dot 0 x ≡ false
 unfolding bit

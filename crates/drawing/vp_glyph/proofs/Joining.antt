@@ -50,7 +50,7 @@ module _ (sheet : Option Glyphs) (w h a b s : ℕ) (d : Alignment) where
   -- a row of a text shows one of the sheet
   text_rows : (cells : List ℕ) (u v : ℕ) → text_dot sheet cells w h u v ≡ (ltb v h && text_dot sheet cells w 24 u (v * 24 / h))
   unfolding text_dot sampled_dot
-  text_rows cells u v = grind (arith, cases_lt, div-lt_iff_lt-mul, lt-ltb, le-ltb, none_and)
+  text_rows cells u v = grind (arith, cases_lt, div-lt_iff_lt-mul, lt-ltb, le-ltb)
 
   first_rows : (line : List ℕ) (x r : ℕ) → (leb (indent d (a - w * length line)) x && text_dot sheet line w 24 (x - indent d (a - w * length line)) r) ≡ line_dot (layout sheet w 24 a 1 0 d) 0 line x r
   first_rows line x r = grind (arith, le-leb)
@@ -58,7 +58,7 @@ module _ (sheet : Option Glyphs) (w h a b s : ℕ) (d : Alignment) where
   -- and so does a row of a line
   pub line_rows : (place : ℕ) (line : List ℕ) (x y : ℕ) → line_dot (layout sheet w h a b s d) place line x y
       ≡ (leb (place * s) y && ltb (y - place * s) h && line_dot (layout sheet w 24 a 1 0 d) 0 line x ((y - place * s) * 24 / h))
-  line_rows place line x y = grind (arith, text_rows, into, first_rows)
+  line_rows place line x y = grind (arith, text_rows, first_rows)
 
   line_top : (place t : ℕ) (line : List ℕ) (x y : ℕ) → place * s ≡ t → line_dot (layout sheet w h a b s d) place line x y
       ≡ (leb t y && ltb (y - t) h && line_dot (layout sheet w 24 a 1 0 d) 0 line x ((y - t) * 24 / h))
@@ -118,7 +118,7 @@ module _ (sheet : Option Glyphs) (w h a b s : ℕ) (d : Alignment) where
   -- one without cells has none
   no_cells : (x r : ℕ) → line_dot (layout sheet w 24 a 1 0 d) 0 [] x r ≡ false
   unfolding text_dot
-  no_cells x r = grind (arith, le-ltb, and_false)
+  no_cells x r = grind (arith, le-ltb)
 
   pub rows_none : (at : ℤ) (rows : List ℕ) → rows ≡ replicate {A = ℕ} 24 0 → AreRowsOf (layout sheet w h a b s d) at [] rows
   rows_none at rows e r x l m =
@@ -131,7 +131,7 @@ module _ (sheet : Option Glyphs) (w h a b s : ℕ) (d : Alignment) where
       → MatchOption next (block_lines n text.now ≡ take k (first (pieces text.now)) ∷ []) (λ q. block_lines n text.now ≡ take k (first (pieces text.now)) ∷ block_lines n q.now)
       → new ≡ (old || shifted at (λ v. line_dot (layout sheet w 24 a 1 0 d) 0 (take k (first (pieces lent))) v r) x)
       → all ≡ (new || shifted at (λ v. lines_dot (layout sheet w 24 a 1 0 d) 0 (lines_left n next) v r) x)
-  joined_more at n k r x old new left next text lent all p e m o q = grind (arith, lines_are, shifted_or, or_assoc)
+  joined_more at n k r x old new left next text lent all p e m o q = grind (arith, lines_are, shifted_or)
 
   -- no line yet
   pub joined_none : (r x : ℕ) (all : Bool) → all ≡ (half_dot (get_or (replicate {A = ℕ} 24 0) r 0) x || all)
@@ -140,7 +140,7 @@ module _ (sheet : Option Glyphs) (w h a b s : ℕ) (d : Alignment) where
   -- all lines
   pub joined_all : (at : ℤ) (n r x : ℕ) (new : Bool) (left : Option (Bor (List ℕ))) (all : Bool) → all ≡ (new || shifted at (λ v. lines_dot (layout sheet w 24 a 1 0 d) 0 (lines_left n left) v r) x)
       → left ≡ None → new ≡ all
-  joined_all at n r x new left all p e = grind (arith, shifted_none, or_false)
+  joined_all at n r x new left all p e = grind (arith, shifted_none)
 
   -- all lines stand in the block
   lines_inside : (x y place : ℕ) (all : List (List ℕ)) → All (λ line. length line ≤ a / w) all → lines_dot (layout sheet w h a b s d) place all x y ≡ true → x < a

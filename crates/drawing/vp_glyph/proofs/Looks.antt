@@ -23,7 +23,7 @@ pub and_dot : (v w x : ℕ) → word_dot (bit_and v w) x ≡ (word_dot v x && wo
 and_dot v w x = grind (arith, cases_lt, lt-ltb, bit_of_and, le-ltb)
 
 pub or_dot : (v w x : ℕ) → word_dot (bit_or v w) x ≡ (word_dot v x || word_dot w x)
-or_dot v w x = grind (arith, cases_lt, lt-ltb, bit_of_or, or_is, le-ltb)
+or_dot v w x = grind (arith, cases_lt, lt-ltb, bit_of_or, le-ltb)
 
 pub white_dot : (x : ℕ) → word_dot 0 x ≡ false
 unfolding bit

@@ -82,7 +82,7 @@ module _ (op : Op) (at : ℤ) (sheet : Option Glyphs) (cells : List ℕ) (k w h 
 
     -- one cell more
     pub more : (x : ℕ) → so_far sheet (take k cells) w h left y (i + 1) x ≡ (so_far sheet (take k cells) w h left y i x || leb place x && sampled_dot sheet b w h (x - place) y)
-    more x = grind (arith, cases_lt, lt-leb, or_false, from_cell, le-leb, not_yet)
+    more x = grind (arith, cases_lt, lt-leb, from_cell, le-leb, not_yet)
 
     pub side_more : (a c d : List ℕ) → Painted op (shifted at (so_far sheet (take k cells) w h left y i)) a c
         → Painted op (shifted at (λ x. leb place x && sampled_dot sheet b w h (x - place) y)) c d → Painted op (shifted at (so_far sheet (take k cells) w h left y (i + 1))) a d
@@ -109,7 +109,7 @@ module _ (op : Op) (at : ℤ) (sheet : Option Glyphs) (cells : List ℕ) (k w h 
   module _ (i : ℕ) (n : (x d : ℕ) → left ≤ x → x < left + w * i → pos d ≡ at +ℤ pos x → d < 0) where
     -- left of the row's first dot there is nothing
     none : (d : ℕ) → shifted at (so_far sheet (take k cells) w h left y i) d ≡ false
-    none d = grind (arith, met, cases_lt, lt-leb, le-ltb, and_false)
+    none d = grind (arith, met, cases_lt, lt-leb, le-ltb)
 
     pub side_none : (row : List ℕ) → Painted op (shifted at (so_far sheet (take k cells) w h left y i)) row row
     side_none row = painted_none op (shifted at (so_far sheet (take k cells) w h left y i)) row (λ d l. none d)
