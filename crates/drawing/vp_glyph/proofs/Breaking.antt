@@ -9,14 +9,14 @@ use Rattle.vp_glyph.specs.Blocks.{pieces, first, others, last_blank, line_length
 
 pub last_blank_within : (n : ℕ) (cells : List ℕ) → last_blank n cells ≤ n
 last_blank_within zero cells = omega arith
-last_blank_within (suc n) cells = grind (arith, cases_eq, eq-eqb, ne_eqb, last_blank_within n cells)
+last_blank_within (suc n) cells = grind (arith, last_blank_within n cells)
 
 -- at least one cell stands in a line
 pub behind_shorter : (n : ℕ) (cells : List ℕ) → 0 < n → n < length cells → length (behind_line n cells) < length cells
-behind_shorter n cells p l = grind (arith, cases_eq, eq-eqb, length-drop, ne_eqb)
+behind_shorter n cells p l = grind (arith, length-drop)
 
 pub upto_short : (k n : ℕ) (cells : List ℕ) → length cells ≤ n → lines_upto k n cells ≡ cells ∷ []
-upto_short k n cells h1 = grind (arith, le-leb)
+upto_short k n cells h1 = grind arith
 
 -- as many lines as there are cells are enough
 pub upto_same : (m k n : ℕ) (cells : List ℕ) → 0 < n → length cells ≤ m → length cells ≤ k → lines_upto m n cells ≡ lines_upto k n cells
@@ -37,7 +37,7 @@ block_short n k text l e = grind (arith, take_all, upto_short)
 pub block_long : (n : ℕ) (text : List ℕ) → 0 < n → n < length (first (pieces text))
     → block_lines n text ≡ take (line_length n (first (pieces text))) (first (pieces text)) ∷ (cond (eqb (length (behind_line n (first (pieces text)))) 0) [] (lines n (behind_line n (first (pieces text)))) ++ flat_map (lines n) (others (pieces text)))
 unfolding block_lines
-block_long n text p l = grind (arith, behind_shorter, upto_same, lt-leb)
+block_long n text p l = grind (arith, behind_shorter, upto_same)
 
 -- what is left of a paragraph is the front of the rest
 rest_is : (n : ℕ) (b : List ℕ) (o : List (List ℕ)) (rest : List ℕ) → first (pieces rest) ≡ b → others (pieces rest) ≡ o → 0 < length b → cond (eqb (length b) 0) [] (lines n b) ++ flat_map (lines n) o ≡ block_lines n rest
@@ -52,7 +52,7 @@ module _ (n : ℕ) (text rest : List ℕ) (p : 0 < n) (l : n < length (first (pi
   -- a line of n cells
   pub cut_hard : last_blank n (first (pieces text)) ≡ 0 → first (pieces rest) ≡ drop n (first (pieces text)) → others (pieces rest) ≡ others (pieces text)
       → block_lines n text ≡ take n (first (pieces text)) ∷ block_lines n rest
-  cut_hard z e o = grind (arith, block_long, length-drop, eq-eqb, rest_is)
+  cut_hard z e o = grind (arith, block_long, length-drop, rest_is)
 
   module _ (q : ℕ) (z : last_blank n (first (pieces text)) ≡ q) (s : 0 < q) where
     at_blank : block_lines n text ≡ take q (first (pieces text)) ∷ (cond (eqb (length (drop (q + 1) (first (pieces text)))) 0) [] (lines n (drop (q + 1) (first (pieces text)))) ++ flat_map (lines n) (others (pieces text)))
@@ -84,7 +84,7 @@ last_blank_is (suc n) cells h = elim (cases_eq (get_or cells (suc n) 0) 32) [
 
 -- at most n cells stand in a line
 line_within : (n : ℕ) (cells : List ℕ) → line_length n cells ≤ n
-line_within n cells = grind (arith, cases_eq, eq-eqb, ne_eqb, last_blank_within)
+line_within n cells = grind (arith, last_blank_within)
 
 -- a line and what is behind it are the cells, but for the blank
 line_stands : (n : ℕ) (cells : List ℕ) → n < length cells

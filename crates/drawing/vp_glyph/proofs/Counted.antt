@@ -14,7 +14,7 @@ use Rattle.vp_glyph.proofs.Stacks.{line_above}
 
 upto_many : (m n : ℕ) (cells : List ℕ) → length (lines_upto m n cells) ≤ m + 1
 upto_many zero n cells = omega arith
-upto_many (suc m) n cells = grind (arith, cases_lt, lt-leb, cases_eq, eq-eqb, ne_eqb, le-leb, upto_many m n (behind_line n cells))
+upto_many (suc m) n cells = grind (arith, upto_many m n (behind_line n cells))
 
 -- a place for each cell of some paragraphs, and one more for each of them
 abbrev room : List (List ℕ) → ℕ

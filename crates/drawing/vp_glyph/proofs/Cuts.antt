@@ -19,7 +19,7 @@ and_white t h1 = grind arith
 pub row_in_cell : (sheet : Glyphs) (c x y from word keep cut : ℕ) → sheet.wide ≤ 64 → y < sheet.high → from ≡ 16 * sheet.wide * (sheet.high * (c / 16) + y) + sheet.wide * (c % 16)
     → (x < 64 → word_dot word x ≡ dot sheet.raster (from + x)) → word_dot keep x ≡ ltb x sheet.wide → word_dot cut x ≡ (word_dot word x && word_dot keep x) → word_dot cut x ≡ glyph_dot sheet c x y
 unfolding glyph_dot
-row_in_cell sheet c x y from word keep cut w l f a k e = grind (arith, cases_lt, lt-ltb, le-ltb, and_white)
+row_in_cell sheet c x y from word keep cut w l f a k e = grind (arith, and_white)
 
 -- the rows of one cell
 pub rows_are : (sheet : Glyphs) (rows : List ℕ) (c x y first n : ℕ) → IsCut sheet rows → c < 256 → first ≡ sheet.high * c → n ≡ sheet.high → word_dot (get_or (take n (drop first rows)) y 0) x ≡ glyph_dot sheet c x y
@@ -43,12 +43,12 @@ rows_are sheet rows c x y first n cut l f m = elim (cases_lt y sheet.high) [
 -- the rows of a cell from the first on that has ink to the last
 pub inked_dot : (rows : List ℕ) (inked : Inked) (x y : ℕ) → IsInked rows inked
     → (leb inked.first y && word_dot (get_or (take (inked.below - inked.first) (drop inked.first rows)) (y - inked.first) 0) x) ≡ word_dot (get_or rows y 0) x
-inked_dot rows inked x y is = grind (arith, cases_lt, lt-leb, white_dot, le-leb, get_or-take, get_or-drop, get_or_past, length-take, le-ltb)
+inked_dot rows inked x y is = grind (arith, white_dot, get_or-take, get_or-drop, get_or_past, length-take)
 
 -- no dot stands outside a cell
 pub glyph_inside : (sheet : Glyphs) (c x y : ℕ) → glyph_dot sheet c x y ≡ true → (x < sheet.wide) × (y < sheet.high)
 unfolding glyph_dot
-glyph_inside sheet c x y e = grind (arith, and_parts, ltb-true)
+glyph_inside sheet c x y e = grind (arith, and_parts)
 
 -- what stands ready of a cell
 pub ready_of : (sheet : Glyphs) (rows : List ℕ) (c w h first n : ℕ) (inked : Inked) → IsCut sheet rows → c < 256 → first ≡ sheet.high * c → n ≡ sheet.high → sheet.wide ≤ w → sheet.high ≤ h

@@ -9,7 +9,7 @@ use Rattle.vp_glyph.proofs.Stacks.{lines_are}
 
 above_most : (b : BlockLayout) (n y : ℕ) → above_of b n y ≤ n
 above_most b zero y = omega arith
-above_most b (suc n) y = grind (arith, cases_lt, lt-leb, le-leb, above_most b n y)
+above_most b (suc n) y = grind (arith, above_most b n y)
 
 -- no line from the p-th on ends above the row
 pub above_upto : (b : BlockLayout) (p n y : ℕ) → p ≤ n → (p ≡ n) ⊎ (y < p * b.pitch + b.h) → above_of b n y ≤ p
@@ -70,7 +70,7 @@ pieces_all (suc k) (suc n) (x ∷ xs) line e l = ap (λ (r : List (List ℕ)). x
 
 -- as many as end above the row are passed
 pub pieces_same : (p k n : ℕ) (all : List (List ℕ)) → p ≤ k → n ≤ k → (p < k → k ≤ n) → pieces_of (drop p (take k all)) ≡ pieces_of (drop p (take n all))
-pieces_same p k n all f m l = grind (arith, cases_lt, pieces_none)
+pieces_same p k n all f m l = grind (arith, pieces_none)
 
 -- the line at the front of what is left is counted
 pub line_counted : (p k begun walked new cells n : ℕ) (text rest : List ℕ) (next : Option (Bor (List ℕ))) → p ≤ k → drop k (block_lines n text) ≡ block_lines n rest
@@ -81,7 +81,7 @@ line_counted p k begun walked new cells n text rest next m e lines few before af
 
 above_more : (b : BlockLayout) (n y z : ℕ) → y ≤ z → above_of b n y ≤ above_of b n z
 above_more b zero y z l = omega arith
-above_more b (suc n) y z l = grind (arith, cases_lt, lt-leb, le-leb, above_most, above_more b n y z l)
+above_more b (suc n) y z l = grind (arith, above_most, above_more b n y z l)
 
 pieces_less : (m n : ℕ) (all : List (List ℕ)) → m ≤ n → pieces_of (take m all) ≤ pieces_of (take n all)
 pieces_less zero n all l = omega arith

@@ -45,7 +45,7 @@ mutual
         let h = behind_gap text b rest (rw w at e) in
         record { gap = c ∷ h.gap; is_gap = byte c h.gap w h.is_gap; parts = ap (λ (t : List ℕ). c ∷ t) h.parts }
     | inr n ↦ elim (cases_Bool (eqb c 35)) [
-      | inl s ↦ let is : c ≡ 35 = grind (arith, nat_tests) in comment_behind c text b rest is (behind_comment text b rest (rw (n, s) at e))
+      | inl s ↦ let is : c ≡ 35 = grind arith in comment_behind c text b rest is (behind_comment text b rest (rw (n, s) at e))
       | inr o ↦ let same : c ∷ text ≡ b ∷ rest = rw (n, o) at e in record { gap = []; is_gap = none; parts = same }
     ]
   ]
@@ -91,7 +91,7 @@ first_digit [] l = absurd (omega arith)
 first_digit (b ∷ rest) l = elim (cases_Bool (digit b)) [ inl y ↦ (b, rest, refl, y) | inr n ↦ absurd (let z : 0 < 0 = rw n at l in omega arith) ]
 
 digit_begins_no_gap : (b : ℕ) (rest : List ℕ) → digit b ≡ true → begins_gap (b ∷ rest) ≡ false
-digit_begins_no_gap b rest t = grind (arith, nat_tests)
+digit_begins_no_gap b rest t = grind arith
 
 no_gap : (b : ℕ) (rest gap : List ℕ) → begins_gap (b ∷ rest) ≡ false → begins_gap (gap ++ b ∷ rest) ≡ true → 0 < length gap
 no_gap b rest [] n e = cc
@@ -119,7 +119,7 @@ told_is text g l =
     }
 
 number_read : (text : List ℕ) (number : Number) → number_behind text ≡ Some number → IsNumber text number
-number_read text number e = grind (arith, cases_Bool, and_parts, told_is, ltb-true)
+number_read text number e = grind (arith, cases_Bool, and_parts, told_is)
 
 -- a white byte, and then the raster
 white_read : (text raster : List ℕ) → behind_white text ≡ Some raster → (b : ℕ) × (white b ≡ true) × (text ≡ b ∷ raster)

@@ -10,11 +10,11 @@ use Rattle.vp_glyph.specs.Grammar.{Comment, Gap, none, byte, comment, Digits, Is
 
 -- a digit ends a gap
 digit_stops : (b : ℕ) → digit b ≡ true → (white b ≡ false) × (eqb b 35 ≡ false)
-digit_stops b t = (grind (arith, nat_tests), grind (arith, nat_tests))
+digit_stops b t = (grind arith, grind (arith, nat_tests))
 
 -- and a gap ends digits
 gap_stops : (b : ℕ) → (white b || eqb b 35) ≡ true → digit b ≡ false
-gap_stops b t = grind (arith, nat_tests)
+gap_stops b t = grind arith
 
 past_digit : (b : ℕ) (rest : List ℕ) → digit b ≡ true → past_gap (b ∷ rest) ≡ b ∷ rest
 past_digit b rest t = let s = digit_stops b t in rw (s.0, s.1) refl

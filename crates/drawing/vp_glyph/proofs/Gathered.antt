@@ -63,15 +63,15 @@ module _ (rows : List ℕ) (above h n top : ℕ) where
 
   -- a row on which one of the rows from r on is shown that are like r
   shown_row : (r q y x : ℕ) → q ≤ 24 → ((p : ℕ) → r ≤ p → p < q → get_or rows p 0 ≡ get_or rows r 0) → above + edge_at 24 h r ≤ y → y < above + edge_at 24 h q → shown rows above h y x ≡ half_dot (get_or rows r 0) x
-  shown_row r q y x k a l m = grind (arith, edge_within, row_alike, cases_lt, edge_upto, le-leb, lt-ltb)
+  shown_row r q y x k a l m = grind (arith, edge_within, row_alike, edge_upto)
 
   pub added_none : (old : ℕ → ℕ → Bool) → Added 0 old old
-  added_none old i x l m = grind (arith, edge_first, cases_lt, shown_above, le-ltb)
+  added_none old i x l m = grind (arith, edge_first, shown_above)
 
   module _ (r q : ℕ) (old mid : ℕ → ℕ → Bool) (k : q ≤ 24) (j : r < q) (a : (p : ℕ) → r ≤ p → p < q → get_or rows p 0 ≡ get_or rows r 0) (o : Added r old mid) where
     -- where none of the rows is shown
     unchanged : (i : ℕ) → (above + edge_at 24 h r ≤ top + i → top + i < above + edge_at 24 h q → ⊥) → ltb (top + i) (above + edge_at 24 h r) ≡ ltb (top + i) (above + edge_at 24 h q)
-    unchanged i g = grind (arith, edge_upto, cases_lt, lt-ltb, le-ltb)
+    unchanged i g = grind (arith, edge_upto)
 
     same : (i x : ℕ) → i < n → x < 32 → (above + edge_at 24 h r ≤ top + i → top + i < above + edge_at 24 h q → ⊥)
         → mid i x ≡ (old i x || ltb (top + i) (above + edge_at 24 h q) && shown rows above h (top + i) x)
@@ -111,7 +111,7 @@ module _ (rows : List ℕ) (above h n top : ℕ) where
 
   -- all rows
   pub added_all : (r : ℕ) (old new : ℕ → ℕ → Bool) → r ≡ 24 → Added r old new → (i x : ℕ) → i < n → x < 32 → new i x ≡ (old i x || shown rows above h (top + i) x)
-  added_all r old new z o i x l m = grind (arith, edge_last, cases_lt, lt-ltb, shown_below)
+  added_all r old new z o i x l m = grind (arith, edge_last, shown_below)
 
 -- rows to which dots are added, those before s
 module _ (f : ℕ → ℕ → Bool) where
@@ -119,14 +119,14 @@ module _ (f : ℕ → ℕ → Bool) where
   Grown s old new = (r d : ℕ) → r < 24 → d < 32 → half_dot (get_or new r 0) d ≡ (half_dot (get_or old r 0) d || ltb r s && f r d)
 
   pub grown_more : (s word : ℕ) (old mid : List ℕ) → s < length mid → ((d : ℕ) → d < 32 → half_dot word d ≡ f s d) → Grown s old mid → Grown (s + 1) old (set mid s (bit_or (get_or mid s 0) word))
-  grown_more s word old mid k h o r d l m = grind (arith, cases_eq, get_or-set_same, le-ltb, lt-ltb, or_half, cases_lt, get_or-set_other)
+  grown_more s word old mid k h o r d l m = grind (arith, get_or-set_same, or_half, get_or-set_other)
 
   pub grown_all : (s : ℕ) (old new : List ℕ) → s ≡ 24 → Grown s old new → (r d : ℕ) → r < 24 → d < 32 → half_dot (get_or new r 0) d ≡ (half_dot (get_or old r 0) d || f r d)
   grown_all s old new e o r d l m = o r d l m ∙ ap (λ t. half_dot (get_or old r 0) d || t && f r d) (lt-ltb r s (omega arith))
 
   -- all, where the others have none
   pub grown_end : (s : ℕ) (old new : List ℕ) → ((r d : ℕ) → s ≤ r → r < 24 → f r d ≡ false) → Grown s old new → (r d : ℕ) → r < 24 → d < 32 → half_dot (get_or new r 0) d ≡ (half_dot (get_or old r 0) d || f r d)
-  grown_end s old new z o r d l m = grind (arith, cases_lt, lt-ltb, le-ltb)
+  grown_end s old new z o r d l m = grind arith
 
 -- a word that was painted on a white one
 pub front_white : (at : ℤ) (f : ℕ → Bool) (row : List ℕ) (word x : ℕ) → x < 64 → word_dot word x ≡ dot row x → Painted Black (shifted at f) (replicate {A = ℕ} 8 0) row → word_dot word x ≡ shifted at f x
@@ -138,14 +138,14 @@ pub record Blackened (ink from to : ℕ) (old new : List ℕ) : Type 0 where
   pub outside : (i : ℕ) → span from to i ≡ false → get_or new i 0 ≡ get_or old i 0
 
 pub blackened_more : (ink from i : ℕ) (old mid : List ℕ) → from ≤ i → i < length mid → Blackened ink from i old mid → Blackened ink from (i + 1) old (set mid i (bit_or (get_or mid i 0) ink))
-blackened_more ink from i old mid l m b = grind (arith, cases_eq, get_or-set_same, or_half, le-leb, le-ltb, get_or-set_other, lt-ltb, cases_lt, lt-leb)
+blackened_more ink from i old mid l m b = grind (arith, get_or-set_same, or_half, get_or-set_other)
 
 twice_ink : (a b : Bool) → ((a || b) || b) ≡ (a || b)
 twice_ink a b = grind arith
 
 -- the halves from one on, of which those up to another were blackened, and then those from before it on
 pub blackened_on : (ink a b c d : ℕ) (old mid new : List ℕ) → a ≤ c → c ≤ b → b ≤ d → Blackened ink a b old mid → Blackened ink c d mid new → Blackened ink a d old new
-blackened_on ink a b c d old mid new l m n p q = grind (arith, cases_lt, lt-leb, le-leb, le-ltb, lt-ltb)
+blackened_on ink a b c d old mid new l m n p q = grind arith
 
 -- the fronts before row 16 k with what their groups have
 abbrev pub Settled : List ℕ → ℕ → ℕ → List ℕ → List ℕ → Type 0
@@ -157,28 +157,28 @@ module _ (groups : List ℕ) (n : ℕ) where
 
   module _ (k : ℕ) (old mid : List ℕ) (o : Settled groups n k old mid) where
     elsewhere : (i x : ℕ) → i < n → x < 32 → (i / 16 ≡ k → ⊥) → half_dot (get_or mid i 0) x ≡ (half_dot (get_or old i 0) x || ltb i (16 * (k + 1)) && half_dot (get_or groups (i / 16) 0) x)
-    elsewhere i x l m g = grind (arith, cases_lt, lt-ltb, le-ltb)
+    elsewhere i x l m g = grind arith
 
     pub settled_white : get_or groups k 0 ≡ 0 → Settled groups n (k + 1) old mid
-    settled_white e i x l m = grind (arith, cases_eq, white_half, elsewhere)
+    settled_white e i x l m = grind (arith, white_half, elsewhere)
 
     pub settled_more : (from to : ℕ) (new : List ℕ) → from ≡ min (16 * k) n → to ≡ min (16 * (k + 1)) n
         → ((i x : ℕ) → from ≤ i → i < to → half_dot (get_or new i 0) x ≡ (half_dot (get_or mid i 0) x || half_dot (get_or groups k 0) x))
         → ((i : ℕ) → span from to i ≡ false → get_or new i 0 ≡ get_or mid i 0) → Settled groups n (k + 1) old new
-    settled_more from to new e f g u i x l m = grind (arith, cases_eq, le-ltb, lt-ltb, cases_lt, lt-leb, le-leb, elsewhere)
+    settled_more from to new e f g u i x l m = grind (arith, elsewhere)
 
   -- all groups
   pub settled_all : (k : ℕ) (old new : List ℕ) → length groups ≤ k → Settled groups n k old new → (i x : ℕ) → i < n → x < 32
       → half_dot (get_or new i 0) x ≡ (half_dot (get_or old i 0) x || half_dot (get_or groups (i / 16) 0) x)
-  settled_all k old new z o i x l m = grind (arith, cases_lt, lt-ltb, le-ltb, get_or_past, white_half)
+  settled_all k old new z o i x l m = grind (arith, get_or_past, white_half)
 
 -- what was blackened, at any place
 pub black_is : (ink from to i x : ℕ) (old new : List ℕ) → Blackened ink from to old new → half_dot (get_or new i 0) x ≡ (half_dot (get_or old i 0) x || span from to i && half_dot ink x)
-black_is ink from to i x old new p = grind (arith, cases_lt, lt-leb, le-leb, lt-ltb, le-ltb)
+black_is ink from to i x old new p = grind arith
 
 -- the ends of many fronts and the groups among them are all of them
 ends_all : (from to first last i : ℕ) → from + 48 ≤ to → first ≡ from / 16 + 1 → last ≡ to / 16 → (span from (from + 16) i || span (to - 16) to i || span first last (i / 16)) ≡ span from to i
-ends_all from to first last i m e f = grind (arith, cases_lt, lt-leb, le-leb, lt-ltb, le-ltb)
+ends_all from to first last i m e f = grind arith
 
 one_ink : (o g k a b c t : Bool) → (a || b || c) ≡ t → (((o || a && k) || b && k) || (g || c && k)) ≡ ((o || g) || t && k)
 one_ink o g k a b c t h1 = grind arith

@@ -12,11 +12,11 @@ or_is : (a b : Bool) → cond b true a ≡ (a || b)
 or_is a b = grind arith
 
 pub or_half : (v w x : ℕ) → half_dot (bit_or v w) x ≡ (half_dot v x || half_dot w x)
-or_half v w x = grind (arith, cases_lt, lt-ltb, bit_of_or, le-ltb)
+or_half v w x = grind (arith, bit_of_or)
 
 pub white_half : (x : ℕ) → half_dot 0 x ≡ false
 unfolding bit
-white_half x = grind (arith, cases_lt, lt-ltb, bit_at-zero, le-ltb)
+white_half x = grind (arith, bit_at-zero)
 
 -- the left half of a word
 pub half_left : (w x : ℕ) → x < 32 → half_dot (w / 2 ^ 32) x ≡ word_dot w x

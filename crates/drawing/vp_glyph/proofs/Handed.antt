@@ -56,7 +56,7 @@ less_left k text next h1 = grind arith
 
 -- cells that begin within n others
 pub cells_upto : (w q n : ℕ) → q * w < (n + 1) * w → q ≤ n
-cells_upto w q n l = grind (arith, cases_lt, mul-le-mul_right)
+cells_upto w q n l = grind (arith, mul-le-mul_right)
 
 -- cells of w dots, of which the first begins before `from` and the last before `to`
 pub cells_few : (from to b w q : ℕ) → 0 < w → to ≤ from + b → q * w < to + w → q ≤ from / w + (b / w + 2)
@@ -81,7 +81,7 @@ unseen at f left from to end bytes d n h before behind l =
 
 -- so where it has one, some is seen
 pub seen_some : (n : ℕ) (b : Bool) → (n ≡ 0 → b ≡ false) → b ≡ true → 0 < n
-seen_some n b h t = grind (arith, cases_eq)
+seen_some n b h t = grind arith
 
 -- of cells side by side, of which none is seen
 pub text_unseen : (at : ℤ) (sheet : Option Glyphs) (text : List ℕ) (w h y from to bytes d : ℕ) → to ≤ from

@@ -50,10 +50,10 @@ module _ (sheet : Option Glyphs) (w h a b s : ℕ) (d : Alignment) where
   -- a row of a text shows one of the sheet
   text_rows : (cells : List ℕ) (u v : ℕ) → text_dot sheet cells w h u v ≡ (ltb v h && text_dot sheet cells w 24 u (v * 24 / h))
   unfolding text_dot sampled_dot
-  text_rows cells u v = grind (arith, cases_lt, div-lt_iff_lt-mul, lt-ltb, le-ltb)
+  text_rows cells u v = grind (arith, div-lt_iff_lt-mul)
 
   first_rows : (line : List ℕ) (x r : ℕ) → (leb (indent d (a - w * length line)) x && text_dot sheet line w 24 (x - indent d (a - w * length line)) r) ≡ line_dot (layout sheet w 24 a 1 0 d) 0 line x r
-  first_rows line x r = grind (arith, le-leb)
+  first_rows line x r = grind arith
 
   -- and so does a row of a line
   pub line_rows : (place : ℕ) (line : List ℕ) (x y : ℕ) → line_dot (layout sheet w h a b s d) place line x y
@@ -118,7 +118,7 @@ module _ (sheet : Option Glyphs) (w h a b s : ℕ) (d : Alignment) where
   -- one without cells has none
   no_cells : (x r : ℕ) → line_dot (layout sheet w 24 a 1 0 d) 0 [] x r ≡ false
   unfolding text_dot
-  no_cells x r = grind (arith, le-ltb)
+  no_cells x r = grind arith
 
   pub rows_none : (at : ℤ) (rows : List ℕ) → rows ≡ replicate {A = ℕ} 24 0 → AreRowsOf (layout sheet w h a b s d) at [] rows
   rows_none at rows e r x l m =
@@ -158,13 +158,13 @@ module _ (sheet : Option Glyphs) (w h a b s : ℕ) (d : Alignment) where
 
   -- the lines of a block are its dots
   pub lines_block : (text : List ℕ) (y v : ℕ) → 0 < w → w ≤ a → y < block_height h b s → lines_dot (layout sheet w h a b s d) 0 (block_lines (a / w) text) v y ≡ block_dot (layout sheet w h a b s d) text v y
-  lines_block text y v p m k = grind (arith, cases_lt, block_within, le-div_iff_mul-le, false_from_ne_true, lines_inside, block_few, block_past)
+  lines_block text y v p m k = grind (arith, block_within, le-div_iff_mul-le, false_from_ne_true, lines_inside, block_few, block_past)
 
 -- a row of a cell as high as the sheet's
 pub cell_row : (sheet : Option Glyphs) (c w place s : ℕ) (at : ℤ) (d : ℕ) (row : ℕ) → s < 24 → ((u : ℕ) → word_dot row u ≡ sheet_dot sheet c u s)
     → shifted at (λ x. leb place x && ltb (x - place) w && word_dot row ((x - place) * 12 / w)) d ≡ shifted at (λ x. leb place x && sampled_dot sheet c w 24 (x - place) s) d
 unfolding sampled_dot
-cell_row sheet c w place s at d row l h = grind (arith, shifted_same, lt-ltb)
+cell_row sheet c w place s at d row l h = grind (arith, shifted_same)
 
 -- rows that were white
 pub rows_white : (r x : ℕ) (f new : Bool) → new ≡ (half_dot (get_or (replicate {A = ℕ} 24 0) r 0) x || f) → new ≡ f

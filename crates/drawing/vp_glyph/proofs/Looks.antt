@@ -20,14 +20,14 @@ pub not_dot : (w x : ℕ) → w < 2 ^ 64 → x < 64 → word_dot (2 ^ 64 - 1 - w
 not_dot w x p h = rw (lt-ltb x 64 h) (bit_not64 w (63 - x) p (omega arith))
 
 pub and_dot : (v w x : ℕ) → word_dot (bit_and v w) x ≡ (word_dot v x && word_dot w x)
-and_dot v w x = grind (arith, cases_lt, lt-ltb, bit_of_and, le-ltb)
+and_dot v w x = grind (arith, bit_of_and)
 
 pub or_dot : (v w x : ℕ) → word_dot (bit_or v w) x ≡ (word_dot v x || word_dot w x)
-or_dot v w x = grind (arith, cases_lt, lt-ltb, bit_of_or, le-ltb)
+or_dot v w x = grind (arith, bit_of_or)
 
 pub white_dot : (x : ℕ) → word_dot 0 x ≡ false
 unfolding bit
-white_dot x = grind (arith, cases_lt, lt-ltb, bit_at-zero, le-ltb)
+white_dot x = grind (arith, bit_at-zero)
 
 -- the dot as the code reads it
 pub dot_read : (word x : ℕ) → x < 64 → eqb (bit_and (word / 2 ^ (63 - x)) 1) 1 ≡ word_dot word x
@@ -49,7 +49,7 @@ alone_dot x d h =
 
 -- a dot more of a row
 pub dot_more : (f : ℕ → Bool) (nine new x d : ℕ) → x < 64 → word_dot nine d ≡ (ltb d x && f d) → new ≡ bit_or nine (1 * 2 ^ (63 - x) % 2 ^ 64) → f x ≡ true → word_dot new d ≡ (ltb d (x + 1) && f d)
-dot_more f nine new x d h p e t = grind (arith, or_dot, alone_dot, cases_eq, eq-eqb, lt-ltb, le-ltb, ne_eqb, cases_lt)
+dot_more f nine new x d h p e t = grind (arith, or_dot, alone_dot)
 
 pub dot_less : (f : ℕ → Bool) (nine x d : ℕ) → word_dot nine d ≡ (ltb d x && f d) → f x ≡ false → word_dot nine d ≡ (ltb d (x + 1) && f d)
-dot_less f nine x d p t = grind (arith, cases_eq, le-ltb, lt-ltb, cases_lt)
+dot_less f nine x d p t = grind arith

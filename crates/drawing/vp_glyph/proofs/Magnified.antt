@@ -32,7 +32,7 @@ or_false : (b : Bool) → (b || false) ≡ b
 or_false b = grind arith
 
 came : (f : ℕ → Bool) (m l : Bool) (a b c : ℕ) → f 64 ≡ false → comes m l a b c ≡ true → ((f a || l && f b) && m) ≡ f c
-came f m l a b c h1 h2 = grind (arith, eqb-true, cases_eq, eq-eqb, ne_eqb, and_parts)
+came f m l a b c h1 h2 = grind (arith, and_parts)
 
 -- a step to the right, where each dot comes from one that p tells before it, and from one that q tells behind it
 abbrev comes_at : (ℕ → ℕ) → (ℕ → ℕ) → ℕ → ℕ → ℕ → Bool
@@ -100,7 +100,7 @@ doubled_dot word twelve eights fours twos ones new a b c d e f x = elim (cases_l
 
 -- the mask that is moved along, on which dot s falls
 pub mask_first : (wm x : ℕ) → wm ≤ 64 → ltb x wm ≡ (ltb x 64 && span (0 * wm) (0 * wm + wm) x)
-mask_first wm x few = grind (arith, nat_tests)
+mask_first wm x few = grind arith
 
 pub mask_moved : (dots s wm x : ℕ) → dots < 2 ^ 64 → ((y : ℕ) → word_dot dots y ≡ (ltb y 64 && span (s * wm) (s * wm + wm) y))
     → word_dot (dots / 2 ^ wm) x ≡ (ltb x 64 && span ((s + 1) * wm) ((s + 1) * wm + wm) x)

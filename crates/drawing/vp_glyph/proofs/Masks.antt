@@ -20,7 +20,7 @@ edges_are n w s x p l = elim (cases_lt x (edge_at n w s)) [
   | inl b ↦
       let inside = edge_within n w s p (omega arith) in
       let low : x * n / w < s = (div-lt_iff_lt-mul {k = w} {x = x * n} {y = s} (omega arith)).1 (before_edge n w s x p b) in
-      rw (lt-leb (edge_at n w s) x b, ne_eqb (x * n / w) s (λ e. absurd (omega arith))) (grind (arith, nat_tests))
+      rw (lt-leb (edge_at n w s) x b, ne_eqb (x * n / w) s (λ e. absurd (omega arith))) (grind arith)
   | inr g ↦ elim (cases_lt x (edge_at n w (s + 1))) [
     | inl i ↦
         let inside = edge_within n w (s + 1) p (omega arith) in
@@ -29,8 +29,8 @@ edges_are n w s x p l = elim (cases_lt x (edge_at n w s)) [
     | inr o ↦ elim (cases_lt x w) [
       | inl k ↦
           let high : s + 1 ≤ x * n / w = (le-div_iff_mul-le {k = w} {x = s + 1} {y = x * n} (omega arith)).1 (from_edge n w (s + 1) x p o) in
-          rw (le-ltb x (edge_at n w (s + 1)) o, ne_eqb (x * n / w) s (λ e. absurd (omega arith))) (grind (arith, nat_tests))
-      | inr k ↦ rw (le-ltb x (edge_at n w (s + 1)) o, le-ltb x w k) (grind (arith, nat_tests))
+          rw (le-ltb x (edge_at n w (s + 1)) o, ne_eqb (x * n / w) s (λ e. absurd (omega arith))) (grind arith)
+      | inr k ↦ rw (le-ltb x (edge_at n w (s + 1)) o, le-ltb x w k) (grind arith)
     ]
   ]
 ]
@@ -38,23 +38,23 @@ edges_are n w s x p l = elim (cases_lt x (edge_at n w s)) [
 -- one more mask
 pub mask_more : (w s : ℕ) (masks : List ℕ) (mask from to : ℕ) → s < length masks → s < 12 → from ≡ edge_at 12 w s → to ≡ edge_at 12 w (s + 1) → ((x : ℕ) → word_dot mask x ≡ span from to x)
     → ((r x : ℕ) → r < s → word_dot (get_or masks r 0) x ≡ (ltb x w && eqb (x * 12 / w) r)) → (r x : ℕ) → r < s + 1 → word_dot (get_or (set masks s mask) r 0) x ≡ (ltb x w && eqb (x * 12 / w) r)
-mask_more w s masks mask from to l k e f m h r x b = grind (arith, cases_eq, get_or-set_same, edges_are, get_or-set_other)
+mask_more w s masks mask from to l k e f m h r x b = grind (arith, get_or-set_same, edges_are, get_or-set_other)
 
 -- no dot yet
 pub stretch_none : (f : ℕ → Bool) (width x : ℕ) → false ≡ (ltb x width && (ltb (x * 12 / width) 0 && f (x * 12 / width)))
-stretch_none f width x = grind (arith, nat_tests)
+stretch_none f width x = grind arith
 
 -- the dots of a word that fall on the dots of one mask more
 pub stretch_more : (f : ℕ → Bool) (width wide more new s x : ℕ) → word_dot wide x ≡ (ltb x width && (ltb (x * 12 / width) s && f (x * 12 / width)))
     → word_dot more x ≡ (f s && (ltb x width && eqb (x * 12 / width) s)) → new ≡ bit_or wide more → word_dot new x ≡ (ltb x width && (ltb (x * 12 / width) (s + 1) && f (x * 12 / width)))
-stretch_more f width wide more new s x p q e = grind (arith, or_dot, cases_eq)
+stretch_more f width wide more new s x p q e = grind (arith, or_dot)
 
 -- all twelve
 pub stretch_all : (f : ℕ → Bool) (width wide s x : ℕ) → 12 ≤ s → word_dot wide x ≡ (ltb x width && (ltb (x * 12 / width) s && f (x * 12 / width))) → word_dot wide x ≡ (ltb x width && f (x * 12 / width))
 stretch_all f width wide s x m p = p ∙ elim (cases_lt x width) [
   | inl l ↦
       let low : x * 12 / width < 12 = (div-lt_iff_lt-mul {k = width} {x = x * 12} {y = 12} (omega arith)).1 (omega arith) in
-      rw (lt-ltb (x * 12 / width) s (omega arith)) (grind (arith, nat_tests))
+      rw (lt-ltb (x * 12 / width) s (omega arith)) (grind arith)
   | inr g ↦ rw (le-ltb x width g) refl
 ]
 

@@ -22,7 +22,7 @@ module _ (word far x : ℕ) (h : x < 64) where
 
   -- to the left
   pub moved_left : word_dot (word * 2 ^ far % 2 ^ 64) x ≡ word_dot word (x + far)
-  moved_left = grind (arith, lt-ltb, bit_low64, bit_shl, cases_lt, lt-leb, le-ltb, le-leb)
+  moved_left = grind (arith, bit_low64, bit_shl)
 
   pub gone_left : 64 ≤ far → word_dot 0 x ≡ word_dot word (x + far)
   gone_left l = white_dot x ∙ sym (rw (le-ltb (x + far) 64 (omega arith)) refl)
@@ -31,7 +31,7 @@ module _ (op : Op) (at : ℤ) where
   -- ink painted by its front on a row that is no longer than a word
   pub short_row : (f : ℕ → Bool) (word : ℕ) (a b : List ℕ) → length a ≤ 8 → ((x : ℕ) → x < 64 → word_dot word x ≡ shifted at f x)
       → Painted op (shifted (pos 0) (word_dot word)) a b → Painted op (shifted at f) a b
-  short_row f word a b l h p = grind (arith, painted_same, le-leb)
+  short_row f word a b l h p = grind (arith, painted_same)
 
   -- a white word
   pub white_word : (word left width : ℕ) (row : List ℕ) → word ≡ 0 → Painted op (shifted at (ink 12 (word_dot word) left width)) row row

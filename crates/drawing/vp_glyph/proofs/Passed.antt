@@ -37,10 +37,10 @@ module _ (b : ℕ) (ink : ℕ → ℕ → Bool) where
 
   pub blacker_more : (from i : ℕ) (old mid : List (List ℕ)) (new : List ℕ) → from ≤ i → i < length mid → ((x : ℕ) → x < 8 * b → dot new x ≡ (dot (get_or mid i []) x || ink i x))
       → Blacker from i old mid → Blacker from (i + 1) old (set mid i new)
-  blacker_more from i old mid new l m e p = grind (arith, cases_eq, get_or-set_same, get_or-set_other)
+  blacker_more from i old mid new l m e p = grind (arith, get_or-set_same, get_or-set_other)
 
   pub blacker_span : (from to end : ℕ) (old new : List (List ℕ)) → end ≡ to → Blacker from end old new → (k x : ℕ) → x < 8 * b → dot (get_or new k []) x ≡ (dot (get_or old k []) x || span from to k && ink k x)
-  blacker_span from to end old new e p k x h = grind (arith, cases_lt, lt-leb, le-leb, lt-ltb, le-ltb)
+  blacker_span from to end old new e p k x h = grind arith
 
 -- the rows before k have what the rows above them had
 pub record Passed (b k : ℕ) (old new : List (List ℕ)) : Type 0 where
@@ -56,7 +56,7 @@ upto_next rows k x h1 = grind arith
 
 pub passed_more : (b k : ℕ) (old mid : List (List ℕ)) (new : List ℕ) → k < length mid → ((x : ℕ) → x < 8 * b → dot new x ≡ (dot (get_or mid k []) x || dot (get_or mid (k - 1) []) x))
     → Passed b k old mid → Passed b (k + 1) old (set mid k new)
-passed_more b k old mid new m e p = grind (arith, cases_eq, get_or-set_same, upto_next, get_or-set_other)
+passed_more b k old mid new m e p = grind (arith, get_or-set_same, upto_next, get_or-set_other)
 
 -- white rows
 pub white_row : (n b k x : ℕ) → dot (get_or (replicate {A = List ℕ} n (replicate {A = ℕ} b 0)) k []) x ≡ false
@@ -74,8 +74,8 @@ white_runs n b k x = grind (arith, white_row, white_upto)
 
 -- a row that is passed on has more dots
 upto_set : (rows : List (List ℕ)) (i k x : ℕ) (new : List ℕ) (r : Bool) → i < length rows → dot new x ≡ (dot (get_or rows i []) x || r) → dot_upto (set rows i new) k x ≡ (dot_upto rows k x || leb i k && r)
-upto_set rows i zero x new r m e = grind (arith, cases_eq, get_or-set_same, le-leb, get_or-set_other, lt-leb)
-upto_set rows i (suc k) x new r m e = grind (arith, cases_eq, get_or-set_same, lt-leb, le-leb, cases_lt, get_or-set_other, upto_set rows i k x new r m e)
+upto_set rows i zero x new r m e = grind (arith, get_or-set_same, get_or-set_other)
+upto_set rows i (suc k) x new r m e = grind (arith, get_or-set_same, get_or-set_other, upto_set rows i k x new r m e)
 
 down_more : (a d u r : Bool) → (a || ((d || r) || u)) ≡ ((a || (d || u)) || r)
 down_more a d u r = grind arith
@@ -89,7 +89,7 @@ alone_more a d u r = grind arith
 module _ (alone down up : List (List ℕ)) (n k x : ℕ) (l : k < n) where
   -- what runs to the last row
   pub runs_down : (from to : ℕ) (new : List ℕ) (r : Bool) → to ≡ n → from < length down → dot new x ≡ (dot (get_or down from []) x || r) → run_dot alone (set down from new) up n k x ≡ (run_dot alone down up n k x || span from to k && r)
-  runs_down from to new r t m e = grind (arith, cases_lt, lt-leb, le-leb, lt-ltb, upto_set)
+  runs_down from to new r t m e = grind (arith, upto_set)
 
   -- or from the first
   pub runs_up : (from to : ℕ) (new : List ℕ) (r : Bool) → from ≡ 0 → from < to → to ≤ n → n - to < length up → dot new x ≡ (dot (get_or up (n - to) []) x || r) → run_dot alone down (set up (n - to) new) n k x ≡ (run_dot alone down up n k x || span from to k && r)

@@ -46,18 +46,18 @@ printed_below sheets font style c x y h l =
 
 -- words that are written from the first one on
 pub words_none : (n : ℕ) (f : ℕ → ℕ → Bool) (k x : ℕ) → word_dot (get_or (replicate {A = ℕ} n 0) k 0) x ≡ (ltb k 0 && f x k)
-words_none n f k x = grind (arith, cases_lt, get_or-replicate, get_or_past, length-replicate, white_dot, le-ltb)
+words_none n f k x = grind (arith, get_or-replicate, get_or_past, length-replicate, white_dot)
 
 pub words_more : (words : List ℕ) (f : ℕ → ℕ → Bool) (y w : ℕ) → y < length words → ((k x : ℕ) → word_dot (get_or words k 0) x ≡ (ltb k y && f x k))
     → ((x : ℕ) → word_dot w x ≡ f x y) → (k x : ℕ) → word_dot (get_or (set words y w) k 0) x ≡ (ltb k (y + 1) && f x k)
-words_more words f y w l p q k x = grind (arith, cases_eq, get_or-set_same, lt-ltb, get_or-set_other, cases_lt, le-ltb)
+words_more words f y w l p q k x = grind (arith, get_or-set_same, get_or-set_other)
 
 -- a character that is printed just as it stands in its sheet
 pub ready_cell : (sheets : Sheets) (font : Font) (style : Style) (c : ℕ) → (style.wm ≡ 1) × (style.hm ≡ 1) × (style.bold ≡ false) × (style.underline ≡ 0) × (style.inverse ≡ false)
     → ((x y : ℕ) → font_dot sheets c font x y ≡ true → (x < font_width font) × (y < font_height font))
     → (x y : ℕ) → font_dot sheets c font x y ≡ cell_dot sheets font style c x y
 unfolding cell_dot
-ready_cell sheets font style c (w, h, b, u, i) inside x y = grind (arith, cases_lt, lt-ltb, lt-leb, le-ltb, false_from_ne_true)
+ready_cell sheets font style c (w, h, b, u, i) inside x y = grind (arith, false_from_ne_true)
 
 pub map_ready : {X : Type 0} (r : Option X) (P Q : X → Type 0) → ((v : X) → P v → Q v) → MatchOption r (Unit {0}) P → MatchOption r (Unit {0}) Q
 map_ready h1 h2 = grind arith
@@ -77,7 +77,7 @@ ready_narrow high above words ink wide few is inside x y h =
 
 -- all of them
 pub words_all : (f : ℕ → ℕ → Bool) (words : List ℕ) (n k x : ℕ) → word_dot (get_or words k 0) x ≡ (ltb k n && f x k) → (n ≤ k → f x k ≡ false) → word_dot (get_or words k 0) x ≡ f x k
-words_all f words n k x p e = grind (arith, cases_lt, lt-ltb, le-ltb)
+words_all f words n k x p e = grind arith
 
 -- none below those that a list has
 pub word_past : (rows : List ℕ) (b : Bool) (k x : ℕ) → length rows ≤ k → (b && word_dot (get_or rows k 0) x) ≡ false

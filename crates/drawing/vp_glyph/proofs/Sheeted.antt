@@ -45,10 +45,10 @@ module _ (n b top t h : ℕ) (at : ℤ) (f g : ℕ → ℕ → Bool) (e : (x y :
   none_above k x l = shifted_none at (λ v. f v (top + k)) x (λ v. e v (top + k) ∙ ap (λ c. c && ltb (top + k - t) h && g v ((top + k - t) * 24 / h)) (lt-leb t (top + k) l))
 
   none_below : (k x : ℕ) → t + h ≤ top + k → shifted at (λ v. f v (top + k)) x ≡ false
-  none_below k x l = grind (arith, shifted_none, le-ltb)
+  none_below k x l = grind (arith, shifted_none)
 
   pub shown_none : (r : ℕ) (old : ℕ → ℕ → Bool) → r ≡ min (t - top) n → Shown n b top at f r old old
-  shown_none r old z k x l h = grind (arith, cases_lt, none_above, le-ltb)
+  shown_none r old z k x l h = grind (arith, none_above)
 
   pub shown_more : (r to s : ℕ) (old mid new : ℕ → ℕ → Bool) (row : ℕ → Bool) → Shown n b top at f r old mid → t ≤ top + r → top + r - t < h → s ≡ (top + r - t) * 24 / h → to ≡ min (t + edge_at 24 h (s + 1) - top) n
       → ((k x : ℕ) → k < n → x < 8 * b → new k x ≡ (mid k x || span r to k && row x)) → ((x : ℕ) → x < 8 * b → row x ≡ shifted at (λ v. g v s) x) → Shown n b top at f to old new
@@ -70,7 +70,7 @@ module _ (n b top t h : ℕ) (at : ℤ) (f g : ℕ → ℕ → Bool) (e : (x y :
       ]
 
   pub shown_all : (r : ℕ) (old new : ℕ → ℕ → Bool) → min (t + h - top) n ≤ r → Shown n b top at f r old new → (k x : ℕ) → k < n → x < 8 * b → new k x ≡ (old k x || shifted at (λ v. f v (top + k)) x)
-  shown_all r old new z o k x l c = grind (arith, cases_lt, lt-ltb, none_below)
+  shown_all r old new z o k x l c = grind (arith, none_below)
 
 or_assoc : (p q r : Bool) → (p || (q || r)) ≡ ((p || q) || r)
 or_assoc p q r = grind arith

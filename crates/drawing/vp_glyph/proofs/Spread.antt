@@ -57,7 +57,7 @@ module _ (op : Op) (at : ℤ) (f : ℕ → Bool) where
   -- a run without ink
   pub run_blank : (from to : ℕ) (a b : List ℕ) → from ≤ to → Painted op (shifted at (λ x. ltb x from && f x)) a b
       → ((x : ℕ) → from ≤ x → x < to → f x ≡ false) → Painted op (shifted at (λ x. ltb x to && f x)) a b
-  run_blank from to a b l p h = grind (arith, moved_same, cases_lt)
+  run_blank from to a b l p h = grind (arith, moved_same)
 
 module _ (op : Op) (at : ℤ) (n : ℕ) (glyph : ℕ → Bool) (left width : ℕ) where
   -- the dots before s: all before the run is painted, and the run is all ink
@@ -73,7 +73,7 @@ module _ (op : Op) (at : ℤ) (n : ℕ) (glyph : ℕ → Bool) (left width : ℕ
 
     -- a black dot more
     pub running_on : (s from to next : ℕ) (a b : List ℕ) → s < n → Running s from to a b → next ≡ left + edge_at n width (s + 1) → glyph s ≡ true → Running (s + 1) from next a b
-    running_on s from to next a b l r e t = grind (arith, edge_more, cases_lt, ink_is)
+    running_on s from to next a b l r e t = grind (arith, edge_more, ink_is)
 
     -- a white dot more
     pub running_off : (s from to next : ℕ) (a b c : List ℕ) → s < n → Running s from to a b → Painted op (shifted at (span from to)) b c → next ≡ left + edge_at n width (s + 1) → glyph s ≡ false

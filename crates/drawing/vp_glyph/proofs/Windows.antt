@@ -26,7 +26,7 @@ place_meets (negsuc a) place r d l below above = elim (cases_lt (d + (a + 1)) pl
 
 -- and what lies between two of them
 span_meets : (at : ℤ) (p q r s d : ℕ) → leb r d ≡ shifted at (leb p) d → leb s d ≡ shifted at (leb q) d → span r s d ≡ shifted at (span p q) d
-span_meets at p q r s d e f = grind (arith, met, cases_lt, lt-ltb, lt-leb, le-leb, le-ltb)
+span_meets at p q r s d e f = grind (arith, met)
 
 module _ (at : ℤ) (left w : ℕ) (g : ℕ → Bool) where
   -- the dots before s of a cell
@@ -41,10 +41,10 @@ module _ (at : ℤ) (left w : ℕ) (g : ℕ → Bool) where
   ]
     where
       moved : (a b : ℕ) → left ≤ x → span a b (x - left) ≡ span (left + a) (left + b) x
-      moved a b o = grind (arith, nat_tests, o)
+      moved a b o = grind (arith, o)
 
   one_more : (s x : ℕ) → before (s + 1) x ≡ (before s x || g s && (leb left x && ltb (x - left) w && eqb ((x - left) * 12 / w) s))
-  one_more s x = grind (arith, cases_eq)
+  one_more s x = grind arith
 
   shifted_if : (a : Bool) (f : ℕ → Bool) (d : ℕ) → shifted at (λ x. a && f x) d ≡ (a && shifted at f d)
   shifted_if a f d = grind (arith, shifted_none)
