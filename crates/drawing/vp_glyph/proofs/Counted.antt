@@ -33,7 +33,7 @@ pieces_room (Cell b ∷ rest) = let r = pieces_room rest in omega (arith, r)
 pieces_few : (text : List ℕ) → length (pieces text) ≤ length text
 pieces_few [] = omega arith
 pieces_few (b ∷ []) = omega arith
-pieces_few (b ∷ next ∷ text) = grind (arith, cases_Bool, pieces_few text, pieces_few (next ∷ text))
+pieces_few (b ∷ next ∷ text) = grind (arith, pieces_few text, pieces_few (next ∷ text))
 
 -- a line for each byte, and one more
 pub lines_many : (n : ℕ) (text : List ℕ) → length (block_lines n text) ≤ length text + 1

@@ -19,7 +19,7 @@ and_white t h1 = grind arith
 pub row_in_cell : (sheet : Glyphs) (c x y from word keep cut : ℕ) → sheet.wide ≤ 64 → y < sheet.high → from ≡ 16 * sheet.wide * (sheet.high * (c / 16) + y) + sheet.wide * (c % 16)
     → (x < 64 → word_dot word x ≡ dot sheet.raster (from + x)) → word_dot keep x ≡ ltb x sheet.wide → word_dot cut x ≡ (word_dot word x && word_dot keep x) → word_dot cut x ≡ glyph_dot sheet c x y
 unfolding glyph_dot
-row_in_cell sheet c x y from word keep cut w l f a k e = grind (arith, and_white)
+row_in_cell sheet c x y from word keep cut w l f a k e = grind arith
 
 -- the rows of one cell
 pub rows_are : (sheet : Glyphs) (rows : List ℕ) (c x y first n : ℕ) → IsCut sheet rows → c < 256 → first ≡ sheet.high * c → n ≡ sheet.high → word_dot (get_or (take n (drop first rows)) y 0) x ≡ glyph_dot sheet c x y
@@ -48,7 +48,7 @@ inked_dot rows inked x y is = grind (arith, white_dot, get_or-take, get_or-drop,
 -- no dot stands outside a cell
 pub glyph_inside : (sheet : Glyphs) (c x y : ℕ) → glyph_dot sheet c x y ≡ true → (x < sheet.wide) × (y < sheet.high)
 unfolding glyph_dot
-glyph_inside sheet c x y e = grind (arith, and_parts)
+glyph_inside sheet c x y e = grind arith
 
 -- what stands ready of a cell
 pub ready_of : (sheet : Glyphs) (rows : List ℕ) (c w h first n : ℕ) (inked : Inked) → IsCut sheet rows → c < 256 → first ≡ sheet.high * c → n ≡ sheet.high → sheet.wide ≤ w → sheet.high ≤ h

@@ -77,7 +77,7 @@ pub line_counted : (p k begun walked new cells n : ℕ) (text rest : List ℕ) (
     → MatchOption next (block_lines n rest ≡ take cells (first (pieces rest)) ∷ []) (λ r. block_lines n rest ≡ take cells (first (pieces rest)) ∷ block_lines n r.now) → cells ≤ length (first (pieces rest))
     → walked ≡ min (begun + pieces_of (drop p (take k (block_lines n text)))) (2 ^ 64 - 1) → new ≡ min (walked + (1 + cells)) (2 ^ 64 - 1)
     → new ≡ min (begun + pieces_of (drop p (take (k + 1) (block_lines n text)))) (2 ^ 64 - 1)
-line_counted p k begun walked new cells n text rest next m e lines few before after = grind (arith, length-take-le, pieces_more, lines_are)
+line_counted p k begun walked new cells n text rest next m e lines few before after = grind (arith, length-take-le, pieces_more)
 
 above_more : (b : BlockLayout) (n y z : ℕ) → y ≤ z → above_of b n y ≤ above_of b n z
 above_more b zero y z l = omega arith

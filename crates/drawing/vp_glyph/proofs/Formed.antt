@@ -119,11 +119,11 @@ told_is text g l =
     }
 
 number_read : (text : List ℕ) (number : Number) → number_behind text ≡ Some number → IsNumber text number
-number_read text number e = grind (arith, cases_Bool, and_parts, told_is)
+number_read text number e = grind (arith, cases_Bool, told_is)
 
 -- a white byte, and then the raster
 white_read : (text raster : List ℕ) → behind_white text ≡ Some raster → (b : ℕ) × (white b ≡ true) × (text ≡ b ∷ raster)
-white_read text raster h1 = grind (arith, cases_Bool)
+white_read text raster h1 = grind arith
 
 by_height : (text : List ℕ) (first : Number) (header : Header) → IsNumber text first → (o : Option Number) → number_behind first.rest ≡ o
     → (second : Number) → o ≡ Some second → (raster : List ℕ) → behind_white second.rest ≡ Some raster

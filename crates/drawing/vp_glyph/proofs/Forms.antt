@@ -10,7 +10,7 @@ use Rattle.vp_glyph.specs.Grammar.{Comment, Gap, none, byte, comment, Digits, Is
 
 -- a digit ends a gap
 digit_stops : (b : ℕ) → digit b ≡ true → (white b ≡ false) × (eqb b 35 ≡ false)
-digit_stops b t = (grind arith, grind (arith, nat_tests))
+digit_stops b t = (grind arith, grind arith)
 
 -- and a gap ends digits
 gap_stops : (b : ℕ) → (white b || eqb b 35) ≡ true → digit b ≡ false
@@ -33,7 +33,7 @@ gap_begins h1 h2 = grind arith
 
 -- no digit begins a gap
 no_digits : (text : List ℕ) → begins_gap text ≡ true → prefix_len digit text ≡ 0
-no_digits text h1 = grind (arith, gap_stops)
+no_digits text h1 = grind arith
 
 white_stops : (b : ℕ) (text : List ℕ) → white b ≡ true → prefix_len digit (b ∷ text) ≡ 0
 white_stops b text w = rw (gap_stops b (rw w refl)) refl

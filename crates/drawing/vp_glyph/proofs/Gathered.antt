@@ -26,15 +26,15 @@ text_alike sheet cells w h y z a b e x = rw (lt-ltb y h a, lt-ltb z h b, e) refl
 
 -- the row of 24 that is shown
 pub row_shown : (h s u : ℕ) → s < 24 → edge_at 24 h s ≤ u → u < edge_at 24 h (s + 1) → (u < h) × (u * 24 / h ≡ s)
-row_shown h s u k l m = grind (arith, edge_within, quotient, from_edge, before_edge)
+row_shown h s u k l m = grind (arith, edge_within, quotient, from_edge)
 
 -- row u of h shows a row of the sheet, and so do the others that do
 pub row_alike : (h u : ℕ) → u < h → (u * 24 / h < 24) × (edge_at 24 h (u * 24 / h) ≤ u) × (u < edge_at 24 h (u * 24 / h + 1))
-row_alike h u l = grind (arith, div-lt_iff_lt-mul, le-div_iff_mul-le)
+row_alike h u l = grind (arith, div-lt_iff_lt-mul)
 
 -- later rows begin later
 edge_upto : (n w s t : ℕ) → 0 < n → s ≤ t → edge_at n w s ≤ edge_at n w t
-edge_upto n w s t p l = grind (arith, div-mul-le_self, mul-le-mul_right, le-div_iff_mul-le)
+edge_upto n w s t p l = grind (arith, mul-le-mul_right)
 
 black_more : (old new : Bool) → (old || new) ≡ paint Black new old
 black_more old new = grind arith
@@ -63,15 +63,15 @@ module _ (rows : List ℕ) (above h n top : ℕ) where
 
   -- a row on which one of the rows from r on is shown that are like r
   shown_row : (r q y x : ℕ) → q ≤ 24 → ((p : ℕ) → r ≤ p → p < q → get_or rows p 0 ≡ get_or rows r 0) → above + edge_at 24 h r ≤ y → y < above + edge_at 24 h q → shown rows above h y x ≡ half_dot (get_or rows r 0) x
-  shown_row r q y x k a l m = grind (arith, edge_within, row_alike, edge_upto)
+  shown_row r q y x k a l m = grind (arith, row_alike, edge_upto)
 
   pub added_none : (old : ℕ → ℕ → Bool) → Added 0 old old
-  added_none old i x l m = grind (arith, edge_first, shown_above)
+  added_none old i x l m = grind (arith, edge_first)
 
   module _ (r q : ℕ) (old mid : ℕ → ℕ → Bool) (k : q ≤ 24) (j : r < q) (a : (p : ℕ) → r ≤ p → p < q → get_or rows p 0 ≡ get_or rows r 0) (o : Added r old mid) where
     -- where none of the rows is shown
     unchanged : (i : ℕ) → (above + edge_at 24 h r ≤ top + i → top + i < above + edge_at 24 h q → ⊥) → ltb (top + i) (above + edge_at 24 h r) ≡ ltb (top + i) (above + edge_at 24 h q)
-    unchanged i g = grind (arith, edge_upto)
+    unchanged i g = grind arith
 
     same : (i x : ℕ) → i < n → x < 32 → (above + edge_at 24 h r ≤ top + i → top + i < above + edge_at 24 h q → ⊥)
         → mid i x ≡ (old i x || ltb (top + i) (above + edge_at 24 h q) && shown rows above h (top + i) x)
@@ -111,7 +111,7 @@ module _ (rows : List ℕ) (above h n top : ℕ) where
 
   -- all rows
   pub added_all : (r : ℕ) (old new : ℕ → ℕ → Bool) → r ≡ 24 → Added r old new → (i x : ℕ) → i < n → x < 32 → new i x ≡ (old i x || shown rows above h (top + i) x)
-  added_all r old new z o i x l m = grind (arith, edge_last, shown_below)
+  added_all r old new z o i x l m = grind (arith, edge_last)
 
 -- rows to which dots are added, those before s
 module _ (f : ℕ → ℕ → Bool) where
@@ -160,12 +160,12 @@ module _ (groups : List ℕ) (n : ℕ) where
     elsewhere i x l m g = grind arith
 
     pub settled_white : get_or groups k 0 ≡ 0 → Settled groups n (k + 1) old mid
-    settled_white e i x l m = grind (arith, white_half, elsewhere)
+    settled_white e i x l m = grind (arith, white_half)
 
     pub settled_more : (from to : ℕ) (new : List ℕ) → from ≡ min (16 * k) n → to ≡ min (16 * (k + 1)) n
         → ((i x : ℕ) → from ≤ i → i < to → half_dot (get_or new i 0) x ≡ (half_dot (get_or mid i 0) x || half_dot (get_or groups k 0) x))
         → ((i : ℕ) → span from to i ≡ false → get_or new i 0 ≡ get_or mid i 0) → Settled groups n (k + 1) old new
-    settled_more from to new e f g u i x l m = grind (arith, elsewhere)
+    settled_more from to new e f g u i x l m = grind arith
 
   -- all groups
   pub settled_all : (k : ℕ) (old new : List ℕ) → length groups ≤ k → Settled groups n k old new → (i x : ℕ) → i < n → x < 32

@@ -16,7 +16,7 @@ or_half v w x = grind (arith, bit_of_or)
 
 pub white_half : (x : ℕ) → half_dot 0 x ≡ false
 unfolding bit
-white_half x = grind (arith, bit_at-zero)
+white_half x = grind arith
 
 -- the left half of a word
 pub half_left : (w x : ℕ) → x < 32 → half_dot (w / 2 ^ 32) x ≡ word_dot w x

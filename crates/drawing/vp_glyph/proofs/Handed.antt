@@ -30,7 +30,7 @@ size_is (Cell b ∷ rest) = let h = size_is rest in omega (arith, h)
 pub size_less : (text : List ℕ) → length (pieces text) ≤ length text
 size_less [] = omega arith
 size_less (b ∷ []) = omega arith
-size_less (b ∷ next ∷ text) = grind (arith, code, size_less text, size_less (next ∷ text))
+size_less (b ∷ next ∷ text) = grind (arith, size_less text, size_less (next ∷ text))
 
 pub lines_fit : (text : List ℕ) → line_pieces text ≤ block_pieces text
 lines_fit text = let h = size_less text in omega (arith, h)
@@ -56,7 +56,7 @@ less_left k text next h1 = grind arith
 
 -- cells that begin within n others
 pub cells_upto : (w q n : ℕ) → q * w < (n + 1) * w → q ≤ n
-cells_upto w q n l = grind (arith, mul-le-mul_right)
+cells_upto w q n l = grind arith
 
 -- cells of w dots, of which the first begins before `from` and the last before `to`
 pub cells_few : (from to b w q : ℕ) → 0 < w → to ≤ from + b → q * w < to + w → q ≤ from / w + (b / w + 2)

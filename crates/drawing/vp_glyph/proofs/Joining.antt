@@ -44,13 +44,13 @@ shared_or a b c = grind arith
 
 -- a dot that falls only on some rows
 shifted_if : (at : ℤ) (a : Bool) (f : ℕ → Bool) (d : ℕ) → shifted at (λ x. a && f x) d ≡ (a && shifted at f d)
-shifted_if at a f d = grind (arith, shifted_none)
+shifted_if at a f d = grind arith
 
 module _ (sheet : Option Glyphs) (w h a b s : ℕ) (d : Alignment) where
   -- a row of a text shows one of the sheet
   text_rows : (cells : List ℕ) (u v : ℕ) → text_dot sheet cells w h u v ≡ (ltb v h && text_dot sheet cells w 24 u (v * 24 / h))
   unfolding text_dot sampled_dot
-  text_rows cells u v = grind (arith, div-lt_iff_lt-mul)
+  text_rows cells u v = grind arith
 
   first_rows : (line : List ℕ) (x r : ℕ) → (leb (indent d (a - w * length line)) x && text_dot sheet line w 24 (x - indent d (a - w * length line)) r) ≡ line_dot (layout sheet w 24 a 1 0 d) 0 line x r
   first_rows line x r = grind arith
@@ -58,7 +58,7 @@ module _ (sheet : Option Glyphs) (w h a b s : ℕ) (d : Alignment) where
   -- and so does a row of a line
   pub line_rows : (place : ℕ) (line : List ℕ) (x y : ℕ) → line_dot (layout sheet w h a b s d) place line x y
       ≡ (leb (place * s) y && ltb (y - place * s) h && line_dot (layout sheet w 24 a 1 0 d) 0 line x ((y - place * s) * 24 / h))
-  line_rows place line x y = grind (arith, text_rows, first_rows)
+  line_rows place line x y = grind (arith, text_rows)
 
   line_top : (place t : ℕ) (line : List ℕ) (x y : ℕ) → place * s ≡ t → line_dot (layout sheet w h a b s d) place line x y
       ≡ (leb t y && ltb (y - t) h && line_dot (layout sheet w 24 a 1 0 d) 0 line x ((y - t) * 24 / h))
@@ -109,11 +109,11 @@ module _ (sheet : Option Glyphs) (w h a b s : ℕ) (d : Alignment) where
   -- the cells of a line are its rows
   pub line_sheet : (k left width r v : ℕ) (cells : List ℕ) → k ≤ length cells → left ≡ indent d (a - w * k) → width ≡ w
       → (leb left v && text_dot sheet (take k cells) width 24 (v - left) r) ≡ line_dot (layout sheet w 24 a 1 0 d) 0 (take k cells) v r
-  line_sheet k left width r v cells l e f = grind (arith, length-take-le, first_rows)
+  line_sheet k left width r v cells l e f = grind (arith, length-take-le)
 
   pub line_first : (at : ℤ) (k left width r x : ℕ) (cells : List ℕ) (old new : Bool) → k ≤ length cells → left ≡ indent d (a - w * k) → width ≡ w
       → new ≡ (old || shifted at (λ v. leb left v && text_dot sheet (take k cells) width 24 (v - left) r) x) → new ≡ (old || shifted at (λ v. line_dot (layout sheet w 24 a 1 0 d) 0 (take k cells) v r) x)
-  line_first at k left width r x cells old new l e f p = grind (arith, shifted_same, line_sheet)
+  line_first at k left width r x cells old new l e f p = grind (arith, line_sheet)
 
   -- one without cells has none
   no_cells : (x r : ℕ) → line_dot (layout sheet w 24 a 1 0 d) 0 [] x r ≡ false
@@ -131,7 +131,7 @@ module _ (sheet : Option Glyphs) (w h a b s : ℕ) (d : Alignment) where
       → MatchOption next (block_lines n text.now ≡ take k (first (pieces text.now)) ∷ []) (λ q. block_lines n text.now ≡ take k (first (pieces text.now)) ∷ block_lines n q.now)
       → new ≡ (old || shifted at (λ v. line_dot (layout sheet w 24 a 1 0 d) 0 (take k (first (pieces lent))) v r) x)
       → all ≡ (new || shifted at (λ v. lines_dot (layout sheet w 24 a 1 0 d) 0 (lines_left n next) v r) x)
-  joined_more at n k r x old new left next text lent all p e m o q = grind (arith, lines_are, shifted_or)
+  joined_more at n k r x old new left next text lent all p e m o q = grind (arith, lines_are)
 
   -- no line yet
   pub joined_none : (r x : ℕ) (all : Bool) → all ≡ (half_dot (get_or (replicate {A = ℕ} 24 0) r 0) x || all)
@@ -140,7 +140,7 @@ module _ (sheet : Option Glyphs) (w h a b s : ℕ) (d : Alignment) where
   -- all lines
   pub joined_all : (at : ℤ) (n r x : ℕ) (new : Bool) (left : Option (Bor (List ℕ))) (all : Bool) → all ≡ (new || shifted at (λ v. lines_dot (layout sheet w 24 a 1 0 d) 0 (lines_left n left) v r) x)
       → left ≡ None → new ≡ all
-  joined_all at n r x new left all p e = grind (arith, shifted_none)
+  joined_all at n r x new left all p e = grind arith
 
   -- all lines stand in the block
   lines_inside : (x y place : ℕ) (all : List (List ℕ)) → All (λ line. length line ≤ a / w) all → lines_dot (layout sheet w h a b s d) place all x y ≡ true → x < a
@@ -164,7 +164,7 @@ module _ (sheet : Option Glyphs) (w h a b s : ℕ) (d : Alignment) where
 pub cell_row : (sheet : Option Glyphs) (c w place s : ℕ) (at : ℤ) (d : ℕ) (row : ℕ) → s < 24 → ((u : ℕ) → word_dot row u ≡ sheet_dot sheet c u s)
     → shifted at (λ x. leb place x && ltb (x - place) w && word_dot row ((x - place) * 12 / w)) d ≡ shifted at (λ x. leb place x && sampled_dot sheet c w 24 (x - place) s) d
 unfolding sampled_dot
-cell_row sheet c w place s at d row l h = grind (arith, shifted_same)
+cell_row sheet c w place s at d row l h = grind arith
 
 -- rows that were white
 pub rows_white : (r x : ℕ) (f new : Bool) → new ≡ (half_dot (get_or (replicate {A = ℕ} 24 0) r 0) x || f) → new ≡ f

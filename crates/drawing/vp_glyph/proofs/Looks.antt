@@ -27,7 +27,7 @@ or_dot v w x = grind (arith, bit_of_or)
 
 pub white_dot : (x : ℕ) → word_dot 0 x ≡ false
 unfolding bit
-white_dot x = grind (arith, bit_at-zero)
+white_dot x = grind arith
 
 -- the dot as the code reads it
 pub dot_read : (word x : ℕ) → x < 64 → eqb (bit_and (word / 2 ^ (63 - x)) 1) 1 ≡ word_dot word x

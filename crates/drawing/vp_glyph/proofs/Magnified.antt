@@ -32,7 +32,7 @@ or_false : (b : Bool) → (b || false) ≡ b
 or_false b = grind arith
 
 came : (f : ℕ → Bool) (m l : Bool) (a b c : ℕ) → f 64 ≡ false → comes m l a b c ≡ true → ((f a || l && f b) && m) ≡ f c
-came f m l a b c h1 h2 = grind (arith, and_parts)
+came f m l a b c h1 h2 = grind arith
 
 -- a step to the right, where each dot comes from one that p tells before it, and from one that q tells behind it
 abbrev comes_at : (ℕ → ℕ) → (ℕ → ℕ) → ℕ → ℕ → ℕ → Bool
@@ -114,7 +114,7 @@ module _ (n word wm : ℕ) (few : n * wm ≤ 64) where
   pub magnified_more : (wide more new dots s x : ℕ) → s < n → word_dot wide x ≡ (ltb x (s * wm) && word_dot word (x / wm))
       → word_dot more x ≡ (word_dot word s && word_dot dots x) → word_dot dots x ≡ (ltb x 64 && span (s * wm) (s * wm + wm) x)
       → new ≡ bit_or wide more → word_dot new x ≡ (ltb x ((s + 1) * wm) && word_dot word (x / wm))
-  magnified_more wide more new dots s x h p q d e = grind (arith, mul-le-mul_right, or_dot, cases_lt, lt-ltb, lt-leb, quotient, le-ltb, le-leb)
+  magnified_more wide more new dots s x h p q d e = grind (arith, mul-le-mul_right, or_dot, cases_lt, lt-ltb, lt-leb, quotient, le-leb)
 
 -- so many dots of a row from one on
 pub widened_row : (word moved wide first n wm x : ℕ) → n ≤ 12 → first ≤ 12 → ((d : ℕ) → d < 64 → word_dot moved d ≡ word_dot word (d + first))

@@ -74,7 +74,7 @@ and_assoc a b c = grind arith
 module _ (at at' : ℤ) (glyph : ℕ → Bool) (left width wide : ℕ) (e : at' ≡ at +ℤ pos left) (h : (x : ℕ) → word_dot wide x ≡ (ltb x width && glyph (x * 12 / width))) where
   -- a word from a place on
   pub word_placed : (d : ℕ) → shifted at' (word_dot wide) d ≡ shifted at (ink 12 glyph left width) d
-  word_placed d = grind (arith, shift_more, shifted_same)
+  word_placed d = grind (arith, shift_more)
 
   -- and painted there
   pub word_painted : (op : Op) (a b : List ℕ) → Painted op (shifted at' (word_dot wide)) a b → Painted op (shifted at (ink 12 glyph left width)) a b

@@ -31,7 +31,7 @@ module _ (op : Op) (at : ℤ) where
   -- ink painted by its front on a row that is no longer than a word
   pub short_row : (f : ℕ → Bool) (word : ℕ) (a b : List ℕ) → length a ≤ 8 → ((x : ℕ) → x < 64 → word_dot word x ≡ shifted at f x)
       → Painted op (shifted (pos 0) (word_dot word)) a b → Painted op (shifted at f) a b
-  short_row f word a b l h p = grind (arith, painted_same)
+  short_row f word a b l h p = grind arith
 
   -- a white word
   pub white_word : (word left width : ℕ) (row : List ℕ) → word ≡ 0 → Painted op (shifted at (ink 12 (word_dot word) left width)) row row

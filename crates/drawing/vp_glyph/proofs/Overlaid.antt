@@ -28,7 +28,7 @@ again : (op : Op) (i j k old : Bool) → op ≢ Flip → k ≡ (i || j) → pain
 again op i j k old h1 h2 = grind arith
 
 pub painted_over : (op : Op) (at : ℤ) (f g h : ℕ → Bool) (a b c : List ℕ) → op ≢ Flip → ((x : ℕ) → h x ≡ (f x || g x)) → Painted op (shifted at f) a b → Painted op (shifted at g) b c → Painted op (shifted at h) a c
-painted_over op at f g h a b c n u p q = grind (arith, again, shifted_or)
+painted_over op at f g h a b c n u p q = grind (arith, again)
 
 indent_within : (d : Alignment) (room : ℕ) → indent d room ≤ room
 indent_within d room = grind arith
@@ -94,7 +94,7 @@ module _ (sheet : Option Glyphs) (w h a b s : ℕ) (d : Alignment) (y : ℕ) whe
   pub overlaid_all : (op : Op) (at : ℤ) (n : ℕ) (text : List ℕ) (place : ℕ) (left : Option (Bor (List ℕ))) (old new : List ℕ) → n ≡ a / w → w ≤ a → y < block_height h b s
       → ((x : ℕ) → lines_dot (layout sheet w h a b s d) place (lines_left n left) x y ≡ false)
       → Overlaid op at n (block_lines n text) place left old new → Painted op (shifted at (λ x. block_dot (layout sheet w h a b s d) text x y)) old new
-  overlaid_all op at n text place left old new z m l e o = grind (arith, moved_same, block_within, false_from_ne_true, block_past)
+  overlaid_all op at n text place left old new z m l e o = grind (arith, block_within, block_past)
 
   -- nor has a line that ends above it
   pub above_none : (op : Op) (at : ℤ) (place : ℕ) (line row : List ℕ) → place * s + h ≤ y → Painted op (shifted at (λ x. line_dot (layout sheet w h a b s d) place line x y)) row row
@@ -110,7 +110,7 @@ zero_dots n x = ap (λ k. eqb (bit_at k (7 - x % 8)) 1) (zero_at n (x / 8)) ∙ 
 
 -- ink that was painted black in a white row
 pub from_white : (n wide : ℕ) (f : ℕ → Bool) (row : List ℕ) → ((x : ℕ) → f x ≡ true → x < wide) → wide ≤ 8 * n → Painted Black (shifted (pos 0) f) (replicate {A = ℕ} n 0) row → (x : ℕ) → dot row x ≡ f x
-from_white n wide f row o l p x = grind (arith, length-replicate, zero_dots, dot_past, false_from_ne_true)
+from_white n wide f row o l p x = grind (arith, length-replicate, zero_dots, dot_past)
 
 -- a block reversed by way of a white row
 pub flipped : (at : ℤ) (n : ℕ) (sheet : Option Glyphs) (text : List ℕ) (w h a b s : ℕ) (d : Alignment) (y : ℕ) (dots old new : List ℕ) → w ≤ a → a ≤ 8 * n

@@ -56,7 +56,7 @@ upto_next rows k x h1 = grind arith
 
 pub passed_more : (b k : ℕ) (old mid : List (List ℕ)) (new : List ℕ) → k < length mid → ((x : ℕ) → x < 8 * b → dot new x ≡ (dot (get_or mid k []) x || dot (get_or mid (k - 1) []) x))
     → Passed b k old mid → Passed b (k + 1) old (set mid k new)
-passed_more b k old mid new m e p = grind (arith, get_or-set_same, upto_next, get_or-set_other)
+passed_more b k old mid new m e p = grind (arith, get_or-set_same, get_or-set_other)
 
 -- white rows
 pub white_row : (n b k x : ℕ) → dot (get_or (replicate {A = List ℕ} n (replicate {A = ℕ} b 0)) k []) x ≡ false
@@ -70,7 +70,7 @@ white_upto n b zero x = white_row n b 0 x
 white_upto n b (suc k) x = ap (λ t. t || dot (get_or (replicate {A = List ℕ} n (replicate {A = ℕ} b 0)) (suc k) []) x) (white_upto n b k x) ∙ white_row n b (suc k) x
 
 pub white_runs : (n b k x : ℕ) → (let white = replicate {A = List ℕ} n (replicate {A = ℕ} b 0) in run_dot white white white n k x ≡ false)
-white_runs n b k x = grind (arith, white_row, white_upto)
+white_runs n b k x = grind (arith, white_upto)
 
 -- a row that is passed on has more dots
 upto_set : (rows : List (List ℕ)) (i k x : ℕ) (new : List ℕ) (r : Bool) → i < length rows → dot new x ≡ (dot (get_or rows i []) x || r) → dot_upto (set rows i new) k x ≡ (dot_upto rows k x || leb i k && r)

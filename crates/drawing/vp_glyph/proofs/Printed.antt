@@ -28,10 +28,10 @@ module _ (sheets : Sheets) (font : Font) (style : Style) (c y : ℕ) (h : style.
 
   -- the character stands in its cell
   within : (x : ℕ) → x < cell_width font style → (ltb x (font_width font * style.wm) && body x) ≡ body x
-  within x l = grind (arith, body_place)
+  within x l = grind arith
 
   pub printed_upright : (wide x : ℕ) → style.inverse ≡ false → y < font_height font - style.underline → word_dot wide x ≡ (ltb x (font_width font * style.wm) && body x) → word_dot wide x ≡ cell_dot sheets font style c x y
-  printed_upright wide x i u d = grind (arith, lt-leb, printed_dot, cases_lt, lt-ltb, within, le-ltb, past_all)
+  printed_upright wide x i u d = grind (arith, lt-leb, printed_dot, cases_lt, lt-ltb, within, le-ltb)
 
   -- of a character that is printed just as it stands in its sheet
   pub printed_plain : (word x : ℕ) → style.wm ≡ 1 → style.bold ≡ false → style.underline ≡ 0 → style.inverse ≡ false
@@ -57,7 +57,7 @@ pub ready_cell : (sheets : Sheets) (font : Font) (style : Style) (c : ℕ) → (
     → ((x y : ℕ) → font_dot sheets c font x y ≡ true → (x < font_width font) × (y < font_height font))
     → (x y : ℕ) → font_dot sheets c font x y ≡ cell_dot sheets font style c x y
 unfolding cell_dot
-ready_cell sheets font style c (w, h, b, u, i) inside x y = grind (arith, false_from_ne_true)
+ready_cell sheets font style c (w, h, b, u, i) inside x y = grind arith
 
 pub map_ready : {X : Type 0} (r : Option X) (P Q : X → Type 0) → ((v : X) → P v → Q v) → MatchOption r (Unit {0}) P → MatchOption r (Unit {0}) Q
 map_ready h1 h2 = grind arith

@@ -33,7 +33,7 @@ white_or n x all = sym (ap (λ t. t || all) (zero_dots n x))
 
 -- there are rows that show the same row of the sheet as row r
 pub rows_more : (n top t h r s to : ℕ) → r < n → t ≤ top + r → top + r - t < h → s ≡ (top + r - t) * 24 / h → to ≡ min (t + edge_at 24 h (s + 1) - top) n → r < to
-rows_more n top t h r s to l a i z m = grind (arith, row_alike)
+rows_more n top t h r s to l a i z m = grind arith
 
 -- the rows before row r have ink f
 abbrev pub Shown : ℕ → ℕ → ℕ → ℤ → (ℕ → ℕ → Bool) → ℕ → (ℕ → ℕ → Bool) → (ℕ → ℕ → Bool) → Type 0
@@ -45,10 +45,10 @@ module _ (n b top t h : ℕ) (at : ℤ) (f g : ℕ → ℕ → Bool) (e : (x y :
   none_above k x l = shifted_none at (λ v. f v (top + k)) x (λ v. e v (top + k) ∙ ap (λ c. c && ltb (top + k - t) h && g v ((top + k - t) * 24 / h)) (lt-leb t (top + k) l))
 
   none_below : (k x : ℕ) → t + h ≤ top + k → shifted at (λ v. f v (top + k)) x ≡ false
-  none_below k x l = grind (arith, shifted_none)
+  none_below k x l = grind arith
 
   pub shown_none : (r : ℕ) (old : ℕ → ℕ → Bool) → r ≡ min (t - top) n → Shown n b top at f r old old
-  shown_none r old z k x l h = grind (arith, none_above)
+  shown_none r old z k x l h = grind arith
 
   pub shown_more : (r to s : ℕ) (old mid new : ℕ → ℕ → Bool) (row : ℕ → Bool) → Shown n b top at f r old mid → t ≤ top + r → top + r - t < h → s ≡ (top + r - t) * 24 / h → to ≡ min (t + edge_at 24 h (s + 1) - top) n
       → ((k x : ℕ) → k < n → x < 8 * b → new k x ≡ (mid k x || span r to k && row x)) → ((x : ℕ) → x < 8 * b → row x ≡ shifted at (λ v. g v s) x) → Shown n b top at f to old new
@@ -70,7 +70,7 @@ module _ (n b top t h : ℕ) (at : ℤ) (f g : ℕ → ℕ → Bool) (e : (x y :
       ]
 
   pub shown_all : (r : ℕ) (old new : ℕ → ℕ → Bool) → min (t + h - top) n ≤ r → Shown n b top at f r old new → (k x : ℕ) → k < n → x < 8 * b → new k x ≡ (old k x || shifted at (λ v. f v (top + k)) x)
-  shown_all r old new z o k x l c = grind (arith, none_below)
+  shown_all r old new z o k x l c = grind arith
 
 or_assoc : (p q r : Bool) → (p || (q || r)) ≡ ((p || q) || r)
 or_assoc p q r = grind arith
@@ -112,13 +112,13 @@ module _ (sheet : Option Glyphs) (w h a b s : ℕ) (d : Alignment) (y : ℕ) (at
   pub drawn_all : (text : List ℕ) (place : ℕ) (left : Option (Bor (List ℕ))) (row : ℕ → Bool) → 0 < w → w ≤ a → y < block_height h b s
       → ((x : ℕ) → lines_dot (layout sheet w h a b s d) place (lines_left (a / w) left) x y ≡ false) → Drawn (a / w) (block_lines (a / w) text) place left row
       → (x : ℕ) → x < 8 * bytes → row x ≡ shifted at (λ v. block_dot (layout sheet w h a b s d) text v y) x
-  drawn_all text place left row p m k z o x c = grind (arith, shifted_same, lines_block)
+  drawn_all text place left row p m k z o x c = grind (arith, lines_block)
 
   -- all that is left was added
   pub drawn_joined : (text : List ℕ) (place : ℕ) (left : Option (Bor (List ℕ))) (lent : Bor (List ℕ)) (old new : ℕ → Bool) → 0 < w → w ≤ a → y < block_height h b s → left ≡ Some lent
       → ((x : ℕ) → x < 8 * bytes → new x ≡ (old x || shifted at (λ v. lines_dot (layout sheet w h a b s d) place (block_lines (a / w) lent.now) v y) x)) → Drawn (a / w) (block_lines (a / w) text) place left old
       → (x : ℕ) → x < 8 * bytes → new x ≡ shifted at (λ v. block_dot (layout sheet w h a b s d) text v y) x
-  drawn_joined text place left lent old new p m k e z o x c = grind (arith, shifted_or, shifted_same, lines_block)
+  drawn_joined text place left lent old new p m k e z o x c = grind (arith, shifted_or, lines_block)
 
   -- a block less wide than a cell has none
   pub drawn_narrow : (text : List ℕ) (row : Bool) (x : ℕ) → a < w → row ≡ false → row ≡ shifted at (λ v. block_dot (layout sheet w h a b s d) text v y) x

@@ -63,7 +63,7 @@ module _ (op : Op) (at : ℤ) (sheet : Option Glyphs) (cells : List ℕ) (k w h 
 
     -- left of the cell
     before : (x : ℕ) → x < place → so_far sheet (take k cells) w h left y (i + 1) x ≡ so_far sheet (take k cells) w h left y i x
-    before x j = grind (arith, next)
+    before x j = grind arith
 
     -- from the cell on
     from_cell : (x : ℕ) → place ≤ x → so_far sheet (take k cells) w h left y (i + 1) x ≡ sampled_dot sheet b w h (x - place) y
@@ -82,7 +82,7 @@ module _ (op : Op) (at : ℤ) (sheet : Option Glyphs) (cells : List ℕ) (k w h 
 
     -- one cell more
     pub more : (x : ℕ) → so_far sheet (take k cells) w h left y (i + 1) x ≡ (so_far sheet (take k cells) w h left y i x || leb place x && sampled_dot sheet b w h (x - place) y)
-    more x = grind (arith, from_cell, not_yet)
+    more x = grind (arith, from_cell)
 
     pub side_more : (a c d : List ℕ) → Painted op (shifted at (so_far sheet (take k cells) w h left y i)) a c
         → Painted op (shifted at (λ x. leb place x && sampled_dot sheet b w h (x - place) y)) c d → Painted op (shifted at (so_far sheet (take k cells) w h left y (i + 1))) a d
@@ -109,7 +109,7 @@ module _ (op : Op) (at : ℤ) (sheet : Option Glyphs) (cells : List ℕ) (k w h 
   module _ (i : ℕ) (n : (x d : ℕ) → left ≤ x → x < left + w * i → pos d ≡ at +ℤ pos x → d < 0) where
     -- left of the row's first dot there is nothing
     none : (d : ℕ) → shifted at (so_far sheet (take k cells) w h left y i) d ≡ false
-    none d = grind (arith, met)
+    none d = grind arith
 
     pub side_none : (row : List ℕ) → Painted op (shifted at (so_far sheet (take k cells) w h left y i)) row row
     side_none row = painted_none op (shifted at (so_far sheet (take k cells) w h left y i)) row (λ d l. none d)
@@ -150,7 +150,7 @@ module _ (op : Op) (at : ℤ) (sheet : Option Glyphs) (cells : List ℕ) (w h y 
   -- a row below the cells
   pub text_below : (row : List ℕ) → h ≤ y → Painted op (shifted at (λ x. text_dot sheet cells w h x y)) row row
   unfolding text_dot sampled_dot
-  text_below row l = grind (arith, moved_none)
+  text_below row l = grind arith
 
   -- all cells of a text that can be seen
   pub text_all : 0 < w → (i to : ℕ) (a b : List ℕ) → to ≤ i → ((x d : ℕ) → 0 + w * to ≤ x → x < 0 + w * length cells → pos d ≡ at +ℤ pos x → 8 * length a ≤ d)

@@ -12,29 +12,29 @@ use Rattle.vp_dots.proofs.Shifts.{shifted_none}
 
 -- a quotient by its bounds
 pub quotient : (a w s : ℕ) → 0 < w → s * w ≤ a → a < (s + 1) * w → a / w ≡ s
-quotient a w s p l h = grind (arith, le-div_iff_mul-le, div-lt_iff_lt-mul)
+quotient a w s p l h = grind (arith, le-div_iff_mul-le)
 
 -- where dot s of n begins, drawn w wide in all
 abbrev pub edge_at : ℕ → ℕ → ℕ → ℕ
 edge_at n w s = (s * w + (n - 1)) / n
 
 pub from_edge : (n w s u : ℕ) → 0 < n → edge_at n w s ≤ u → s * w ≤ u * n
-from_edge n w s u p l = grind (arith, div-lt_iff_lt-mul)
+from_edge n w s u p l = grind arith
 
 pub before_edge : (n w s u : ℕ) → 0 < n → u < edge_at n w s → u * n < s * w
-before_edge n w s u p l = grind (arith, le-div_iff_mul-le)
+before_edge n w s u p l = grind arith
 
 pub edge_first : (n w : ℕ) → 0 < n → edge_at n w 0 ≡ 0
 edge_first n w p = let h : (0 * w + (n - 1)) / n < 1 = (div-lt_iff_lt-mul {k = n} {x = 0 * w + (n - 1)} {y = 1} p).1 (omega arith) in omega arith
 
 pub edge_more : (n w s : ℕ) → 0 < n → edge_at n w s ≤ edge_at n w (s + 1)
-edge_more n w s p = grind (arith, div-mul-le_self, le-div_iff_mul-le)
+edge_more n w s p = grind (arith, div-mul-le_self)
 
 pub edge_last : (n w : ℕ) → 0 < n → edge_at n w n ≡ w
-edge_last n w p = grind (arith, le-div_iff_mul-le, div-lt_iff_lt-mul)
+edge_last n w p = grind (arith, le-div_iff_mul-le)
 
 pub edge_within : (n w s : ℕ) → 0 < n → s ≤ n → edge_at n w s ≤ w
-edge_within n w s p l = grind (arith, mul-le-mul_right, div-lt_iff_lt-mul)
+edge_within n w s p l = grind (arith, mul-le-mul_right)
 
 -- n dots from a place on, drawn so wide in all
 abbrev pub ink : ℕ → (ℕ → Bool) → ℕ → ℕ → ℕ → Bool
@@ -52,12 +52,12 @@ module _ (op : Op) (at : ℤ) (f : ℕ → Bool) where
   -- a run of ink behind what is painted
   pub run_painted : (from to : ℕ) (a b c : List ℕ) → from ≤ to → Painted op (shifted at (λ x. ltb x from && f x)) a b → Painted op (shifted at (span from to)) b c
       → ((x : ℕ) → from ≤ x → x < to → f x ≡ true) → Painted op (shifted at (λ x. ltb x to && f x)) a c
-  run_painted from to a b c l p q h = grind (arith, nat_tests, moved_then)
+  run_painted from to a b c l p q h = grind (arith, nat_tests)
 
   -- a run without ink
   pub run_blank : (from to : ℕ) (a b : List ℕ) → from ≤ to → Painted op (shifted at (λ x. ltb x from && f x)) a b
       → ((x : ℕ) → from ≤ x → x < to → f x ≡ false) → Painted op (shifted at (λ x. ltb x to && f x)) a b
-  run_blank from to a b l p h = grind (arith, moved_same)
+  run_blank from to a b l p h = grind arith
 
 module _ (op : Op) (at : ℤ) (n : ℕ) (glyph : ℕ → Bool) (left width : ℕ) where
   -- the dots before s: all before the run is painted, and the run is all ink
@@ -69,17 +69,17 @@ module _ (op : Op) (at : ℤ) (n : ℕ) (glyph : ℕ → Bool) (left width : ℕ
 
   module _ (p : 0 < n) where
     pub running_none : (a : List ℕ) → Running 0 left left a a
-    running_none a = grind (arith, nat_tests, edge_first, painted_none, shifted_none)
+    running_none a = grind (arith, nat_tests, painted_none)
 
     -- a black dot more
     pub running_on : (s from to next : ℕ) (a b : List ℕ) → s < n → Running s from to a b → next ≡ left + edge_at n width (s + 1) → glyph s ≡ true → Running (s + 1) from next a b
-    running_on s from to next a b l r e t = grind (arith, edge_more, ink_is)
+    running_on s from to next a b l r e t = grind (arith, ink_is)
 
     -- a white dot more
     pub running_off : (s from to next : ℕ) (a b c : List ℕ) → s < n → Running s from to a b → Painted op (shifted at (span from to)) b c → next ≡ left + edge_at n width (s + 1) → glyph s ≡ false
         → Running (s + 1) next next a c
-    running_off s from to next a b c l r q e t = grind (arith, nat_tests, edge_more, run_blank, run_painted, ink_is)
+    running_off s from to next a b c l r q e t = grind (arith, nat_tests, edge_more, run_blank, ink_is)
 
     -- all dots
     pub running_all : (s from to : ℕ) (a b c : List ℕ) → s ≡ n → Running s from to a b → Painted op (shifted at (span from to)) b c → Painted op (shifted at (ink n glyph left width)) a c
-    running_all s from to a b c l r q = grind (arith, nat_tests, edge_last, moved_same, run_painted)
+    running_all s from to a b c l r q = grind (arith, nat_tests, edge_last, moved_same)

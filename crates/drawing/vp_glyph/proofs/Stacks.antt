@@ -30,7 +30,7 @@ module _ (sheet : Option Glyphs) (w h a b s : ℕ) (d : Alignment) (x y : ℕ) w
   pub front_found : (n place k : ℕ) (left next : Option (Bor (List ℕ))) (text : Bor (List ℕ)) (lent : List ℕ) (r : Bool) → left ≡ Some text → lent ≡ text.now
       → MatchOption next (block_lines n text.now ≡ take k (first (pieces text.now)) ∷ []) (λ q. block_lines n text.now ≡ take k (first (pieces text.now)) ∷ block_lines n q.now)
       → r ≡ line_dot (layout sheet w h a b s d) place (take k (first (pieces lent))) x y → r ≡ true → lines_dot (layout sheet w h a b s d) place (lines_left n left) x y ≡ true
-  front_found n place k left next text lent r e m l f t = grind (arith, dot_found, lines_are)
+  front_found n place k left next text lent r e m l f t = grind (arith, dot_found)
 
 module _ (sheet : Option Glyphs) (w h a b s : ℕ) (d : Alignment) (x y : ℕ) where
   -- a line that ends above the row
@@ -104,12 +104,12 @@ module _ (sheet : Option Glyphs) (text : List ℕ) (w h a b s : ℕ) (d : Alignm
 
   pub block_below : block_height h b s ≤ y → false ≡ block_dot (layout sheet w h a b s d) text x y
   unfolding block_dot
-  block_below l = grind (arith, le-ltb y (block_height h b s) l)
+  block_below l = grind arith
 
   -- less wide than a cell
   pub block_narrow : a < w → false ≡ block_dot (layout sheet w h a b s d) text x y
   unfolding block_dot
-  block_narrow l = grind (arith, lt-leb w a l)
+  block_narrow l = grind arith
 
   -- inside
   pub block_within : x < block_width a w → y < block_height h b s → w ≤ a → lines_dot (layout sheet w h a b s d) 0 (block_lines (a / w) text) x y ≡ block_dot (layout sheet w h a b s d) text x y

@@ -26,7 +26,7 @@ place_meets (negsuc a) place r d l below above = elim (cases_lt (d + (a + 1)) pl
 
 -- and what lies between two of them
 span_meets : (at : ℤ) (p q r s d : ℕ) → leb r d ≡ shifted at (leb p) d → leb s d ≡ shifted at (leb q) d → span r s d ≡ shifted at (span p q) d
-span_meets at p q r s d e f = grind (arith, met)
+span_meets at p q r s d e f = grind arith
 
 module _ (at : ℤ) (left w : ℕ) (g : ℕ → Bool) where
   -- the dots before s of a cell
@@ -41,13 +41,13 @@ module _ (at : ℤ) (left w : ℕ) (g : ℕ → Bool) where
   ]
     where
       moved : (a b : ℕ) → left ≤ x → span a b (x - left) ≡ span (left + a) (left + b) x
-      moved a b o = grind (arith, o)
+      moved a b o = grind arith
 
   one_more : (s x : ℕ) → before (s + 1) x ≡ (before s x || g s && (leb left x && ltb (x - left) w && eqb ((x - left) * 12 / w) s))
   one_more s x = grind arith
 
   shifted_if : (a : Bool) (f : ℕ → Bool) (d : ℕ) → shifted at (λ x. a && f x) d ≡ (a && shifted at f d)
-  shifted_if a f d = grind (arith, shifted_none)
+  shifted_if a f d = grind arith
 
   or_assoc : (a b c : Bool) → (a || b || c) ≡ (a || (b || c))
   or_assoc a b c = grind arith
@@ -56,7 +56,7 @@ module _ (at : ℤ) (left w : ℕ) (g : ℕ → Bool) where
   or_false a = grind arith
 
   pub wide_none : (s : ℕ) (old : Bool) (d : ℕ) → s ≡ 0 → old ≡ (old || shifted at (before s) d)
-  wide_none s old d e = grind (arith, shifted_none, le-ltb)
+  wide_none s old d e = grind (arith, le-ltb)
 
   -- nor where those before s lie before the row
   pub wide_hidden : (s from d : ℕ) (old : Bool) → s ≤ 12 → leb from d ≡ shifted at (leb (left + edge_at 12 w s)) d → from ≡ 0 → old ≡ (old || shifted at (before s) d)
