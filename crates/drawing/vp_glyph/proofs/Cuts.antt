@@ -11,10 +11,6 @@ use Rattle.vp_glyph.specs.Inked.{IsInked}
 use Rattle.vp_glyph.specs.declared.sheet.Inked.{Inked}
 use Rattle.vp_glyph.proofs.Looks.{white_dot}
 
--- no dot of a part of no dots
-pub and_white : (t : Bool) {b : Bool} → b ≡ false → (t && b) ≡ false
-and_white t h1 = grind arith
-
 -- a row of a cell, cut out of the raster's rows
 pub row_in_cell : (sheet : Glyphs) (c x y from word keep cut : ℕ) → sheet.wide ≤ 64 → y < sheet.high → from ≡ 16 * sheet.wide * (sheet.high * (c / 16) + y) + sheet.wide * (c % 16)
     → (x < 64 → word_dot word x ≡ dot sheet.raster (from + x)) → word_dot keep x ≡ ltb x sheet.wide → word_dot cut x ≡ (word_dot word x && word_dot keep x) → word_dot cut x ≡ glyph_dot sheet c x y

@@ -42,9 +42,6 @@ black_more old new = grind arith
 or_false : (b : Bool) → b ≡ (b || false)
 or_false b = grind arith
 
-and_false : (b : Bool) → (b && false) ≡ false
-and_false b = grind arith
-
 -- rows of the sheet, drawn h rows high in all from row `above` on
 -- dot x of row y
 abbrev pub shown : List ℕ → ℕ → ℕ → ℕ → ℕ → Bool
@@ -54,12 +51,6 @@ module _ (rows : List ℕ) (above h n top : ℕ) where
   -- the rows before r are added to the fronts
   abbrev pub Added : ℕ → (ℕ → ℕ → Bool) → (ℕ → ℕ → Bool) → Type 0
   Added r old new = (i x : ℕ) → i < n → x < 32 → new i x ≡ (old i x || ltb (top + i) (above + edge_at 24 h r) && shown rows above h (top + i) x)
-
-  shown_above : (y x : ℕ) → y < above → shown rows above h y x ≡ false
-  shown_above y x l = rw (lt-leb above y l) refl
-
-  shown_below : (y x : ℕ) → above + h ≤ y → shown rows above h y x ≡ false
-  shown_below y x l = rw (le-ltb (y - above) h (omega arith)) (ap (λ t. t && half_dot (get_or rows ((y - above) * 24 / h) 0) x) (and_false (leb above y)))
 
   -- a row on which one of the rows from r on is shown that are like r
   shown_row : (r q y x : ℕ) → q ≤ 24 → ((p : ℕ) → r ≤ p → p < q → get_or rows p 0 ≡ get_or rows r 0) → above + edge_at 24 h r ≤ y → y < above + edge_at 24 h q → shown rows above h y x ≡ half_dot (get_or rows r 0) x
@@ -140,9 +131,6 @@ pub record Blackened (ink from to : ℕ) (old new : List ℕ) : Type 0 where
 pub blackened_more : (ink from i : ℕ) (old mid : List ℕ) → from ≤ i → i < length mid → Blackened ink from i old mid → Blackened ink from (i + 1) old (set mid i (bit_or (get_or mid i 0) ink))
 blackened_more ink from i old mid l m b = grind (arith, get_or-set_same, or_half, get_or-set_other)
 
-twice_ink : (a b : Bool) → ((a || b) || b) ≡ (a || b)
-twice_ink a b = grind arith
-
 -- the halves from one on, of which those up to another were blackened, and then those from before it on
 pub blackened_on : (ink a b c d : ℕ) (old mid new : List ℕ) → a ≤ c → c ≤ b → b ≤ d → Blackened ink a b old mid → Blackened ink c d mid new → Blackened ink a d old new
 blackened_on ink a b c d old mid new l m n p q = grind arith
@@ -156,9 +144,6 @@ module _ (groups : List ℕ) (n : ℕ) where
   settled_none old i x l m = or_false _ ∙ ap (λ t. half_dot (get_or old i 0) x || t) (sym (rw (le-ltb i (16 * 0) (omega arith)) refl))
 
   module _ (k : ℕ) (old mid : List ℕ) (o : Settled groups n k old mid) where
-    elsewhere : (i x : ℕ) → i < n → x < 32 → (i / 16 ≡ k → ⊥) → half_dot (get_or mid i 0) x ≡ (half_dot (get_or old i 0) x || ltb i (16 * (k + 1)) && half_dot (get_or groups (i / 16) 0) x)
-    elsewhere i x l m g = grind arith
-
     pub settled_white : get_or groups k 0 ≡ 0 → Settled groups n (k + 1) old mid
     settled_white e i x l m = grind (arith, white_half)
 

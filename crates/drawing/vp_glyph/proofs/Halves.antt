@@ -8,9 +8,6 @@ use Rattle.vp_dots.proofs.Bits.{bit_of_or}
 use Rattle.vp_dots.proofs.Words.{bit_shr}
 use Rattle.vp_glyph.specs.Halves.{half_dot}
 
-or_is : (a b : Bool) → cond b true a ≡ (a || b)
-or_is a b = grind arith
-
 pub or_half : (v w x : ℕ) → half_dot (bit_or v w) x ≡ (half_dot v x || half_dot w x)
 or_half v w x = grind (arith, bit_of_or)
 

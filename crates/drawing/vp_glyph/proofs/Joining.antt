@@ -24,21 +24,6 @@ use Rattle.vp_glyph.proofs.Stacks.{lines_left, lines_are, block_within, block_pa
 and_false : (b : Bool) → (b && false) ≡ false
 and_false b = grind arith
 
-none_and : (a b c : Bool) → (a && (b && false && c)) ≡ false
-none_and a b c = grind arith
-
-into : (a b c d : Bool) → (a && b && (c && d)) ≡ (b && c && (a && d))
-into a b c d = grind arith
-
-plain : (a b : Bool) → (a && b) ≡ (a && true && b)
-plain a b = grind arith
-
-or_assoc : (a b c : Bool) → (a || (b || c)) ≡ (a || b || c)
-or_assoc a b c = grind arith
-
-or_false : (a : Bool) → (a || false) ≡ a
-or_false a = grind arith
-
 shared_or : (a b c : Bool) → ((a && b) || (a && c)) ≡ (a && (b || c))
 shared_or a b c = grind arith
 
@@ -51,9 +36,6 @@ module _ (sheet : Option Glyphs) (w h a b s : ℕ) (d : Alignment) where
   text_rows : (cells : List ℕ) (u v : ℕ) → text_dot sheet cells w h u v ≡ (ltb v h && text_dot sheet cells w 24 u (v * 24 / h))
   unfolding text_dot sampled_dot
   text_rows cells u v = grind arith
-
-  first_rows : (line : List ℕ) (x r : ℕ) → (leb (indent d (a - w * length line)) x && text_dot sheet line w 24 (x - indent d (a - w * length line)) r) ≡ line_dot (layout sheet w 24 a 1 0 d) 0 line x r
-  first_rows line x r = grind arith
 
   -- and so does a row of a line
   pub line_rows : (place : ℕ) (line : List ℕ) (x y : ℕ) → line_dot (layout sheet w h a b s d) place line x y

@@ -68,9 +68,6 @@ shift_more at n f d = elim (met at d) [
   | inr m ↦ shifted_outside (at +ℤ pos n) f d (λ x e. m.0 (n + x) (omega (arith, ints))) ∙ sym (m.1 (λ x. leb n x && f (x - n)))
 ]
 
-and_assoc : (a b c : Bool) → (a && (b && c)) ≡ (a && b && c)
-and_assoc a b c = grind arith
-
 module _ (at at' : ℤ) (glyph : ℕ → Bool) (left width wide : ℕ) (e : at' ≡ at +ℤ pos left) (h : (x : ℕ) → word_dot wide x ≡ (ltb x width && glyph (x * 12 / width))) where
   -- a word from a place on
   pub word_placed : (d : ℕ) → shifted at' (word_dot wide) d ≡ shifted at (ink 12 glyph left width) d

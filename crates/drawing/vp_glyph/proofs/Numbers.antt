@@ -10,9 +10,6 @@ use Rattle.std.specs.List.{prefix_len}
 use Rattle.std.specs.Str.Parse.{digits_value}
 use Rattle.vp_glyph.specs.Headers.{digit}
 
-digit_range : (c : ℕ) → IsTrue (digit c) → IsInRange 48 57 c
-digit_range c t = let p = and_parts _ _ t in (leb-true _ _ p.0, leb-true _ _ p.1)
-
 -- what is counted at the front are digits
 pub digits_counted : (text : List ℕ) (n i : ℕ) → n ≡ prefix_len digit text → i < length (take n text) → IsTrue (digit (get_or (take n text) i 0))
 digits_counted text n i e l = grind (arith, length-take, get_or-take, prefix_len_passes)

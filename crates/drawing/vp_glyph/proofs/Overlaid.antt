@@ -20,9 +20,6 @@ use Rattle.vp_glyph.specs.declared.block.Alignment.{Alignment}
 use Rattle.vp_glyph.proofs.Drawn.{moved_none}
 use Rattle.vp_glyph.proofs.Stacks.{lines_left, lines_are, line_above, block_past, block_within}
 
-black_is : (i old : Bool) → old ≡ false → paint Black i old ≡ i
-black_is i old h1 = grind arith
-
 -- black over black and white over white
 again : (op : Op) (i j k old : Bool) → op ≢ Flip → k ≡ (i || j) → paint op j (paint op i old) ≡ paint op k old
 again op i j k old h1 h2 = grind arith
@@ -35,9 +32,6 @@ indent_within d room = grind arith
 
 or_assoc : (a b c : Bool) → (a || (b || c)) ≡ (a || b || c)
 or_assoc a b c = grind arith
-
-or_false : (b : Bool) → b ≡ (b || false)
-or_false b = grind arith
 
 or_true : (a b : Bool) → (a || b) ≡ true → (a ≡ true) ⊎ (b ≡ true)
 or_true a b h1 = grind arith

@@ -14,16 +14,9 @@ black_or ink old = grind arith
 pub or_false : (b : Bool) → b ≡ (b || false)
 or_false b = grind arith
 
-or_comm : (a b : Bool) → (a || b) ≡ (b || a)
-or_comm a b = grind arith
-
 -- the bytes before i of a row are blackened, all of n
 pub bytes_done : (n i x : ℕ) (ink old new : List ℕ) → n ≤ i → length old ≡ n → x < 8 * n → Painted Black (λ d. ltb (d / 8) i && dot ink d) old new → dot new x ≡ (dot old x || dot ink x)
 bytes_done n i x ink old new l m h p = p.dots_are x (omega (arith, m)) ∙ ap (λ b. paint Black (b && dot ink x) (dot old x)) (lt-ltb (x / 8) i (omega arith)) ∙ black_or (dot ink x) (dot old x)
-
--- dots added to a row that others were added to
-or_more : (a r c : Bool) → (a || c || r) ≡ ((a || r) || c)
-or_more a r c = grind arith
 
 -- rows to which dots are added
 module _ (b : ℕ) (ink : ℕ → ℕ → Bool) where
@@ -51,9 +44,6 @@ pub record Passed (b k : ℕ) (old new : List (List ℕ)) : Type 0 where
 pub passed_one : (b : ℕ) (old : List (List ℕ)) → Passed b 1 old old
 passed_one b old = record { some = omega arith; done = λ j x l h. (let z : j ≡ 0 = omega arith in rw z refl); rest = λ j l. refl }
 
-upto_next : (rows : List (List ℕ)) (k x : ℕ) → 0 < k → dot_upto rows k x ≡ (dot_upto rows (k - 1) x || dot (get_or rows k []) x)
-upto_next rows k x h1 = grind arith
-
 pub passed_more : (b k : ℕ) (old mid : List (List ℕ)) (new : List ℕ) → k < length mid → ((x : ℕ) → x < 8 * b → dot new x ≡ (dot (get_or mid k []) x || dot (get_or mid (k - 1) []) x))
     → Passed b k old mid → Passed b (k + 1) old (set mid k new)
 passed_more b k old mid new m e p = grind (arith, get_or-set_same, get_or-set_other)
@@ -76,9 +66,6 @@ white_runs n b k x = grind (arith, white_upto)
 upto_set : (rows : List (List ℕ)) (i k x : ℕ) (new : List ℕ) (r : Bool) → i < length rows → dot new x ≡ (dot (get_or rows i []) x || r) → dot_upto (set rows i new) k x ≡ (dot_upto rows k x || leb i k && r)
 upto_set rows i zero x new r m e = grind (arith, get_or-set_same, get_or-set_other)
 upto_set rows i (suc k) x new r m e = grind (arith, get_or-set_same, get_or-set_other, upto_set rows i k x new r m e)
-
-down_more : (a d u r : Bool) → (a || ((d || r) || u)) ≡ ((a || (d || u)) || r)
-down_more a d u r = grind arith
 
 up_more : (a d u r : Bool) → (a || (d || (u || r))) ≡ ((a || (d || u)) || r)
 up_more a d u r = grind arith

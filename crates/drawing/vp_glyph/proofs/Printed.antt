@@ -14,9 +14,6 @@ use Rattle.vp_glyph.proofs.Parts.{body_place, past_all}
 and_false : (b : Bool) → (b && false) ≡ false
 and_false b = grind arith
 
-or_false : (b : Bool) → (b || false) ≡ b
-or_false b = grind arith
-
 module _ (sheets : Sheets) (font : Font) (style : Style) (c y : ℕ) (h : style.hm ≡ 1) (low : y < font_height font) where
   -- the dots of the character itself
   abbrev body : ℕ → Bool

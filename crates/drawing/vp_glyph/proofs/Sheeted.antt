@@ -17,9 +17,6 @@ use Rattle.vp_glyph.proofs.Passed.{black_or, or_false}
 use Rattle.vp_glyph.proofs.Spread.{edge_at}
 use Rattle.vp_glyph.proofs.Stacks.{lines_left, lines_are, block_narrow}
 
-and_false : (b : Bool) → (b && false) ≡ false
-and_false b = grind arith
-
 -- a row painted on white
 pub on_white : (n : ℕ) (at : ℤ) (f : ℕ → Bool) (row : List ℕ) (x : ℕ) → x < 8 * n → Painted Black (shifted at f) (replicate {A = ℕ} n 0) row → dot row x ≡ shifted at f x
 on_white n at f row x l p = p.dots_are x (let m = length-replicate {A = ℕ} n 0 in omega (arith, m)) ∙ black_or (shifted at f x) (dot (replicate {A = ℕ} n 0) x) ∙ ap (λ b. b || shifted at f x) (zero_dots n x)
@@ -41,12 +38,6 @@ Shown n b top at f r old new = (k x : ℕ) → k < n → x < 8 * b → new k x �
 
 -- ink from row t on, h rows high, each of which shows a row of the sheet, whose ink is g
 module _ (n b top t h : ℕ) (at : ℤ) (f g : ℕ → ℕ → Bool) (e : (x y : ℕ) → f x y ≡ (leb t y && ltb (y - t) h && g x ((y - t) * 24 / h))) where
-  none_above : (k x : ℕ) → top + k < t → shifted at (λ v. f v (top + k)) x ≡ false
-  none_above k x l = shifted_none at (λ v. f v (top + k)) x (λ v. e v (top + k) ∙ ap (λ c. c && ltb (top + k - t) h && g v ((top + k - t) * 24 / h)) (lt-leb t (top + k) l))
-
-  none_below : (k x : ℕ) → t + h ≤ top + k → shifted at (λ v. f v (top + k)) x ≡ false
-  none_below k x l = grind arith
-
   pub shown_none : (r : ℕ) (old : ℕ → ℕ → Bool) → r ≡ min (t - top) n → Shown n b top at f r old old
   shown_none r old z k x l h = grind arith
 

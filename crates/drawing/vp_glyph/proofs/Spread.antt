@@ -49,11 +49,6 @@ ink_is n glyph left width s x p k l h =
     rw (le-leb left x (omega arith), lt-ltb (x - left) width (omega arith), q) refl
 
 module _ (op : Op) (at : ℤ) (f : ℕ → Bool) where
-  -- a run of ink behind what is painted
-  pub run_painted : (from to : ℕ) (a b c : List ℕ) → from ≤ to → Painted op (shifted at (λ x. ltb x from && f x)) a b → Painted op (shifted at (span from to)) b c
-      → ((x : ℕ) → from ≤ x → x < to → f x ≡ true) → Painted op (shifted at (λ x. ltb x to && f x)) a c
-  run_painted from to a b c l p q h = grind (arith, nat_tests)
-
   -- a run without ink
   pub run_blank : (from to : ℕ) (a b : List ℕ) → from ≤ to → Painted op (shifted at (λ x. ltb x from && f x)) a b
       → ((x : ℕ) → from ≤ x → x < to → f x ≡ false) → Painted op (shifted at (λ x. ltb x to && f x)) a b

@@ -13,6 +13,4 @@ loop-i-preserved g c =
     }
 
 pub returns-clause-outside : goal.returns-clause-outside
-returns-clause-outside g c = λ i e.
-    let end : c.loop-i.i ≡ g.row.M = omega arith in
-    c.loop-i.invariant.blackened.outside i (ap (λ n. span c.args.from (c.args.from + n) i) end ∙ e)
+returns-clause-outside g c = grind (arith, c.loop-i.invariant.blackened.outside)

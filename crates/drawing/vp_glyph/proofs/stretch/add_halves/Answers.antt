@@ -12,6 +12,4 @@ loop-r-preserved c = record {
 }
 
 pub returns : goal.returns
-returns c =
-    let all : c.loop-r.r ≡ c.args.high = omega arith in
-    λ r d n l. c.loop-r.invariant.grown r d n l ∙ ap (λ k. half_dot (get_or c.args.halves.now r 0) d || ltb r k && word_dot (get_or c.args.cell.now r 0) d) all
+returns c = grind (arith, c.loop-r.invariant.grown)

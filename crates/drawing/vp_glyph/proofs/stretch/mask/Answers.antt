@@ -4,7 +4,4 @@ use Rattle.vp_glyph.proofs.Looks.{white_dot}
 use Rattle.vp_glyph.proofs.stretch.mask.Goals as goal
 
 pub returns-then-to-from : goal.returns-then-to-from
-returns-then-to-from c = λ x. white_dot x ∙ sym (elim (cases_lt x c.args.from) [
-  | inl b ↦ rw (lt-leb c.args.from x b) refl
-  | inr g ↦ rw (le-leb c.args.from x g, le-ltb x c.args.to (omega (arith, g, c.if-to-from.true))) refl
-])
+returns-then-to-from c = grind (arith, white_dot, cases_lt, lt-leb, le-leb, le-ltb, c.if-to-from.true)

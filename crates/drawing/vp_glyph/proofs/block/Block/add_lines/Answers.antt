@@ -11,15 +11,7 @@ use Rattle.vp_glyph.proofs.block.Block.add_lines.Goals.{then-self-eq0-via-then-s
 
 pub loop-left-init : goal.loop-left-init
 loop-left-init g c =
-    let b = c.args.self.now in
-    record {
-      place_within = omega arith;
-      first_is = rw (c.new-kept.ensures.first, c.new-kept.ensures.first_cells) (rows_none b.sheet.now b.w b.h b.wide b.rows b.pitch b.alignment _ _ refl);
-      second_is = rw (c.new-kept.ensures.second, c.new-kept.ensures.first, c.new-kept.ensures.first_cells) (rows_none b.sheet.now b.w b.h b.wide b.rows b.pitch b.alignment _ _ refl);
-      drawn = λ i l. drawn_none b.sheet.now b.w b.h b.wide b.rows b.pitch b.alignment (c.args.top + i) _ 4 _ _ _ _ _ (λ x. c.requires.white i x) (λ x. c.first_line-above.ensures.lines x (c.args.top + i) (omega arith));
-      counted = omega (arith, c.first_line-above.ensures.less);
-      none = λ e i x. c.requires.white i x;
-    }
+    grind (arith, rows_none, drawn_none, c.new-kept.ensures.first, c.new-kept.ensures.first_cells, c.new-kept.ensures.second, c.requires.white, c.first_line-above.ensures.lines, c.first_line-above.ensures.less)
 
 pub loop-left-preserved : goal.loop-left-preserved
 loop-left-preserved g c =

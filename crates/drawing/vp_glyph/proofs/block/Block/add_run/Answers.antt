@@ -35,10 +35,4 @@ returns-then-from-eq0 g c =
     }
 
 pub returns : goal.returns
-returns g c =
-    let r = c.args.rows.now in
-    rw (sym (to_z-of_z w64 c.args.at c.ranges.at)) (record {
-      dots = λ k x l h. c.blacken.ensures k x l h ∙ ap (λ v. run_dot r.alone r.down r.up 32 k x || (span c.args.from c.args.to k && v)) (c.sheet_row.ensures.row x h);
-      counted = c.sheet_row.ensures.counted;
-      most = c.sheet_row.ensures.most;
-    })
+returns g c = grind (arith, to_z-of_z, c.blacken.ensures, c.sheet_row.ensures.row, c.sheet_row.ensures.counted, c.sheet_row.ensures.most)

@@ -8,15 +8,7 @@ use Rattle.vp_glyph.proofs.block.Block.draw_lines.Goals as goal
 use Rattle.vp_glyph.proofs.block.Block.draw_lines.Goals.{then-draw_line, else-draw_line}
 
 pub loop-left-init : goal.loop-left-init
-loop-left-init g c =
-    let b = c.args.self.now in
-    record {
-      place_within = omega arith;
-      drawn = λ k l. drawn_none b.sheet.now b.w b.h b.wide b.rows b.pitch b.alignment (c.args.top + k) _ 160 _ _ _ _ _ (λ x. c.requires.white k x) (λ x. c.first_line-above.ensures.lines x (c.args.top + k) (omega arith));
-      counted = omega (arith, c.requires.none, c.first_line-above.ensures.less);
-      none = λ e k x. c.requires.white k x;
-      white = λ e k x. c.requires.white k x;
-    }
+loop-left-init g c = grind (arith, drawn_none, c.requires.white, c.first_line-above.ensures.lines, c.requires.none, c.first_line-above.ensures.less)
 
 pub loop-left-preserved : goal.loop-left-preserved
 loop-left-preserved g c =

@@ -28,10 +28,4 @@ loop-left-preserved g c =
     }
 
 pub returns : goal.returns
-returns g c =
-    let b = c.args.self.now in
-    rw (sym (to_z-of_z w64 c.args.at c.ranges.at)) (record {
-      rows = λ s x l m. joined_all b.sheet.now b.w b.h b.wide b.rows b.pitch b.alignment _ _ s x (half_dot (get_or c.loop-left.rows s 0) x) c.loop-left.left _ (c.loop-left.invariant.joined s x l m) c.in_default.is;
-      some = c.loop-left.invariant.some c.in_default.is;
-      most = omega (arith, c.loop-left.invariant.counted);
-    })
+returns g c = grind (arith, to_z-of_z, joined_all, c.loop-left.invariant.joined, c.in_default.is, c.loop-left.invariant.some, c.loop-left.invariant.counted)

@@ -10,13 +10,7 @@ use Rattle.vp_glyph.proofs.Sheeted.{blackened, white_or}
 use Rattle.vp_glyph.proofs.block.Block.joined_row.Goals as goal
 
 pub loop-left-init : goal.loop-left-init
-loop-left-init g c = record {
-  count = length-replicate g.row.B 0;
-  joined = λ x l. white_or g.row.B x _;
-  counted = omega arith;
-  more = omega arith;
-  some = λ e. absurd (let f = e in cc);
-}
+loop-left-init g c = grind (arith, length-replicate, white_or)
 
 pub loop-left-preserved : goal.loop-left-preserved
 loop-left-preserved g c =
@@ -37,11 +31,4 @@ loop-left-preserved g c =
     }
 
 pub returns : goal.returns
-returns g c =
-    let b = c.args.self.now in
-    rw (sym (to_z-of_z w64 c.args.at c.ranges.at)) (record {
-      row = λ x l. joined_all b.sheet.now b.w b.h b.wide b.rows b.pitch b.alignment _ _ c.args.s x (dot c.loop-left.row x) c.loop-left.left _ (c.loop-left.invariant.joined x l) c.in_default.is;
-      counted = c.loop-left.invariant.more;
-      some = c.loop-left.invariant.some c.in_default.is;
-      most = omega (arith, c.loop-left.invariant.counted);
-    })
+returns g c = grind (arith, to_z-of_z, joined_all, c.loop-left.invariant.joined, c.in_default.is, c.loop-left.invariant.more, c.loop-left.invariant.some, c.loop-left.invariant.counted)
