@@ -17,10 +17,7 @@ loop-left-preserved g c =
       place_within = omega arith;
       drawn = λ k l. drawn_more b.sheet.now b.w b.h b.wide b.rows b.pitch b.alignment (c.args.top + k) _ 160 _ _ c.loop-left.place c.hand_line.result.0.cells _ c.loop-left.left c.hand_line.result.1 c.in-Some.text c.hand_line.result.0.text.now _ _
           (c.loop-left.invariant.drawn k l) c.in-Some.is c.hand_line.ensures.text c.hand_line.ensures.lines (λ x m. c.draw_line.ensures.dots k x l m) (omega arith);
-      counted =
-          let less = less_left c.hand_line.result.0.cells c.in-Some.text.now c.hand_line.result.1 c.hand_line.ensures.less in
-          let left = ap pieces_left c.in-Some.is in
-          omega (arith, less, left, c.loop-left.invariant.counted, c.hand_line.ensures.counted, c.draw_line.ensures.most);
+      counted = grind (arith, less_left, c.hand_line.ensures.less, c.in-Some.is, c.loop-left.invariant.counted, c.hand_line.ensures.counted, c.draw_line.ensures.most);
       none = λ e. absurd (omega (arith, e, c.hand_line.ensures.counted, c.draw_line.ensures.counted));
       white = λ e k x. elim c.if-draw_line.branch [
         | then-draw_line w ↦ absurd (let d = w.drawn-is in cc)
