@@ -19,7 +19,7 @@ moved_none op at f row h = painted_none op (shifted at f) row (λ d l. shifted_n
 module _ (op : Op) (at : ℤ) (sheet : Option Glyphs) (c w h left y : ℕ) where
   pub sampled_below : (row : List ℕ) → h ≤ y → Painted op (shifted at (λ x. leb left x && sampled_dot sheet c w h (x - left) y)) row row
   unfolding sampled_dot
-  sampled_below row l = grind (arith, moved_none)
+  sampled_below row l = grind arith
 
   module _ (word : ℕ) (l : y < h) (e : (x : ℕ) → word_dot word x ≡ sheet_dot sheet c x (y * 24 / h)) where
     sampled_ink : (x : ℕ) → ink 12 (word_dot word) left w x ≡ (leb left x && sampled_dot sheet c w h (x - left) y)

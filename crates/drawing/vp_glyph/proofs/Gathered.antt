@@ -26,15 +26,15 @@ text_alike sheet cells w h y z a b e x = rw (lt-ltb y h a, lt-ltb z h b, e) refl
 
 -- the row of 24 that is shown
 pub row_shown : (h s u : ℕ) → s < 24 → edge_at 24 h s ≤ u → u < edge_at 24 h (s + 1) → (u < h) × (u * 24 / h ≡ s)
-row_shown h s u k l m = grind (arith, edge_within, quotient, from_edge)
+row_shown h s u k l m = grind (arith, edge_within, quotient)
 
 -- row u of h shows a row of the sheet, and so do the others that do
 pub row_alike : (h u : ℕ) → u < h → (u * 24 / h < 24) × (edge_at 24 h (u * 24 / h) ≤ u) × (u < edge_at 24 h (u * 24 / h + 1))
-row_alike h u l = grind (arith, div-lt_iff_lt-mul)
+row_alike h u l = grind arith
 
 -- later rows begin later
 edge_upto : (n w s t : ℕ) → 0 < n → s ≤ t → edge_at n w s ≤ edge_at n w t
-edge_upto n w s t p l = grind (arith, mul-le-mul_right)
+edge_upto n w s t p l = grind arith
 
 black_more : (old new : Bool) → (old || new) ≡ paint Black new old
 black_more old new = grind arith
@@ -57,7 +57,7 @@ module _ (rows : List ℕ) (above h n top : ℕ) where
   shown_row r q y x k a l m = grind (arith, row_alike, edge_upto)
 
   pub added_none : (old : ℕ → ℕ → Bool) → Added 0 old old
-  added_none old i x l m = grind (arith, edge_first)
+  added_none old i x l m = grind arith
 
   module _ (r q : ℕ) (old mid : ℕ → ℕ → Bool) (k : q ≤ 24) (j : r < q) (a : (p : ℕ) → r ≤ p → p < q → get_or rows p 0 ≡ get_or rows r 0) (o : Added r old mid) where
     -- where none of the rows is shown
@@ -102,7 +102,7 @@ module _ (rows : List ℕ) (above h n top : ℕ) where
 
   -- all rows
   pub added_all : (r : ℕ) (old new : ℕ → ℕ → Bool) → r ≡ 24 → Added r old new → (i x : ℕ) → i < n → x < 32 → new i x ≡ (old i x || shown rows above h (top + i) x)
-  added_all r old new z o i x l m = grind (arith, edge_last)
+  added_all r old new z o i x l m = grind arith
 
 -- rows to which dots are added, those before s
 module _ (f : ℕ → ℕ → Bool) where

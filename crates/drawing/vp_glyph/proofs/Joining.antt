@@ -113,7 +113,7 @@ module _ (sheet : Option Glyphs) (w h a b s : ℕ) (d : Alignment) where
       → MatchOption next (block_lines n text.now ≡ take k (first (pieces text.now)) ∷ []) (λ q. block_lines n text.now ≡ take k (first (pieces text.now)) ∷ block_lines n q.now)
       → new ≡ (old || shifted at (λ v. line_dot (layout sheet w 24 a 1 0 d) 0 (take k (first (pieces lent))) v r) x)
       → all ≡ (new || shifted at (λ v. lines_dot (layout sheet w 24 a 1 0 d) 0 (lines_left n next) v r) x)
-  joined_more at n k r x old new left next text lent all p e m o q = grind (arith, lines_are)
+  joined_more at n k r x old new left next text lent all p e m o q = grind arith
 
   -- no line yet
   pub joined_none : (r x : ℕ) (all : Bool) → all ≡ (half_dot (get_or (replicate {A = ℕ} 24 0) r 0) x || all)

@@ -17,4 +17,4 @@ digits_counted text n i e l = grind (arith, length-take, get_or-take, prefix_len
 -- one more digit, where a number that is too great counts as the greatest one
 pub value_more : (digits : List ℕ) (i v m d r : ℕ) → i < length digits → IsTrue (digit (get_or digits i 0)) → v ≡ min (digits_value 10 (take i digits)) (2 ^ 32 - 1)
     → m ≡ min (v * 10) (2 ^ 32 - 1) → d ≡ get_or digits i 0 - 48 → r ≡ min (m + d) (2 ^ 32 - 1) → r ≡ min (digits_value 10 (take (i + 1) digits)) (2 ^ 32 - 1)
-value_more digits i v m d r l t e e1 e2 e3 = grind (arith, digits_value_more, digit_value_digit)
+value_more digits i v m d r l t e e1 e2 e3 = grind (arith, digits_value_more)

@@ -25,7 +25,7 @@ again : (op : Op) (i j k old : Bool) → op ≢ Flip → k ≡ (i || j) → pain
 again op i j k old h1 h2 = grind arith
 
 pub painted_over : (op : Op) (at : ℤ) (f g h : ℕ → Bool) (a b c : List ℕ) → op ≢ Flip → ((x : ℕ) → h x ≡ (f x || g x)) → Painted op (shifted at f) a b → Painted op (shifted at g) b c → Painted op (shifted at h) a c
-painted_over op at f g h a b c n u p q = grind (arith, again)
+painted_over op at f g h a b c n u p q = grind arith
 
 indent_within : (d : Alignment) (room : ℕ) → indent d room ≤ room
 indent_within d room = grind arith

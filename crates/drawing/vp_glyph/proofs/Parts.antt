@@ -14,7 +14,7 @@ some_width x n w h1 = grind arith
 
 -- a place of n that are so wide
 pub place_within : (x n w : ℕ) → 0 < w → ltb (x / w) n ≡ ltb x (n * w)
-place_within x n w p = grind (arith, div-lt_iff_lt-mul)
+place_within x n w p = grind arith
 
 -- a place of the character itself, not of its spacing
 pub body_place : (x n k w : ℕ) → x < (n + k) * w → ltb x (n * w) ≡ ltb (x / w) n
@@ -31,7 +31,7 @@ font_low font = grind arith
 
 -- one of twelve dots that are so wide
 in_row : (font : Font) (w x : ℕ) → (ltb x (12 * w) && ltb (x / w) (font_width font)) ≡ ltb x (font_width font * w)
-in_row font w x = grind (arith, mul-le-mul_right, place_within)
+in_row font w x = grind (arith, mul-le-mul_right)
 
 not_before : (x n : ℕ) → leb n x ≡ not (ltb x n)
 not_before x n = elim (cases_lt x n) [ inl l ↦ lt-leb n x l ∙ sym (ap not (lt-ltb x n l)) | inr g ↦ le-leb n x g ∙ sym (ap not (le-ltb x n g)) ]

@@ -36,7 +36,7 @@ behind_all k text at p e = let n = length-drop k (first text) in let m = ap leng
 
 -- the last blank, one cell further
 pub blank_more : (i b blank v : ℕ) (cells : List ℕ) → get_or cells i 0 ≡ b → blank ≡ last_blank (i - 1) cells → v ≡ cond (eqb b 32) i blank → v ≡ last_blank i cells
-blank_more i b blank v cells h1 h2 h3 = grind (arith, cases_Bool)
+blank_more i b blank v cells h1 h2 h3 = grind arith
 
 -- what the scan of a paragraph keeps: the last blank of the cells that it has passed
 pub record Scanned (i : ℕ) (text at : List Piece) (blank : ℕ) : Type 0 where

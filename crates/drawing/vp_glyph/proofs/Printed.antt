@@ -28,7 +28,7 @@ module _ (sheets : Sheets) (font : Font) (style : Style) (c y : ℕ) (h : style.
   within x l = grind arith
 
   pub printed_upright : (wide x : ℕ) → style.inverse ≡ false → y < font_height font - style.underline → word_dot wide x ≡ (ltb x (font_width font * style.wm) && body x) → word_dot wide x ≡ cell_dot sheets font style c x y
-  printed_upright wide x i u d = grind (arith, lt-leb, printed_dot, cases_lt, lt-ltb, within, le-ltb)
+  printed_upright wide x i u d = grind (arith, lt-leb, printed_dot, cases_lt, lt-ltb, within)
 
   -- of a character that is printed just as it stands in its sheet
   pub printed_plain : (word x : ℕ) → style.wm ≡ 1 → style.bold ≡ false → style.underline ≡ 0 → style.inverse ≡ false

@@ -12,7 +12,7 @@ use Rattle.vp_dots.proofs.Shifts.{shifted_none}
 
 -- a quotient by its bounds
 pub quotient : (a w s : ℕ) → 0 < w → s * w ≤ a → a < (s + 1) * w → a / w ≡ s
-quotient a w s p l h = grind (arith, le-div_iff_mul-le)
+quotient a w s p l h = grind arith
 
 -- where dot s of n begins, drawn w wide in all
 abbrev pub edge_at : ℕ → ℕ → ℕ → ℕ
@@ -28,13 +28,13 @@ pub edge_first : (n w : ℕ) → 0 < n → edge_at n w 0 ≡ 0
 edge_first n w p = let h : (0 * w + (n - 1)) / n < 1 = (div-lt_iff_lt-mul {k = n} {x = 0 * w + (n - 1)} {y = 1} p).1 (omega arith) in omega arith
 
 pub edge_more : (n w s : ℕ) → 0 < n → edge_at n w s ≤ edge_at n w (s + 1)
-edge_more n w s p = grind (arith, div-mul-le_self)
+edge_more n w s p = grind arith
 
 pub edge_last : (n w : ℕ) → 0 < n → edge_at n w n ≡ w
-edge_last n w p = grind (arith, le-div_iff_mul-le)
+edge_last n w p = grind arith
 
 pub edge_within : (n w s : ℕ) → 0 < n → s ≤ n → edge_at n w s ≤ w
-edge_within n w s p l = grind (arith, mul-le-mul_right)
+edge_within n w s p l = grind arith
 
 -- n dots from a place on, drawn so wide in all
 abbrev pub ink : ℕ → (ℕ → Bool) → ℕ → ℕ → ℕ → Bool
@@ -64,7 +64,7 @@ module _ (op : Op) (at : ℤ) (n : ℕ) (glyph : ℕ → Bool) (left width : ℕ
 
   module _ (p : 0 < n) where
     pub running_none : (a : List ℕ) → Running 0 left left a a
-    running_none a = grind (arith, nat_tests, painted_none)
+    running_none a = grind arith
 
     -- a black dot more
     pub running_on : (s from to next : ℕ) (a b : List ℕ) → s < n → Running s from to a b → next ≡ left + edge_at n width (s + 1) → glyph s ≡ true → Running (s + 1) from next a b
@@ -77,4 +77,4 @@ module _ (op : Op) (at : ℤ) (n : ℕ) (glyph : ℕ → Bool) (left width : ℕ
 
     -- all dots
     pub running_all : (s from to : ℕ) (a b c : List ℕ) → s ≡ n → Running s from to a b → Painted op (shifted at (span from to)) b c → Painted op (shifted at (ink n glyph left width)) a c
-    running_all s from to a b c l r q = grind (arith, nat_tests, edge_last, moved_same)
+    running_all s from to a b c l r q = grind (arith, nat_tests, edge_last)

@@ -30,7 +30,7 @@ module _ (sheet : Option Glyphs) (w h a b s : ℕ) (d : Alignment) (x y : ℕ) w
   pub front_found : (n place k : ℕ) (left next : Option (Bor (List ℕ))) (text : Bor (List ℕ)) (lent : List ℕ) (r : Bool) → left ≡ Some text → lent ≡ text.now
       → MatchOption next (block_lines n text.now ≡ take k (first (pieces text.now)) ∷ []) (λ q. block_lines n text.now ≡ take k (first (pieces text.now)) ∷ block_lines n q.now)
       → r ≡ line_dot (layout sheet w h a b s d) place (take k (first (pieces lent))) x y → r ≡ true → lines_dot (layout sheet w h a b s d) place (lines_left n left) x y ≡ true
-  front_found n place k left next text lent r e m l f t = grind (arith, dot_found)
+  front_found n place k left next text lent r e m l f t = grind arith
 
 module _ (sheet : Option Glyphs) (w h a b s : ℕ) (d : Alignment) (x y : ℕ) where
   -- a line that ends above the row

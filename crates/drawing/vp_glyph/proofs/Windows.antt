@@ -56,7 +56,7 @@ module _ (at : ℤ) (left w : ℕ) (g : ℕ → Bool) where
   or_false a = grind arith
 
   pub wide_none : (s : ℕ) (old : Bool) (d : ℕ) → s ≡ 0 → old ≡ (old || shifted at (before s) d)
-  wide_none s old d e = grind (arith, le-ltb)
+  wide_none s old d e = grind arith
 
   -- nor where those before s lie before the row
   pub wide_hidden : (s from d : ℕ) (old : Bool) → s ≤ 12 → leb from d ≡ shifted at (leb (left + edge_at 12 w s)) d → from ≡ 0 → old ≡ (old || shifted at (before s) d)

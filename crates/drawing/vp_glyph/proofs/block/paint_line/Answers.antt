@@ -17,7 +17,7 @@ loop-i-init g c = record {
 }
 
 pub unreachable-requires : goal.unreachable-requires
-unreachable-requires g c = grind (arith, behind_all, c.loop-i.invariant.behind, c.in_default.ensures, c.seen-from.ensures.last)
+unreachable-requires g c = grind (arith, behind_all, c.loop-i.invariant.behind, c.in_default.ensures)
 
 pub loop-i-preserved : goal.loop-i-preserved
 loop-i-preserved g c = record {
@@ -30,7 +30,7 @@ loop-i-preserved g c = record {
 }
 
 pub overflow_add-painted : goal.overflow_add-painted
-overflow_add-painted g c = grind (arith, mul-le-mul_right, c.requires.w, c.requires.fits, c.loop-i.invariant.counted, c.seen-from.ensures.last)
+overflow_add-painted g c = grind (arith, mul-le-mul_right, c.requires.w, c.requires.fits, c.loop-i.invariant.counted)
 
 pub returns : goal.returns
 returns g c = rw (sym (to_z-of_z w64 c.args.at c.ranges.at)) (record {

@@ -5,7 +5,7 @@ use Rattle.vp_glyph.proofs.Gathered.{blackened_more}
 use Rattle.vp_glyph.proofs.fronts.blacken.Goals as goal
 
 pub loop-i-preserved : goal.loop-i-preserved
-loop-i-preserved g c = grind (arith, length-set, blackened_more, c.loop-i.invariant.count, c.loop-i.invariant.after, c.loop-i.invariant.blackened)
+loop-i-preserved g c = grind (arith, length-set, blackened_more, c.loop-i.invariant.count, c.loop-i.invariant.after)
 
 pub returns-clause-outside : goal.returns-clause-outside
-returns-clause-outside g c = grind (arith, c.loop-i.invariant.blackened.outside)
+returns-clause-outside g c = grind arith

@@ -13,4 +13,4 @@ loop-i-preserved g c =
     }
 
 pub returns-clause-outside : goal.returns-clause-outside
-returns-clause-outside g c = grind (arith, c.loop-i.invariant.blackened.outside)
+returns-clause-outside g c = grind arith

@@ -11,10 +11,10 @@ loop-i-preserved c =
     (elim c.if-b-eq32.branch [ then-b-eq32 w ↦ rw (eq-eqb c.in-Some.b 32 w.if-b-eq32.true) w.blank-is | else-b-eq32 w ↦ rw (ne_eqb c.in-Some.b 32 w.if-b-eq32.false) w.blank-is ])
 
 pub returns-in_default-clause-cells : goal.returns-in_default-clause-cells
-returns-in_default-clause-cells c = grind (arith, behind_all, c.loop-i.invariant.behind, c.in_default.ensures)
+returns-in_default-clause-cells c = grind (arith, behind_all, c.loop-i.invariant.behind)
 
 pub returns-in_default-next_cell-clause-cells : goal.returns-in_default-next_cell-clause-cells
-returns-in_default-next_cell-clause-cells c = grind (arith, behind_all, c.loop-i.invariant.behind, c.in_default-next_cell.ensures)
+returns-in_default-next_cell-clause-cells c = grind (arith, behind_all, c.loop-i.invariant.behind)
 
 pub returns-clause-blank : goal.returns-clause-blank
 returns-clause-blank c =

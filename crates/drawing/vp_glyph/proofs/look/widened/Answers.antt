@@ -4,10 +4,10 @@ use Rattle.vp_glyph.proofs.Magnified.{magnified_none, magnified_more, mask_first
 use Rattle.vp_glyph.proofs.look.widened.Goals as goal
 
 pub loop-s-init : goal.loop-s-init
-loop-s-init g c = grind (arith, white_dot, magnified_none, mask_first, c.first_dots-dots.ensures)
+loop-s-init g c = grind (arith, white_dot, magnified_none, mask_first)
 
 pub loop-s-preserved : goal.loop-s-preserved
-loop-s-preserved g c = grind (arith, magnified_more, mask_moved, c.requires.narrow, c.loop-s.invariant.drawn, c.picked-wide.ensures, c.loop-s.invariant.dots_are)
+loop-s-preserved g c = grind (arith, magnified_more, mask_moved, c.requires.narrow, c.loop-s.invariant.drawn, c.picked-wide.ensures)
 
 pub returns : goal.returns
 returns g c x = let e : c.loop-s.s ≡ g.row.N = omega arith in rw e at (c.loop-s.invariant.drawn x)

@@ -4,4 +4,4 @@ use Rattle.std.proofs.lemmas.Bool.{cases_eq}
 use Rattle.vp_glyph.proofs.sheet.inked_cells.Goals as goal
 
 pub loop-c-preserved : goal.loop-c-preserved
-loop-c-preserved g c = grind (arith, length-set, cases_eq, get_or-set_same, get_or-set_other, c.loop-c.invariant.count, c.loop-c.invariant.room, c.inked_rows.ensures, c.loop-c.invariant.each)
+loop-c-preserved g c = grind (arith, length-set, get_or-set_same, get_or-set_other, c.loop-c.invariant.count, c.loop-c.invariant.room, c.inked_rows.ensures)

@@ -12,4 +12,4 @@ loop-r-preserved c = record {
 }
 
 pub returns : goal.returns
-returns c = grind (arith, c.loop-r.invariant.grown)
+returns c = grind arith

@@ -4,4 +4,4 @@ use Rattle.vp_glyph.proofs.Looks.{white_dot}
 use Rattle.vp_glyph.proofs.stretch.mask.Goals as goal
 
 pub returns-then-to-from : goal.returns-then-to-from
-returns-then-to-from c = grind (arith, white_dot, cases_lt, lt-leb, le-leb, le-ltb, c.if-to-from.true)
+returns-then-to-from c = grind (arith, white_dot)

@@ -29,7 +29,7 @@ loop-k-preserved g c = record {
 }
 
 pub overflow_add-painted : goal.overflow_add-painted
-overflow_add-painted g c = grind (arith, mul-le-mul_right, c.requires.some, c.requires.fits, c.loop-k.invariant.counted, c.seen-from.ensures.last)
+overflow_add-painted g c = grind (arith, mul-le-mul_right, c.requires.some, c.requires.fits, c.loop-k.invariant.counted)
 
 pub returns : goal.returns
 returns g c = rw (sym (to_z-of_z w64 c.args.at c.ranges.at)) (record {

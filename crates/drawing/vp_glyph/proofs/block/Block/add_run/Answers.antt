@@ -35,4 +35,4 @@ returns-then-from-eq0 g c =
     }
 
 pub returns : goal.returns
-returns g c = grind (arith, to_z-of_z, c.blacken.ensures, c.sheet_row.ensures.row, c.sheet_row.ensures.counted, c.sheet_row.ensures.most)
+returns g c = grind (arith, to_z-of_z, c.blacken.ensures, c.sheet_row.ensures.row, c.sheet_row.ensures.counted)

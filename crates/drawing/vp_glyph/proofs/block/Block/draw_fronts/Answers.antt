@@ -20,4 +20,4 @@ pub add_lines-counter-requires : goal.add_lines-counter-requires
 add_lines-counter-requires g c = (omega (arith, c.requires.few), (omega arith, (c.requires.few, (c.requires.seen, λ i x. no_front 80 _ i x (c.requires.white i)))))
 
 pub returns : goal.returns
-returns g c = grind (arith, to_z-of_z, lines_fit, seen_some, c.settle.ensures, c.requires.seen, c.add_lines-counter.ensures.added, c.add_lines-counter.ensures.most, c.add_lines-counter.ensures.none)
+returns g c = grind (arith, to_z-of_z, lines_fit, seen_some, c.settle.ensures, c.requires.seen, c.add_lines-counter.ensures.added, c.add_lines-counter.ensures.most)

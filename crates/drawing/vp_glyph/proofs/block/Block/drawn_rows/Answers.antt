@@ -18,7 +18,7 @@ returns-then-self g c =
     }
 
 pub returns : goal.returns
-returns g c = grind (arith, to_z-of_z, lines_fit, seen_some, c.rows-2.ensures, c.draw_lines-drawn.ensures.dots, c.draw_lines-drawn.ensures.most, c.draw_lines-drawn.ensures.none)
+returns g c = grind (arith, to_z-of_z, lines_fit, seen_some, c.rows-2.ensures, c.draw_lines-drawn.ensures.dots, c.draw_lines-drawn.ensures.most)
 
 pub returns-then-from-row_below_lines : goal.returns-then-from-row_below_lines
 returns-then-from-row_below_lines g c =

@@ -18,10 +18,10 @@ pub loop-left-preserved : goal.loop-left-preserved
 loop-left-preserved g c =
     let b = c.args.self.now in
     record {
-      joined = λ s x l m. grind (arith, joined_more, c.loop-left.invariant.joined, c.in-Some.is, c.hand_line.ensures.text, c.hand_line.ensures.lines, c.add_rows-drawn.ensures.added);
-      counted = grind (arith, less_left, c.hand_line.ensures.less, c.in-Some.is, c.loop-left.invariant.counted, c.hand_line.ensures.counted, c.add_rows-drawn.ensures.most, c.saturating_add.ensures);
+      joined = λ s x l m. grind (arith, joined_more, c.loop-left.invariant.joined, c.in-Some.is, c.hand_line.ensures.text, c.hand_line.ensures.lines);
+      counted = grind (arith, less_left, c.hand_line.ensures.less, c.in-Some.is, c.loop-left.invariant.counted, c.hand_line.ensures.counted, c.add_rows-drawn.ensures.most);
       some = λ e. omega (arith, c.hand_line.ensures.counted, c.saturating_add.ensures);
     }
 
 pub returns : goal.returns
-returns g c = grind (arith, to_z-of_z, joined_all, c.loop-left.invariant.joined, c.in_default.is, c.loop-left.invariant.some, c.loop-left.invariant.counted)
+returns g c = grind (arith, to_z-of_z, joined_all, c.loop-left.invariant.joined, c.in_default.is, c.loop-left.invariant.some)

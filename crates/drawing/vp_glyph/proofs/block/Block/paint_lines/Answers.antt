@@ -13,7 +13,7 @@ loop-left-preserved g c = record {
   place_within = omega arith;
   overlaid = overlaid_more _ _ _ _ _ _ _ _ _ _ _ _ c.loop-left.place c.hand_line.result.0.cells _ c.loop-left.left c.hand_line.result.1 c.in-Some.text c.hand_line.result.0.text.now _ c.loop-left.row _ c.requires.op refl
       c.loop-left.invariant.overlaid c.in-Some.is c.hand_line.ensures.text c.hand_line.ensures.cells c.hand_line.ensures.most c.hand_line.ensures.lines c.paint_line-painted.ensures.painted (omega arith);
-  counted = grind (arith, less_left, c.hand_line.ensures.less, c.in-Some.is, c.loop-left.invariant.counted, c.hand_line.ensures.counted, c.paint_line-painted.ensures.most, c.saturating_add-counter.ensures);
+  counted = grind (arith, less_left, c.hand_line.ensures.less, c.in-Some.is, c.loop-left.invariant.counted, c.hand_line.ensures.counted, c.paint_line-painted.ensures.most);
   none = λ e. absurd (omega (arith, e, c.hand_line.ensures.counted, c.saturating_add-counter.ensures));
 }
 

@@ -9,7 +9,7 @@ pub returns-then-y-height : goal.returns-then-y-height
 returns-then-y-height g c = grind (arith, row_below, seen_some, shifted_none, block_below)
 
 pub returns-then-self : goal.returns-then-self
-returns-then-self g c = grind (arith, row_narrow, seen_some, shifted_none, block_narrow, c.if-self.true)
+returns-then-self g c = grind (arith, row_narrow, seen_some, shifted_none, block_narrow)
 
 pub returns-in-Flip : goal.returns-in-Flip
 returns-in-Flip g c = rw (sym (to_z-of_z w64 c.args.at c.ranges.at)) (record {

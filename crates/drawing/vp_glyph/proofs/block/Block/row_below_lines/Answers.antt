@@ -3,4 +3,4 @@ use Rattle.vp_glyph.proofs.Counted.{block_above}
 use Rattle.vp_glyph.proofs.block.Block.row_below_lines.Goals as goal
 
 pub returns : goal.returns
-returns g c = grind (arith, block_above, c.from.ensures, c.saturating_add.ensures, c.saturating_mul.ensures, c.from-2.ensures)
+returns g c = grind (arith, block_above, c.from.ensures, c.saturating_add.ensures, c.saturating_mul.ensures)

@@ -9,7 +9,7 @@ pub returns-then-x-width : goal.returns-then-x-width
 returns-then-x-width g c = grind (arith, block_past, block_below, block_narrow)
 
 pub returns-then-dot_of_line : goal.returns-then-dot_of_line
-returns-then-dot_of_line g c = grind (arith, front_found, block_within, c.in-Some.is, c.next_line.ensures.text, c.next_line.ensures.lines, c.dot_of_line.ensures, c.if-dot_of_line.true, c.loop-left.invariant.rest_is)
+returns-then-dot_of_line g c = grind (arith, front_found, block_within, c.in-Some.is, c.next_line.ensures.text, c.next_line.ensures.lines, c.dot_of_line.ensures, c.if-dot_of_line.true)
 
 pub returns : goal.returns
-returns g c = grind (arith, block_within, c.in_default.is, c.loop-left.invariant.rest_is)
+returns g c = grind (arith, block_within, c.in_default.is)

@@ -4,7 +4,7 @@ use Rattle.vp_glyph.proofs.Printed.{printed_plain, printed_below}
 use Rattle.vp_glyph.proofs.cell.Cell.plain_row.Goals as goal
 
 pub returns-then-y-height : goal.returns-then-y-height
-returns-then-y-height g c = grind (arith, printed_below, c.requires, c.height.ensures, c.if-y-height.true)
+returns-then-y-height g c = grind (arith, printed_below, c.requires, c.height.ensures)
 
 pub returns : goal.returns
-returns g c = grind (arith, printed_plain, c.requires, c.height.ensures, c.if-y-height.false, c.body_row.ensures, c.font_row.ensures)
+returns g c = grind (arith, printed_plain, c.requires, c.height.ensures, c.if-y-height.false, c.body_row.ensures)

@@ -4,4 +4,4 @@ use Rattle.vp_glyph.proofs.Cuts.{rows_are}
 use Rattle.vp_glyph.proofs.sheet.Sheet.rows_of.Goals as goal
 
 pub returns : goal.returns
-returns g c = grind (arith, rows_are, c.deref.ensures.value, c.self.invariant.cut, c.from.ensures)
+returns g c = grind (arith, rows_are, c.deref.ensures.value, c.self.invariant.cut)

@@ -38,7 +38,7 @@ loop-s-preserved c =
     }
 
 pub returns-after-loop-s : goal.returns-after-loop-s
-returns-after-loop-s c = grind (arith, to_z-of_z, wide_all, c.loop-s.invariant.added, c.loop-s.invariant.begun)
+returns-after-loop-s c = grind (arith, to_z-of_z, wide_all, c.loop-s.invariant.added)
 
 pub returns-else-from-lt-HALF : goal.returns-else-from-lt-HALF
-returns-else-from-lt-HALF c = grind (arith, to_z-of_z, wide_seen, c.loop-s.invariant.added, c.loop-s.invariant.begun, c.loop-s.invariant.from_is, c.loop-s.invariant.within)
+returns-else-from-lt-HALF c = grind (arith, to_z-of_z, wide_seen, c.loop-s.invariant.added, c.loop-s.invariant.begun, c.loop-s.invariant.from_is)

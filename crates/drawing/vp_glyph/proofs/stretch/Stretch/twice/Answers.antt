@@ -2,4 +2,4 @@ use Rattle.std.proofs.Common.{arith, ◌≡◌, ◌*◌, ◌/◌}
 use Rattle.vp_glyph.proofs.stretch.Stretch.twice.Goals as goal
 
 pub returns : goal.returns
-returns c x = grind (arith, c.requires, c.doubled.ensures)
+returns c x = grind (arith, c.requires)
