@@ -2,7 +2,7 @@
 use Rattle.std.proofs.Common.{◌≡◌, ℕ, zero, suc, ◌+◌, ◌<◌, ◌≤◌, List, [], ◌∷◌, ◌++◌, false, length, take, drop, ◌⊎◌, get_or, eqb, cond, refl, sym, ap, ◌∙◌, arith, length-drop, inl, inr, eq-eqb, Bor, Option, MatchOption}
 use Rattle.std.proofs.lemmas.List.{take_all, length-take-le, drop_more, take-append-drop, append-nil}
 use Rattle.std.proofs.lemmas.List.Elements.{All-nil}
-use Rattle.std.proofs.lemmas.Bool.{cases_eq, cases_lt, le-leb, lt-leb, ne_eqb}
+use Rattle.std.proofs.lemmas.Bool.{cases_eq, cases_lt, lt-leb, ne_eqb}
 use Rattle.std.specs.Prelude.{flat_map}
 use Rattle.std.specs.List.{All}
 use Rattle.vp_glyph.specs.Blocks.{pieces, first, others, last_blank, line_length, behind_line, lines_upto, lines, StandIn, block_lines}

@@ -1,6 +1,6 @@
 -- Characters drawn from the dots of their rows.
 use Rattle.std.proofs.Common.{Bool, List, Option, arith, false, leb, refl, ℕ, ℤ, ◌&&◌, ◌*◌, ◌-◌, ◌/◌, ◌<◌, ◌≡◌, ◌≤◌}
-use Rattle.std.proofs.lemmas.Bool.{cases_Bool, cases_lt, le-ltb, lt-ltb, le-leb}
+use Rattle.std.proofs.lemmas.Bool.{le-ltb, le-leb}
 use Rattle.vp_dots.specs.Dots.{shifted}
 use Rattle.vp_dots.specs.Words.{word_dot}
 use Rattle.vp_dots.specs.Painting.{Painted}

@@ -5,7 +5,6 @@ use Rattle.std.proofs.lemmas.Bool.{cases_lt, cases_eq, le-leb, lt-leb}
 use Rattle.std.proofs.lemmas.List.{length-take-le}
 use Rattle.vp_glyph.specs.Blocks.{BlockLayout, pieces, first, block_lines}
 use Rattle.vp_glyph.specs.Above.{pieces_of, above_of, lines_above, pieces_above}
-use Rattle.vp_glyph.proofs.Stacks.{lines_are}
 
 above_most : (b : BlockLayout) (n y : ℕ) → above_of b n y ≤ n
 above_most b zero y = omega arith

@@ -2,8 +2,7 @@
 use Rattle.std.proofs.Common.{◌≡◌, ℕ, ◌<◌, true, false, eqb, List, [], ◌∷◌, ◌++◌, Option, Some, None, length, length-take, take, drop, refl, sym, ap, ◌∙◌, arith, append_assoc, inl, inr}
 use Rattle.std.specs.List.{prefix_len}
 use Rattle.std.specs.Str.Parse.{digits_value}
-use Rattle.std.proofs.lemmas.Bool.{cases_Bool, and_parts, ltb-true}
-use Rattle.std.proofs.lemmas.Bool.Decides.{nat_tests}
+use Rattle.std.proofs.lemmas.Bool.{cases_Bool}
 use Rattle.std.proofs.lemmas.List.{take-append-drop}
 use Rattle.std.proofs.lemmas.List.Sums.{prefix_len-le-length}
 use Rattle.vp_glyph.specs.Headers.{white, ends_line, digit, begins_gap, past_gap, past_comment, Number, number_behind, Header, header_behind, behind_white}
@@ -119,7 +118,7 @@ told_is text g l =
     }
 
 number_read : (text : List ℕ) (number : Number) → number_behind text ≡ Some number → IsNumber text number
-number_read text number e = grind (arith, cases_Bool, told_is)
+number_read text number e = grind (arith, told_is)
 
 -- a white byte, and then the raster
 white_read : (text raster : List ℕ) → behind_white text ≡ Some raster → (b : ℕ) × (white b ≡ true) × (text ≡ b ∷ raster)

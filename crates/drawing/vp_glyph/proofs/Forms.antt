@@ -4,7 +4,6 @@ use Rattle.std.specs.List.{prefix_len}
 use Rattle.std.specs.Str.Parse.{digits_value}
 use Rattle.std.proofs.Math.Seq.{take-append_seam, drop-append_seam}
 use Rattle.std.proofs.lemmas.Bool.{lt-ltb}
-use Rattle.std.proofs.lemmas.Bool.Decides.{nat_tests}
 use Rattle.vp_glyph.specs.Headers.{white, ends_line, digit, begins_gap, past_gap, past_comment, number_behind, header_behind}
 use Rattle.vp_glyph.specs.Grammar.{Comment, Gap, none, byte, comment, Digits, IsHeader}
 

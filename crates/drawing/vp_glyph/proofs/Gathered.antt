@@ -1,6 +1,6 @@
 -- Many rows of a block, line by line.
 use Rattle.std.proofs.Common.{inl, inr, ◌%◌, ◌≡◌, ℕ, ◌+◌, ◌-◌, ◌*◌, ◌/◌, ◌<◌, ◌≤◌, min, Bool, true, false, ltb, leb, ◌&&◌, ◌||◌, get_or, set, length, replicate, bit_or, cond, eqb, zero, suc, ◌^◌, w64, refl, sym, ap, ◌∙◌, arith, List, Option, ℤ}
-use Rattle.std.proofs.Math.Nat.{mul-le-mul_left, pow-le-pow_right, div-lt_iff_lt-mul, le-div_iff_mul-le, div-le_self, div-mul-le_self, mul-le-mul_right}
+use Rattle.std.proofs.Math.Nat.{mul-le-mul_left, pow-le-pow_right, div-le_self}
 use Rattle.std.proofs.lemmas.List.{get_or-set_same, get_or-set_other, get_or_past}
 use Rattle.std.proofs.lemmas.Bool.{cases_eq, cases_lt, lt-ltb, le-ltb, lt-leb, le-leb}
 use Rattle.std.proofs.lemmas.Nat.Bits.{bit_at-zero, bit_at-trailing_zeros}
@@ -16,7 +16,7 @@ use Rattle.vp_glyph.specs.Texts.{sampled_dot, text_dot}
 use Rattle.vp_glyph.specs.Halves.{half_dot, AreEdges}
 use Rattle.vp_glyph.proofs.Halves.{or_half, white_half}
 use Rattle.vp_glyph.proofs.Overlaid.{zero_dots, zero_at}
-use Rattle.vp_glyph.proofs.Spread.{quotient, edge_at, from_edge, before_edge, edge_first, edge_last, edge_within}
+use Rattle.vp_glyph.proofs.Spread.{edge_at, edge_within}
 use Rattle.std.proofs.lemmas.Bool.Decides.{nat_tests}
 
 -- lines that show the same row of the sheet
@@ -26,7 +26,7 @@ text_alike sheet cells w h y z a b e x = rw (lt-ltb y h a, lt-ltb z h b, e) refl
 
 -- the row of 24 that is shown
 pub row_shown : (h s u : ℕ) → s < 24 → edge_at 24 h s ≤ u → u < edge_at 24 h (s + 1) → (u < h) × (u * 24 / h ≡ s)
-row_shown h s u k l m = grind (arith, edge_within, quotient)
+row_shown h s u k l m = grind (arith, edge_within)
 
 -- row u of h shows a row of the sheet, and so do the others that do
 pub row_alike : (h u : ℕ) → u < h → (u * 24 / h < 24) × (edge_at 24 h (u * 24 / h) ≤ u) × (u < edge_at 24 h (u * 24 / h + 1))
@@ -131,10 +131,6 @@ pub record Blackened (ink from to : ℕ) (old new : List ℕ) : Type 0 where
 pub blackened_more : (ink from i : ℕ) (old mid : List ℕ) → from ≤ i → i < length mid → Blackened ink from i old mid → Blackened ink from (i + 1) old (set mid i (bit_or (get_or mid i 0) ink))
 blackened_more ink from i old mid l m b = grind (arith, get_or-set_same, or_half, get_or-set_other)
 
--- the halves from one on, of which those up to another were blackened, and then those from before it on
-pub blackened_on : (ink a b c d : ℕ) (old mid new : List ℕ) → a ≤ c → c ≤ b → b ≤ d → Blackened ink a b old mid → Blackened ink c d mid new → Blackened ink a d old new
-blackened_on ink a b c d old mid new l m n p q = grind arith
-
 -- the fronts before row 16 k with what their groups have
 abbrev pub Settled : List ℕ → ℕ → ℕ → List ℕ → List ℕ → Type 0
 Settled groups n k old new = (i x : ℕ) → i < n → x < 32 → half_dot (get_or new i 0) x ≡ (half_dot (get_or old i 0) x || ltb i (16 * k) && half_dot (get_or groups (i / 16) 0) x)
@@ -146,11 +142,6 @@ module _ (groups : List ℕ) (n : ℕ) where
   module _ (k : ℕ) (old mid : List ℕ) (o : Settled groups n k old mid) where
     pub settled_white : get_or groups k 0 ≡ 0 → Settled groups n (k + 1) old mid
     settled_white e i x l m = grind (arith, white_half)
-
-    pub settled_more : (from to : ℕ) (new : List ℕ) → from ≡ min (16 * k) n → to ≡ min (16 * (k + 1)) n
-        → ((i x : ℕ) → from ≤ i → i < to → half_dot (get_or new i 0) x ≡ (half_dot (get_or mid i 0) x || half_dot (get_or groups k 0) x))
-        → ((i : ℕ) → span from to i ≡ false → get_or new i 0 ≡ get_or mid i 0) → Settled groups n (k + 1) old new
-    settled_more from to new e f g u i x l m = grind arith
 
   -- all groups
   pub settled_all : (k : ℕ) (old new : List ℕ) → length groups ≤ k → Settled groups n k old new → (i x : ℕ) → i < n → x < 32

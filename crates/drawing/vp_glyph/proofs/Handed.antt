@@ -1,11 +1,10 @@
 -- How many pieces the lines of a text have.
 use Rattle.std.proofs.Common.{inl, inr, ◌≡◌, ℕ, ◌+◌, ◌-◌, ◌*◌, ◌<◌, ◌≤◌, List, [], ◌∷◌, Bool, true, false, ◌&&◌, length, replicate, drop, Option, None, Some, MatchOption, Bor, refl, sym, ap, ◌∙◌, arith, length-drop, ◌/◌, ℤ, pos, ◌+ℤ◌, leb, take}
-use Rattle.std.proofs.Math.Nat.{div-lt_iff_lt-mul, mul-le-mul_right}
+use Rattle.std.proofs.Math.Nat.{div-lt_iff_lt-mul}
 use Rattle.std.proofs.lemmas.Bool.{cases_eq, cases_lt, false_from_ne_true, le-leb, and_parts, leb-true}
 use Rattle.std.proofs.lemmas.List.{length-replicate, length-take-le}
 use Rattle.vp_dots.specs.Dots.{shifted}
 use Rattle.vp_dots.proofs.Shifts.{shifted_same, shifted_none}
-use Prim.Native.Char.{code}
 use Rattle.vp_glyph.specs.Blocks.{pieces, first, others, block_pieces, line_pieces, block_lines, lines_dot, block_dot, block_height, block_inside}
 use Rattle.vp_glyph.specs.declared.block.Alignment.{Alignment}
 use Rattle.vp_glyph.proofs.Layouts.{layout}

@@ -4,10 +4,10 @@ use Rattle.std.specs.List.{All}
 use Rattle.std.proofs.Math.Nat.{div-lt_iff_lt-mul, le-div_iff_mul-le}
 use Rattle.std.proofs.Math.Seq.{take-length}
 use Rattle.std.proofs.lemmas.List.{length-take-le}
-use Rattle.std.proofs.lemmas.Bool.{cases_lt, lt-ltb, le-ltb, le-leb, false_from_ne_true}
+use Rattle.std.proofs.lemmas.Bool.{cases_lt, le-ltb, false_from_ne_true}
 use Rattle.vp_dots.specs.Dots.{shifted}
 use Rattle.vp_dots.specs.Words.{word_dot}
-use Rattle.vp_dots.proofs.Shifts.{shifted_none, shifted_same, shifted_or}
+use Rattle.vp_dots.proofs.Shifts.{shifted_none, shifted_same}
 use Rattle.vp_glyph.specs.Halves.{half_dot}
 use Rattle.vp_glyph.specs.Sheets.{Glyphs, sheet_dot}
 use Rattle.vp_glyph.specs.Texts.{sampled_dot, text_dot}
@@ -19,7 +19,7 @@ use Rattle.vp_glyph.proofs.Gathered.{shown}
 use Rattle.vp_glyph.proofs.Halves.{white_half}
 use Rattle.vp_glyph.proofs.Layouts.{layout}
 use Rattle.vp_glyph.proofs.Overlaid.{line_inside, zero_at}
-use Rattle.vp_glyph.proofs.Stacks.{lines_left, lines_are, block_within, block_past}
+use Rattle.vp_glyph.proofs.Stacks.{lines_left, block_within, block_past}
 
 and_false : (b : Bool) → (b && false) ≡ false
 and_false b = grind arith

@@ -1,12 +1,11 @@
 -- Words whose dots are drawn several times as wide.
-use Rattle.std.proofs.Common.{inl, inr, ◌≡◌, ℕ, ◌+◌, ◌-◌, ◌*◌, ◌/◌, ◌%◌, ◌^◌, ◌<◌, ◌≤◌, Bool, true, false, cond, eqb, ltb, leb, ◌&&◌, ◌||◌, eq-eqb, refl, sym, ap, ◌∙◌, arith, bit_and, bit_or}
+use Rattle.std.proofs.Common.{inl, inr, ◌≡◌, ℕ, ◌+◌, ◌-◌, ◌*◌, ◌/◌, ◌%◌, ◌^◌, ◌<◌, ◌≤◌, Bool, true, false, cond, eqb, ltb, leb, ◌&&◌, ◌||◌, refl, sym, ap, ◌∙◌, arith, bit_and, bit_or}
 use Rattle.std.proofs.Math.Nat.{mul-le-mul_right}
-use Rattle.std.proofs.lemmas.Bool.{cases_eq, cases_lt, and_parts, eqb-true, ne_eqb, lt-ltb, le-ltb, lt-leb, le-leb, ltb-true}
+use Rattle.std.proofs.lemmas.Bool.{cases_lt, lt-ltb, le-ltb, lt-leb, le-leb, ltb-true}
 use Rattle.std.proofs.lemmas.Bool.Decides.{nat_tests}
 use Rattle.vp_dots.specs.Dots.{bit, span}
 use Rattle.vp_dots.specs.Words.{word_dot}
 use Rattle.vp_dots.proofs.Swaps.{every, every_at}
-use Rattle.vp_dots.proofs.Words.{and_true, and_false}
 use Rattle.vp_glyph.proofs.Looks.{and_dot, or_dot}
 use Rattle.vp_glyph.proofs.Moved.{moved_right}
 use Rattle.vp_glyph.proofs.Parts.{place_within, some_width}
@@ -97,10 +96,6 @@ doubled_dot word twelve eights fours twos ones new a b c d e f x = elim (cases_l
       ]
   | inr g ↦ rw (le-ltb x 64 g, le-ltb x 24 (omega arith)) refl
 ]
-
--- the mask that is moved along, on which dot s falls
-pub mask_first : (wm x : ℕ) → wm ≤ 64 → ltb x wm ≡ (ltb x 64 && span (0 * wm) (0 * wm + wm) x)
-mask_first wm x few = grind arith
 
 pub mask_moved : (dots s wm x : ℕ) → dots < 2 ^ 64 → ((y : ℕ) → word_dot dots y ≡ (ltb y 64 && span (s * wm) (s * wm + wm) y))
     → word_dot (dots / 2 ^ wm) x ≡ (ltb x 64 && span ((s + 1) * wm) ((s + 1) * wm + wm) x)

@@ -2,15 +2,14 @@
 use Rattle.std.proofs.Common.{inl, inr, ◌≡◌, ℕ, ◌+◌, ◌-◌, ◌*◌, ◌/◌, ◌<◌, ◌≤◌, Bool, false, eqb, ltb, leb, ◌&&◌, get_or, set, length, eq-eqb, refl, sym, ◌∙◌, arith, List, ℤ, pos, ◌+ℤ◌, bit_or}
 use Rattle.std.proofs.Math.Nat.{div-lt_iff_lt-mul, le-div_iff_mul-le}
 use Rattle.std.proofs.lemmas.List.{get_or-set_same, get_or-set_other}
-use Rattle.std.proofs.lemmas.Bool.{cases_lt, cases_eq, ne_eqb, lt-ltb, le-ltb, lt-leb, le-leb}
-use Rattle.std.proofs.lemmas.Bool.Decides.{nat_tests}
+use Rattle.std.proofs.lemmas.Bool.{cases_lt, ne_eqb, lt-ltb, le-ltb, lt-leb, le-leb}
 use Rattle.std.proofs.lemmas.Int.{ints}
 use Rattle.vp_dots.specs.Dots.{shifted, span}
 use Rattle.vp_dots.specs.Words.{word_dot}
 use Rattle.vp_dots.specs.Painting.{Painted}
 use Rattle.vp_dots.specs.declared.Op.{Op}
 use Rattle.vp_dots.proofs.Paints.{painted_same}
-use Rattle.vp_dots.proofs.Shifts.{met, shifted_same, shifted_meets, shifted_outside}
+use Rattle.vp_dots.proofs.Shifts.{met, shifted_meets, shifted_outside}
 use Rattle.vp_glyph.proofs.Looks.{or_dot}
 use Rattle.vp_glyph.proofs.Spread.{quotient, edge_at, from_edge, before_edge, edge_within, ink}
 

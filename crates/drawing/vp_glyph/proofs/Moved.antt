@@ -1,12 +1,11 @@
 -- Words moved by any number of dots.
 use Rattle.std.proofs.Common.{◌≡◌, ℕ, ◌+◌, ◌-◌, ◌*◌, ◌/◌, ◌%◌, ◌^◌, ◌<◌, ◌≤◌, Bool, ltb, leb, ◌&&◌, refl, sym, ◌∙◌, arith, List, length, ℤ, pos}
-use Rattle.std.proofs.lemmas.Bool.{cases_lt, lt-ltb, le-ltb, lt-leb, le-leb}
+use Rattle.std.proofs.lemmas.Bool.{lt-ltb, le-ltb, lt-leb}
 use Rattle.vp_dots.specs.Dots.{shifted}
 use Rattle.vp_dots.specs.Words.{word_dot}
 use Rattle.vp_dots.specs.Painting.{Painted}
 use Rattle.vp_dots.specs.declared.Op.{Op}
 use Rattle.vp_dots.proofs.Cuts.{bit_low64}
-use Rattle.vp_dots.proofs.Paints.{painted_same}
 use Rattle.vp_dots.proofs.Words.{and_false, bit_shl, word_shr}
 use Rattle.vp_glyph.proofs.Drawn.{moved_none}
 use Rattle.vp_glyph.proofs.Looks.{white_dot}

@@ -2,16 +2,15 @@
 use Rattle.std.proofs.Common.{pos, replicate, eqb, get_or, ◌%◌, ◌⊎◌, leb, ◌≡◌, ◌≢◌, ℕ, ◌+◌, ◌-◌, ◌*◌, ◌/◌, ◌<◌, ◌≤◌, min, List, [], ◌∷◌, Option, Some, MatchOption, Bor, Bool, true, false, ◌||◌, ◌&&◌, length, take, refl, sym, ap, ◌∙◌, arith, ℤ, inl, inr}
 use Rattle.std.proofs.Math.Nat.{mul-le-mul_left, mul-div-le}
 use Rattle.std.proofs.lemmas.List.{length-take-le, get_or-replicate, get_or_past, length-replicate}
-use Rattle.std.proofs.lemmas.Bool.{cases_lt, le-leb, and_parts, leb-true, false_from_ne_true}
+use Rattle.std.proofs.lemmas.Bool.{and_parts, leb-true}
 use Rattle.std.specs.Int.{bit_at}
 use Rattle.std.proofs.lemmas.Nat.Bits.{bit_at-zero}
 use Rattle.vp_dots.proofs.Rows.{dot_past}
 use Rattle.vp_dots.specs.Dots.{bit, dot, dots, shifted}
-use Rattle.vp_dots.specs.Painting.{paint, Painted}
+use Rattle.vp_dots.specs.Painting.{Painted}
 use Rattle.vp_dots.specs.declared.Op.{Op}
 use Rattle.vp_dots.specs.declared.Op.TheVariants.{Black, Flip}
 use Rattle.vp_dots.proofs.Moves.{moved_same}
-use Rattle.vp_dots.proofs.Shifts.{shifted_or}
 use Rattle.vp_glyph.specs.Sheets.{Glyphs}
 use Rattle.vp_glyph.specs.Texts.{text_dot, text_inside}
 use Rattle.vp_glyph.specs.Blocks.{pieces, first, indent, block_lines, line_dot, lines_dot, block_height, block_dot, block_inside}
@@ -19,10 +18,6 @@ use Rattle.vp_glyph.proofs.Layouts.{layout}
 use Rattle.vp_glyph.specs.declared.block.Alignment.{Alignment}
 use Rattle.vp_glyph.proofs.Drawn.{moved_none}
 use Rattle.vp_glyph.proofs.Stacks.{lines_left, lines_are, line_above, block_past, block_within}
-
--- black over black and white over white
-again : (op : Op) (i j k old : Bool) → op ≢ Flip → k ≡ (i || j) → paint op j (paint op i old) ≡ paint op k old
-again op i j k old h1 h2 = grind arith
 
 pub painted_over : (op : Op) (at : ℤ) (f g h : ℕ → Bool) (a b c : List ℕ) → op ≢ Flip → ((x : ℕ) → h x ≡ (f x || g x)) → Painted op (shifted at f) a b → Painted op (shifted at g) b c → Painted op (shifted at h) a c
 painted_over op at f g h a b c n u p q = grind arith

@@ -1,6 +1,6 @@
 -- A character as its rows, each dot and each row so often, and what is black behind them.
 use Rattle.std.proofs.Common.{inl, inr, ◌≡◌, ℕ, ◌+◌, ◌-◌, ◌*◌, ◌/◌, ◌<◌, ◌≤◌, Bool, true, false, not, cond, ltb, leb, ◌&&◌, ◌||◌, sym, ap, ◌∙◌, arith}
-use Rattle.std.proofs.Math.Nat.{add-mul, div-lt_iff_lt-mul, le-div_iff_mul-le, mul-le-mul_right}
+use Rattle.std.proofs.Math.Nat.{mul-le-mul_right}
 use Rattle.std.proofs.lemmas.Bool.{cases_lt, lt-ltb, le-ltb, lt-leb, le-leb, ltb-true, ltb-false}
 use Rattle.vp_dots.specs.Dots.{span}
 use Rattle.vp_glyph.specs.Cells.{font_width, font_height, font_dot, bold_dot, cell_width, cell_height, underlined, cell_dot}
@@ -31,7 +31,7 @@ font_low font = grind arith
 
 -- one of twelve dots that are so wide
 in_row : (font : Font) (w x : ℕ) → (ltb x (12 * w) && ltb (x / w) (font_width font)) ≡ ltb x (font_width font * w)
-in_row font w x = grind (arith, mul-le-mul_right)
+in_row font w x = grind arith
 
 not_before : (x n : ℕ) → leb n x ≡ not (ltb x n)
 not_before x n = elim (cases_lt x n) [ inl l ↦ lt-leb n x l ∙ sym (ap not (lt-ltb x n l)) | inr g ↦ le-leb n x g ∙ sym (ap not (le-ltb x n g)) ]

@@ -1,7 +1,6 @@
 -- Paragraphs, piece by piece.
-use Rattle.std.proofs.Common.{◌≡◌, ℕ, zero, suc, ◌+◌, ◌-◌, ◌<◌, ◌≤◌, List, [], ◌∷◌, length, take, drop, get_or, eqb, false, cond, refl, sym, ap, ◌∙◌, arith, sub-one, length-drop}
+use Rattle.std.proofs.Common.{◌≡◌, ℕ, zero, suc, ◌+◌, ◌-◌, ◌<◌, ◌≤◌, List, [], ◌∷◌, length, take, drop, get_or, eqb, false, cond, refl, sym, ap, ◌∙◌, arith, length-drop}
 use Rattle.std.proofs.lemmas.List.{drop_more}
-use Rattle.std.proofs.lemmas.Bool.{cases_Bool}
 use Rattle.vp_glyph.specs.Blocks.{pieces, first, others, last_blank}
 use Rattle.vp_glyph.specs.declared.lines.Piece.{Piece}
 use Rattle.vp_glyph.specs.declared.lines.Piece.TheVariants.{Cell}

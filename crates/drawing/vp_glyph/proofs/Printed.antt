@@ -1,7 +1,7 @@
 -- Rows of characters that are printed just as they stand.
 use Rattle.std.proofs.Common.{◌≡◌, ℕ, ◌+◌, ◌-◌, ◌*◌, ◌/◌, ◌<◌, ◌≤◌, Bool, true, false, not, cond, ltb, ◌&&◌, ◌||◌, sym, ap, ◌∙◌, arith, List, get_or, replicate, length, set, get_or-set_same, get_or-set_other}
 use Rattle.std.proofs.lemmas.List.{get_or-replicate, get_or_past, length-replicate}
-use Rattle.std.proofs.lemmas.Bool.{cases_eq, cases_lt, false_from_ne_true, lt-ltb, le-ltb, lt-leb, le-leb}
+use Rattle.std.proofs.lemmas.Bool.{cases_lt, false_from_ne_true, lt-ltb, lt-leb, le-leb}
 use Rattle.std.specs.Prelude.{Option, MatchOption}
 use Rattle.vp_dots.specs.Words.{word_dot, IsReady}
 use Rattle.vp_glyph.specs.Cells.{font_width, font_height, font_dot, bold_dot, cell_width, cell_height, underlined, cell_dot, cell_inside}
@@ -9,7 +9,6 @@ use Rattle.vp_glyph.specs.declared.cell.Font.{Font}
 use Rattle.vp_glyph.specs.declared.cell.Style.{Style}
 use Rattle.vp_glyph.specs.Sheets.{Sheets}
 use Rattle.vp_glyph.proofs.Looks.{white_dot}
-use Rattle.vp_glyph.proofs.Parts.{body_place, past_all}
 
 and_false : (b : Bool) → (b && false) ≡ false
 and_false b = grind arith

@@ -109,7 +109,7 @@ module _ (sheet : Option Glyphs) (w h a b s : ℕ) (d : Alignment) (y : ℕ) (at
   pub drawn_joined : (text : List ℕ) (place : ℕ) (left : Option (Bor (List ℕ))) (lent : Bor (List ℕ)) (old new : ℕ → Bool) → 0 < w → w ≤ a → y < block_height h b s → left ≡ Some lent
       → ((x : ℕ) → x < 8 * bytes → new x ≡ (old x || shifted at (λ v. lines_dot (layout sheet w h a b s d) place (block_lines (a / w) lent.now) v y) x)) → Drawn (a / w) (block_lines (a / w) text) place left old
       → (x : ℕ) → x < 8 * bytes → new x ≡ shifted at (λ v. block_dot (layout sheet w h a b s d) text v y) x
-  drawn_joined text place left lent old new p m k e z o x c = grind (arith, shifted_or, lines_block)
+  drawn_joined text place left lent old new p m k e z o x c = grind (arith, lines_block)
 
   -- a block less wide than a cell has none
   pub drawn_narrow : (text : List ℕ) (row : Bool) (x : ℕ) → a < w → row ≡ false → row ≡ shifted at (λ v. block_dot (layout sheet w h a b s d) text v y) x

@@ -12,7 +12,6 @@ use Rattle.vp_dots.specs.declared.Op.{Op}
 use Rattle.vp_dots.proofs.Moves.{moved_then, moved_same}
 use Rattle.vp_dots.proofs.Paints.{painted_none, painted_same}
 use Rattle.vp_dots.proofs.Shifts.{met, shifted_or}
-use Rattle.vp_glyph.proofs.Drawn.{moved_none}
 use Rattle.vp_glyph.proofs.Looks.{or_dot, white_dot}
 use Rattle.vp_glyph.proofs.Spread.{quotient}
 use Rattle.vp_glyph.specs.Sheets.{Glyphs}

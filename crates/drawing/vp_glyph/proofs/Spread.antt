@@ -1,14 +1,10 @@
 -- Dots drawn at another width.
 use Rattle.std.proofs.Common.{◌≡◌, ℕ, ◌+◌, ◌-◌, ◌*◌, ◌/◌, ◌<◌, ◌≤◌, Bool, true, false, ltb, leb, ◌&&◌, refl, arith, List, ℤ}
-use Rattle.std.proofs.Math.Nat.{div-lt_iff_lt-mul, le-div_iff_mul-le, div-mul-le_self, mul-le-mul_right}
-use Rattle.std.proofs.lemmas.Bool.{cases_lt, lt-ltb, le-leb}
+use Rattle.std.proofs.lemmas.Bool.{lt-ltb, le-leb}
 use Rattle.std.proofs.lemmas.Bool.Decides.{nat_tests}
 use Rattle.vp_dots.specs.Dots.{shifted, span}
 use Rattle.vp_dots.specs.Painting.{Painted}
 use Rattle.vp_dots.specs.declared.Op.{Op}
-use Rattle.vp_dots.proofs.Moves.{moved_then, moved_same}
-use Rattle.vp_dots.proofs.Paints.{painted_none}
-use Rattle.vp_dots.proofs.Shifts.{shifted_none}
 
 -- a quotient by its bounds
 pub quotient : (a w s : ℕ) → 0 < w → s * w ≤ a → a < (s + 1) * w → a / w ≡ s
@@ -23,9 +19,6 @@ from_edge n w s u p l = grind arith
 
 pub before_edge : (n w s u : ℕ) → 0 < n → u < edge_at n w s → u * n < s * w
 before_edge n w s u p l = grind arith
-
-pub edge_first : (n w : ℕ) → 0 < n → edge_at n w 0 ≡ 0
-edge_first n w p = let h : (0 * w + (n - 1)) / n < 1 = (div-lt_iff_lt-mul {k = n} {x = 0 * w + (n - 1)} {y = 1} p).1 (omega arith) in omega arith
 
 pub edge_more : (n w s : ℕ) → 0 < n → edge_at n w s ≤ edge_at n w (s + 1)
 edge_more n w s p = grind arith
@@ -48,12 +41,6 @@ ink_is n glyph left width s x p k l h =
     let q : (x - left) * n / width ≡ s = quotient ((x - left) * n) width s (omega arith) low high in
     rw (le-leb left x (omega arith), lt-ltb (x - left) width (omega arith), q) refl
 
-module _ (op : Op) (at : ℤ) (f : ℕ → Bool) where
-  -- a run without ink
-  pub run_blank : (from to : ℕ) (a b : List ℕ) → from ≤ to → Painted op (shifted at (λ x. ltb x from && f x)) a b
-      → ((x : ℕ) → from ≤ x → x < to → f x ≡ false) → Painted op (shifted at (λ x. ltb x to && f x)) a b
-  run_blank from to a b l p h = grind arith
-
 module _ (op : Op) (at : ℤ) (n : ℕ) (glyph : ℕ → Bool) (left width : ℕ) where
   -- the dots before s: all before the run is painted, and the run is all ink
   pub record Running (s from to : ℕ) (a b : List ℕ) : Type 0 where
@@ -73,7 +60,7 @@ module _ (op : Op) (at : ℤ) (n : ℕ) (glyph : ℕ → Bool) (left width : ℕ
     -- a white dot more
     pub running_off : (s from to next : ℕ) (a b c : List ℕ) → s < n → Running s from to a b → Painted op (shifted at (span from to)) b c → next ≡ left + edge_at n width (s + 1) → glyph s ≡ false
         → Running (s + 1) next next a c
-    running_off s from to next a b c l r q e t = grind (arith, nat_tests, edge_more, run_blank, ink_is)
+    running_off s from to next a b c l r q e t = grind (arith, nat_tests, edge_more, ink_is)
 
     -- all dots
     pub running_all : (s from to : ℕ) (a b c : List ℕ) → s ≡ n → Running s from to a b → Painted op (shifted at (span from to)) b c → Painted op (shifted at (ink n glyph left width)) a c

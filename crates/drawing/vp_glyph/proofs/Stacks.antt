@@ -22,10 +22,6 @@ pub lines_are : (n : ℕ) (text line : List ℕ) (next : Option (Bor (List ℕ))
 lines_are n text line next h1 = grind arith
 
 module _ (sheet : Option Glyphs) (w h a b s : ℕ) (d : Alignment) (x y : ℕ) where
-  -- a line with the dot
-  pub dot_found : (place : ℕ) (line : List ℕ) (rest all : List (List ℕ)) → all ≡ line ∷ rest → line_dot (layout sheet w h a b s d) place line x y ≡ true → lines_dot (layout sheet w h a b s d) place all x y ≡ true
-  dot_found place line rest all e f = rw (e, f) refl
-
   -- the line at the front of what is left has the dot
   pub front_found : (n place k : ℕ) (left next : Option (Bor (List ℕ))) (text : Bor (List ℕ)) (lent : List ℕ) (r : Bool) → left ≡ Some text → lent ≡ text.now
       → MatchOption next (block_lines n text.now ≡ take k (first (pieces text.now)) ∷ []) (λ q. block_lines n text.now ≡ take k (first (pieces text.now)) ∷ block_lines n q.now)

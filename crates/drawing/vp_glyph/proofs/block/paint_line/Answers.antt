@@ -1,4 +1,4 @@
-use Rattle.std.proofs.Common.{arith, length, ◌≡◌, ◌*◌, ◌≤◌, refl, sym, w64}
+use Rattle.std.proofs.Common.{arith, refl, sym, w64}
 use Rattle.std.proofs.Math.Nat.{mul-le-mul_left, mul-le-mul_right}
 use Rattle.std.proofs.lemmas.Int.{to_z-of_z}
 use Rattle.vp_glyph.specs.Blocks.{pieces, first}
@@ -17,7 +17,7 @@ loop-i-init g c = record {
 }
 
 pub unreachable-requires : goal.unreachable-requires
-unreachable-requires g c = grind (arith, behind_all, c.loop-i.invariant.behind, c.in_default.ensures)
+unreachable-requires g c = grind (arith, behind_all, c.loop-i.invariant.behind)
 
 pub loop-i-preserved : goal.loop-i-preserved
 loop-i-preserved g c = record {
@@ -30,7 +30,7 @@ loop-i-preserved g c = record {
 }
 
 pub overflow_add-painted : goal.overflow_add-painted
-overflow_add-painted g c = grind (arith, mul-le-mul_right, c.requires.w, c.requires.fits, c.loop-i.invariant.counted)
+overflow_add-painted g c = grind (arith, mul-le-mul_right, c.requires.fits)
 
 pub returns : goal.returns
 returns g c = rw (sym (to_z-of_z w64 c.args.at c.ranges.at)) (record {

@@ -1,6 +1,5 @@
-use Rattle.std.proofs.Common.{◌≡◌, ◌+◌, ap, sym, arith, ◌∙◌}
+use Rattle.std.proofs.Common.{◌≡◌, ◌+◌, sym, arith, ◌∙◌}
 use Rattle.std.proofs.lemmas.List.{length-set}
-use Rattle.vp_dots.specs.Dots.{span}
 use Rattle.vp_glyph.proofs.Gathered.{blackened_more}
 use Rattle.vp_glyph.proofs.fronts.blacken_next.Goals as goal
 

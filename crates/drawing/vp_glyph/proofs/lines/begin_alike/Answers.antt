@@ -3,4 +3,4 @@ use Rattle.vp_glyph.proofs.Pieces.{same_front}
 use Rattle.vp_glyph.proofs.lines.begin_alike.Goals as goal
 
 pub returns : goal.returns
-returns c = grind (arith, same_front, c.loop-i.invariant.alike)
+returns c = grind (arith, same_front)

@@ -1,11 +1,11 @@
-use Rattle.std.proofs.Common.{arith, ap, sym, w64, ◌*◌, ◌/◌, ◌<◌, ◌+◌, ◌≤◌, ◌≡◌}
+use Rattle.std.proofs.Common.{arith, sym, w64, ◌*◌, ◌<◌, ◌+◌, ◌≤◌}
 use Rattle.std.proofs.lemmas.Grind.{div_ceil_times}
 use Rattle.std.proofs.lemmas.Int.{to_z-of_z}
 use Rattle.vp_glyph.proofs.Handed.{cells_upto, cells_few}
 use Rattle.vp_glyph.proofs.sampled.seen.Goals as goal
 
 pub returns-clause-before : goal.returns-clause-before
-returns-clause-before c = grind (arith, to_z-of_z, c.whole_cells.ensures)
+returns-clause-before c = grind (arith, to_z-of_z)
 
 pub returns-clause-behind : goal.returns-clause-behind
 returns-clause-behind c =
@@ -13,7 +13,7 @@ returns-clause-behind c =
     rw (sym (to_z-of_z w64 c.args.at c.ranges.at)) (λ x d g m n. c.seen_dots-from.ensures.behind x d (omega arith) m n)
 
 pub returns-clause-last : goal.returns-clause-last
-returns-clause-last c = grind (arith, div_ceil_times, cells_upto, c.begun_cells.ensures, c.requires.some)
+returns-clause-last c = grind (arith, div_ceil_times, cells_upto, c.begun_cells.ensures)
 
 pub returns-clause-few : goal.returns-clause-few
 returns-clause-few c =

@@ -1,7 +1,5 @@
-use Rattle.std.proofs.Common.{◌≡◌, arith, ◌∙◌, ap, ltb, ◌&&◌, ◌||◌, get_or}
+use Rattle.std.proofs.Common.{arith, ◌∙◌}
 use Rattle.std.proofs.lemmas.List.{length-set}
-use Rattle.vp_dots.specs.Words.{word_dot}
-use Rattle.vp_glyph.specs.Halves.{half_dot}
 use Rattle.vp_glyph.proofs.Gathered.{grown_more}
 use Rattle.vp_glyph.proofs.stretch.add_halves.Goals as goal
 

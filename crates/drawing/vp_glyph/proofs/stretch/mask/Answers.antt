@@ -1,5 +1,4 @@
-use Rattle.std.proofs.Common.{inl, inr, ◌∙◌, refl, sym, arith}
-use Rattle.std.proofs.lemmas.Bool.{cases_lt, lt-leb, le-leb, le-ltb}
+use Rattle.std.proofs.Common.{arith}
 use Rattle.vp_glyph.proofs.Looks.{white_dot}
 use Rattle.vp_glyph.proofs.stretch.mask.Goals as goal
 

@@ -41,10 +41,10 @@ loop-k-preserved g c =
     }
 
 pub blacken-requires : goal.blacken-requires
-blacken-requires g c = grind (arith, rows_more, c.loop-k.invariant.begun, c.rows_above-end.ensures, c.rows_above-to.ensures, c.first_row.ensures.row)
+blacken-requires g c = grind (arith, rows_more, c.loop-k.invariant.begun, c.rows_above-to.ensures)
 
 pub loop-k-smaller : goal.loop-k-smaller
-loop-k-smaller g c = grind (arith, rows_more, c.loop-k.invariant.begun, c.rows_above-end.ensures, c.rows_above-to.ensures, c.first_row.ensures.row)
+loop-k-smaller g c = grind (arith, rows_more, c.loop-k.invariant.begun, c.rows_above-to.ensures)
 
 pub returns : goal.returns
 returns g c =

@@ -10,7 +10,7 @@ use Rattle.vp_glyph.proofs.Sheeted.{rows_more, shown_none, shown_more, shown_all
 use Rattle.vp_glyph.proofs.block.Block.draw_line.Goals as goal
 
 pub loop-k-init : goal.loop-k-init
-loop-k-init g c = grind (arith, shown_none, line_rows)
+loop-k-init g c = grind (arith, shown_none)
 
 pub loop-k-preserved : goal.loop-k-preserved
 loop-k-preserved g c =
@@ -30,10 +30,10 @@ loop-k-preserved g c =
     }
 
 pub add_run-requires : goal.add_run-requires
-add_run-requires g c = grind (arith, row_alike, rows_more, c.loop-k.invariant.begun, c.rows_above-end.ensures, c.rows_above-to.ensures, c.first_row.ensures.row, c.source_row-s.ensures, c.requires.cells)
+add_run-requires g c = grind (arith, row_alike, rows_more, c.loop-k.invariant.begun, c.rows_above-end.ensures, c.rows_above-to.ensures, c.source_row-s.ensures)
 
 pub loop-k-smaller : goal.loop-k-smaller
-loop-k-smaller g c = grind (arith, rows_more, c.loop-k.invariant.begun, c.rows_above-end.ensures, c.rows_above-to.ensures, c.first_row.ensures.row)
+loop-k-smaller g c = grind (arith, rows_more, c.loop-k.invariant.begun, c.rows_above-to.ensures)
 
 pub returns-clause-dots : goal.returns-clause-dots
 returns-clause-dots g c =

@@ -1,7 +1,6 @@
-use Rattle.std.proofs.Common.{sym, ap, arith, w64, get_or}
-use Rattle.vp_glyph.specs.Halves.{half_dot}
+use Rattle.std.proofs.Common.{arith}
 use Rattle.std.proofs.lemmas.Int.{to_z-of_z}
-use Rattle.vp_glyph.proofs.Handed.{pieces_left, less_left}
+use Rattle.vp_glyph.proofs.Handed.{less_left}
 use Rattle.vp_glyph.proofs.Joining.{joined_none, joined_more, joined_all}
 use Rattle.vp_glyph.proofs.block.Block.joined.Goals as goal
 
@@ -18,10 +17,10 @@ pub loop-left-preserved : goal.loop-left-preserved
 loop-left-preserved g c =
     let b = c.args.self.now in
     record {
-      joined = λ s x l m. grind (arith, joined_more, c.loop-left.invariant.joined, c.in-Some.is, c.hand_line.ensures.text, c.hand_line.ensures.lines);
-      counted = grind (arith, less_left, c.hand_line.ensures.less, c.in-Some.is, c.loop-left.invariant.counted, c.hand_line.ensures.counted, c.add_rows-drawn.ensures.most);
+      joined = λ s x l m. grind (arith, joined_more, c.loop-left.invariant.joined, c.hand_line.ensures.text);
+      counted = grind (arith, less_left, c.hand_line.ensures.less, c.in-Some.is, c.hand_line.ensures.counted);
       some = λ e. omega (arith, c.hand_line.ensures.counted, c.saturating_add.ensures);
     }
 
 pub returns : goal.returns
-returns g c = grind (arith, to_z-of_z, joined_all, c.loop-left.invariant.joined, c.in_default.is, c.loop-left.invariant.some)
+returns g c = grind (arith, to_z-of_z, joined_all, c.in_default.is)

@@ -2,4 +2,4 @@ use Rattle.std.proofs.Common.{arith}
 use Rattle.vp_glyph.proofs.fronts.SheetRows.next_inked.Goals as goal
 
 pub returns-clause-white : goal.returns-clause-white
-returns-clause-white c = grind (arith, c.min.ensures)
+returns-clause-white c = grind arith

@@ -1,4 +1,4 @@
-use Rattle.std.proofs.Common.{inl, inr, ℕ, ◌<◌, ◌≡◌, ◌&&◌, arith, ◌∙◌, ◌+◌, ◌||◌, ap, sym, leb, get_or, w64, to_z, of_z}
+use Rattle.std.proofs.Common.{inl, inr, ℕ, ◌<◌, ◌≡◌, ◌&&◌, arith, ◌∙◌, ◌+◌, ◌||◌, ap, leb, get_or, w64, to_z, of_z}
 use Rattle.std.proofs.lemmas.Int.{to_z-of_z}
 use Rattle.vp_dots.specs.Dots.{shifted}
 use Rattle.vp_dots.specs.Words.{word_dot}
@@ -38,7 +38,7 @@ loop-s-preserved c =
     }
 
 pub returns-after-loop-s : goal.returns-after-loop-s
-returns-after-loop-s c = grind (arith, to_z-of_z, wide_all, c.loop-s.invariant.added)
+returns-after-loop-s c = grind (arith, to_z-of_z, wide_all)
 
 pub returns-else-from-lt-HALF : goal.returns-else-from-lt-HALF
-returns-else-from-lt-HALF c = grind (arith, to_z-of_z, wide_seen, c.loop-s.invariant.added, c.loop-s.invariant.begun, c.loop-s.invariant.from_is)
+returns-else-from-lt-HALF c = grind (arith, to_z-of_z, wide_seen, c.loop-s.invariant.begun)

@@ -1,5 +1,5 @@
-use Rattle.std.proofs.Common.{arith, ◌≡◌, ◌*◌, ◌/◌}
+use Rattle.std.proofs.Common.{arith}
 use Rattle.vp_glyph.proofs.stretch.Stretch.twice.Goals as goal
 
 pub returns : goal.returns
-returns c x = grind (arith, c.requires)
+returns c x = grind arith
