@@ -1,29 +1,22 @@
 -- Lines, one after the other.
-use Rattle.std.proofs.Common.{◌≡◌, ℕ, zero, suc, ◌+◌, ◌<◌, ◌≤◌, List, [], ◌∷◌, ◌++◌, false, length, take, drop, ◌⊎◌, get_or, eqb, cond, refl, sym, ap, ◌∙◌, arith, length-drop, inl, inr, eq-eqb, Bor, Option, Some, None, MatchOption}
+use Rattle.std.proofs.Common.{◌≡◌, ℕ, zero, suc, ◌+◌, ◌<◌, ◌≤◌, List, [], ◌∷◌, ◌++◌, false, length, take, drop, ◌⊎◌, get_or, eqb, cond, refl, sym, ap, ◌∙◌, arith, length-drop, inl, inr, eq-eqb, Bor, Option, MatchOption}
 use Rattle.std.proofs.lemmas.List.{take_all, length-take-le, drop_more, take-append-drop, append-nil}
 use Rattle.std.proofs.lemmas.List.Elements.{All-nil}
-use Rattle.std.proofs.lemmas.Bool.{cases_eq, cases_lt, le-leb, lt-leb, ne_eqb}
+use Rattle.std.proofs.lemmas.Bool.{cases_eq, cases_lt, lt-leb, ne_eqb}
 use Rattle.std.specs.Prelude.{flat_map}
 use Rattle.std.specs.List.{All}
 use Rattle.vp_glyph.specs.Blocks.{pieces, first, others, last_blank, line_length, behind_line, lines_upto, lines, StandIn, block_lines}
 
 pub last_blank_within : (n : ℕ) (cells : List ℕ) → last_blank n cells ≤ n
 last_blank_within zero cells = omega arith
-last_blank_within (suc n) cells = elim (cases_eq (get_or cells (suc n) 0) 32) [
-  | inl y ↦ rw (eq-eqb (get_or cells (suc n) 0) 32 y) (omega arith)
-  | inr x ↦ rw (ne_eqb (get_or cells (suc n) 0) 32 x) (let h = last_blank_within n cells in omega arith)
-]
+last_blank_within (suc n) cells = grind (arith, last_blank_within n cells)
 
 -- at least one cell stands in a line
 pub behind_shorter : (n : ℕ) (cells : List ℕ) → 0 < n → n < length cells → length (behind_line n cells) < length cells
-behind_shorter n cells p l = elim (cases_eq (last_blank n cells) 0) [
-  | inl y ↦ rw (eq-eqb (last_blank n cells) 0 y) (let h = length-drop n cells in omega (arith, h))
-  | inr x ↦ rw (ne_eqb (last_blank n cells) 0 x) (let h = length-drop (last_blank n cells + 1) cells in omega (arith, h))
-]
+behind_shorter n cells p l = grind (arith, length-drop)
 
 pub upto_short : (k n : ℕ) (cells : List ℕ) → length cells ≤ n → lines_upto k n cells ≡ cells ∷ []
-upto_short zero n cells l = refl
-upto_short (suc k) n cells l = rw (le-leb (length cells) n l) refl
+upto_short k n cells h1 = grind arith
 
 -- as many lines as there are cells are enough
 pub upto_same : (m k n : ℕ) (cells : List ℕ) → 0 < n → length cells ≤ m → length cells ≤ k → lines_upto m n cells ≡ lines_upto k n cells
@@ -38,20 +31,13 @@ upto_same (suc m) (suc k) n cells p a b = elim (cases_lt n (length cells)) [
 pub block_short : (n k : ℕ) (text : List ℕ) → length (first (pieces text)) ≤ n → k ≡ length (first (pieces text))
     → block_lines n text ≡ take k (first (pieces text)) ∷ flat_map (lines n) (others (pieces text))
 unfolding block_lines
-block_short n k text l e =
-    let t : take k (first (pieces text)) ≡ first (pieces text) = take_all k (first (pieces text)) (omega arith) in
-    rw (upto_short (length (first (pieces text))) n (first (pieces text)) l, t) refl
+block_short n k text l e = grind (arith, take_all, upto_short)
 
 -- of a longer one the first line stands before the others
 pub block_long : (n : ℕ) (text : List ℕ) → 0 < n → n < length (first (pieces text))
     → block_lines n text ≡ take (line_length n (first (pieces text))) (first (pieces text)) ∷ (cond (eqb (length (behind_line n (first (pieces text)))) 0) [] (lines n (behind_line n (first (pieces text)))) ++ flat_map (lines n) (others (pieces text)))
 unfolding block_lines
-block_long n text p l =
-    let cells : List ℕ = first (pieces text) in
-    let s : length (behind_line n cells) < length cells = behind_shorter n cells p l in
-    let same : lines n cells ≡ lines_upto (suc (length cells)) n cells = upto_same (length cells) (suc (length cells)) n cells p (omega arith) (omega arith) in
-    let rest : lines_upto (length cells) n (behind_line n cells) ≡ lines n (behind_line n cells) = upto_same (length cells) (length (behind_line n cells)) n (behind_line n cells) p (omega arith) (omega arith) in
-    rw same (rw (lt-leb (length cells) n l) (rw rest refl))
+block_long n text p l = grind (arith, behind_shorter, upto_same)
 
 -- what is left of a paragraph is the front of the rest
 rest_is : (n : ℕ) (b : List ℕ) (o : List (List ℕ)) (rest : List ℕ) → first (pieces rest) ≡ b → others (pieces rest) ≡ o → 0 < length b → cond (eqb (length b) 0) [] (lines n b) ++ flat_map (lines n) o ≡ block_lines n rest
@@ -66,11 +52,7 @@ module _ (n : ℕ) (text rest : List ℕ) (p : 0 < n) (l : n < length (first (pi
   -- a line of n cells
   pub cut_hard : last_blank n (first (pieces text)) ≡ 0 → first (pieces rest) ≡ drop n (first (pieces text)) → others (pieces rest) ≡ others (pieces text)
       → block_lines n text ≡ take n (first (pieces text)) ∷ block_lines n rest
-  cut_hard z e o =
-      let h = block_long n text p l in
-      let d = length-drop n (first (pieces text)) in
-      let g = rw (eq-eqb (last_blank n (first (pieces text))) 0 z) at h in
-      g ∙ ap (λ (ls : List (List ℕ)). take n (first (pieces text)) ∷ ls) (rest_is n (drop n (first (pieces text))) (others (pieces text)) rest e o (omega (arith, d)))
+  cut_hard z e o = grind (arith, block_long, length-drop, rest_is)
 
   module _ (q : ℕ) (z : last_blank n (first (pieces text)) ≡ q) (s : 0 < q) where
     at_blank : block_lines n text ≡ take q (first (pieces text)) ∷ (cond (eqb (length (drop (q + 1) (first (pieces text)))) 0) [] (lines n (drop (q + 1) (first (pieces text)))) ++ flat_map (lines n) (others (pieces text)))
@@ -90,8 +72,7 @@ module _ (n : ℕ) (text rest : List ℕ) (p : 0 < n) (l : n < length (first (pi
 pub paragraph_next : (n : ℕ) (text line : List ℕ) (o w : List (List ℕ)) (next : Option (Bor (List ℕ))) → block_lines n text ≡ line ∷ flat_map (lines n) o → w ≡ o
     → MatchOption next (w ≡ []) (λ r. w ≡ first (pieces r.now) ∷ others (pieces r.now)) → MatchOption next (block_lines n text ≡ line ∷ []) (λ r. block_lines n text ≡ line ∷ block_lines n r.now)
 unfolding block_lines
-paragraph_next n text line o w None e s m = rw (sym s ∙ m) at e
-paragraph_next n text line o w (Some r) e s m = rw (sym s ∙ m) at e
+paragraph_next n text line o w next h1 h2 h3 = grind arith
 
 -- the blank before which a line ends
 last_blank_is : (n : ℕ) (cells : List ℕ) → 0 < last_blank n cells → get_or cells (last_blank n cells) 0 ≡ 32
@@ -103,10 +84,7 @@ last_blank_is (suc n) cells h = elim (cases_eq (get_or cells (suc n) 0) 32) [
 
 -- at most n cells stand in a line
 line_within : (n : ℕ) (cells : List ℕ) → line_length n cells ≤ n
-line_within n cells = elim (cases_eq (last_blank n cells) 0) [
-  | inl y ↦ rw (eq-eqb (last_blank n cells) 0 y) (omega arith)
-  | inr x ↦ rw (ne_eqb (last_blank n cells) 0 x) (last_blank_within n cells)
-]
+line_within n cells = grind (arith, last_blank_within)
 
 -- a line and what is behind it are the cells, but for the blank
 line_stands : (n : ℕ) (cells : List ℕ) → n < length cells
@@ -120,8 +98,7 @@ line_stands n cells l = elim (cases_eq (last_blank n cells) 0) [
     at_blank q m e = sym (take-append-drop q cells) ∙ ap (λ (ls : List ℕ). take q cells ++ ls) (drop_more cells q 0 m ∙ ap (λ b. b ∷ drop (q + 1) cells) e)
 
 all_cons : (P : List ℕ → Type 0) (x : List ℕ) (xs : List (List ℕ)) → P x → All P xs → All P (x ∷ xs)
-all_cons P x xs p h zero d l = p
-all_cons P x xs p h (suc k) d l = h k d (omega arith)
+all_cons P x xs h1 h2 = grind arith
 
 -- the lines of a paragraph
 record IsBroken (n : ℕ) (cells : List ℕ) (ls : List (List ℕ)) : Type 0 where

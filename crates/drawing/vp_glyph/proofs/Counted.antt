@@ -1,8 +1,7 @@
 -- How many lines a text has at most.
-use Rattle.std.proofs.Common.{inl, inr, ◌≡◌, ℕ, zero, suc, ◌+◌, ◌-◌, ◌*◌, ◌/◌, ◌≤◌, min, Bool, true, false, eqb, ltb, leb, ◌&&◌, ◌||◌, List, [], ◌∷◌, length, refl, ap, ◌∙◌, arith, Option}
+use Rattle.std.proofs.Common.{◌≡◌, ℕ, zero, suc, ◌+◌, ◌-◌, ◌*◌, ◌/◌, ◌≤◌, min, Bool, true, false, ltb, leb, ◌&&◌, ◌||◌, List, [], ◌∷◌, length, refl, ap, ◌∙◌, arith, Option}
 use Rattle.std.proofs.Math.Nat.{mul-le-mul_right}
 use Rattle.std.proofs.lemmas.List.{length-append}
-use Rattle.std.proofs.lemmas.Bool.{cases_lt, cases_eq, cases_Bool, lt-leb, le-leb, eq-eqb, ne_eqb}
 use Rattle.std.specs.List.{flat_map}
 use Rattle.vp_glyph.specs.Sheets.{Glyphs}
 use Rattle.vp_glyph.specs.Blocks.{pieces, paragraphs, behind_line, lines_upto, lines, block_lines, lines_dot, block_width, block_height, block_dot}
@@ -14,13 +13,7 @@ use Rattle.vp_glyph.proofs.Stacks.{line_above}
 
 upto_many : (m n : ℕ) (cells : List ℕ) → length (lines_upto m n cells) ≤ m + 1
 upto_many zero n cells = omega arith
-upto_many (suc m) n cells = elim (cases_lt n (length cells)) [
-  | inl l ↦ rw (lt-leb (length cells) n l) (elim (cases_eq (length (behind_line n cells)) 0) [
-    | inl z ↦ rw (eq-eqb (length (behind_line n cells)) 0 z) (omega arith)
-    | inr o ↦ rw (ne_eqb (length (behind_line n cells)) 0 o) (let r = upto_many m n (behind_line n cells) in omega (arith, r))
-  ])
-  | inr g ↦ rw (le-leb (length cells) n g) (omega arith)
-]
+upto_many (suc m) n cells = grind (arith, upto_many m n (behind_line n cells))
 
 -- a place for each cell of some paragraphs, and one more for each of them
 abbrev room : List (List ℕ) → ℕ
@@ -29,11 +22,7 @@ room (cells ∷ rest) = length cells + 1 + room rest
 
 flat_many : (n : ℕ) (all : List (List ℕ)) → length (flat_map (lines n) all) ≤ room all
 flat_many n [] = omega arith
-flat_many n (cells ∷ rest) =
-    let a = length-append (lines n cells) (flat_map (lines n) rest) in
-    let u = upto_many (length cells) n cells in
-    let r = flat_many n rest in
-    omega (arith, a, u, r)
+flat_many n (cells ∷ rest) = grind (arith, length-append, upto_many, flat_many n rest)
 
 pieces_room : (all : List Piece) → room (paragraphs all) ≡ length all + 1
 pieces_room [] = refl
@@ -43,16 +32,7 @@ pieces_room (Cell b ∷ rest) = let r = pieces_room rest in omega (arith, r)
 pieces_few : (text : List ℕ) → length (pieces text) ≤ length text
 pieces_few [] = omega arith
 pieces_few (b ∷ []) = omega arith
-pieces_few (b ∷ next ∷ text) =
-    let u = pieces_few text in
-    let v = pieces_few (next ∷ text) in
-    elim (cases_Bool (eqb b 92 && eqb next 38)) [
-      | inl t ↦ rw t (omega (arith, u))
-      | inr f ↦ rw f (elim (cases_Bool (eqb b 92 && eqb next 92)) [
-        | inl t ↦ rw t (omega (arith, u))
-        | inr o ↦ rw o (omega (arith, v))
-      ])
-    ]
+pieces_few (b ∷ next ∷ text) = grind (arith, pieces_few text, pieces_few (next ∷ text))
 
 -- a line for each byte, and one more
 pub lines_many : (n : ℕ) (text : List ℕ) → length (block_lines n text) ≤ length text + 1

@@ -3,7 +3,7 @@ use Rattle.std.proofs.Common.{◌≡◌, ℕ, ◌+◌, ◌-◌, ◌*◌, ◌/◌
 use Rattle.std.proofs.lemmas.Nat.{div-mul-add, mul-add-lt}
 use Rattle.std.proofs.Math.Nat.{mul-add-mod_self_right, mod-eq_of_lt}
 use Rattle.std.proofs.lemmas.List.{get_or-take, get_or-drop, get_or_past, length-take}
-use Rattle.std.proofs.lemmas.Bool.{and_parts, cases_lt, le-leb, le-ltb, lt-leb, lt-ltb, ltb-true}
+use Rattle.std.proofs.lemmas.Bool.{cases_lt, le-ltb}
 use Rattle.vp_dots.specs.Dots.{dot}
 use Rattle.vp_dots.specs.Words.{word_dot, IsReady}
 use Rattle.vp_glyph.specs.Sheets.{Glyphs, IsCut, raster_dot, glyph_dot}
@@ -11,25 +11,11 @@ use Rattle.vp_glyph.specs.Inked.{IsInked}
 use Rattle.vp_glyph.specs.declared.sheet.Inked.{Inked}
 use Rattle.vp_glyph.proofs.Looks.{white_dot}
 
--- no dot of a part of no dots
-pub and_white : (t : Bool) {b : Bool} → b ≡ false → (t && b) ≡ false
-and_white true e = e
-and_white false e = refl
-
 -- a row of a cell, cut out of the raster's rows
 pub row_in_cell : (sheet : Glyphs) (c x y from word keep cut : ℕ) → sheet.wide ≤ 64 → y < sheet.high → from ≡ 16 * sheet.wide * (sheet.high * (c / 16) + y) + sheet.wide * (c % 16)
     → (x < 64 → word_dot word x ≡ dot sheet.raster (from + x)) → word_dot keep x ≡ ltb x sheet.wide → word_dot cut x ≡ (word_dot word x && word_dot keep x) → word_dot cut x ≡ glyph_dot sheet c x y
 unfolding glyph_dot
-row_in_cell sheet c x y from word keep cut w l f a k e = e ∙ ap (λ b. word_dot word x && b) k ∙ elim (cases_lt x sheet.wide) [
-  | inl h ↦
-      let place : from + x ≡ 16 * sheet.wide * (sheet.high * (c / 16) + y) + (sheet.wide * (c % 16) + x) = omega (arith, f) in
-      rw (lt-ltb x sheet.wide h, lt-ltb y sheet.high l) (and_true _ ∙ a (omega arith) ∙ ap (dot sheet.raster) place)
-  | inr g ↦ rw (le-ltb x sheet.wide g) (and_white _ refl)
-]
-  where
-    and_true : (b : Bool) → (b && true) ≡ b
-    and_true true = refl
-    and_true false = refl
+row_in_cell sheet c x y from word keep cut w l f a k e = grind arith
 
 -- the rows of one cell
 pub rows_are : (sheet : Glyphs) (rows : List ℕ) (c x y first n : ℕ) → IsCut sheet rows → c < 256 → first ≡ sheet.high * c → n ≡ sheet.high → word_dot (get_or (take n (drop first rows)) y 0) x ≡ glyph_dot sheet c x y
@@ -53,32 +39,15 @@ rows_are sheet rows c x y first n cut l f m = elim (cases_lt y sheet.high) [
 -- the rows of a cell from the first on that has ink to the last
 pub inked_dot : (rows : List ℕ) (inked : Inked) (x y : ℕ) → IsInked rows inked
     → (leb inked.first y && word_dot (get_or (take (inked.below - inked.first) (drop inked.first rows)) (y - inked.first) 0) x) ≡ word_dot (get_or rows y 0) x
-inked_dot rows inked x y is = elim (cases_lt y inked.first) [
-  | inl l ↦ rw (lt-leb inked.first y l, is.white y (rw (lt-leb inked.first y l) refl)) (sym (white_dot x))
-  | inr g ↦ rw (le-leb inked.first y g) (ap (λ w. word_dot w x) (elim (cases_lt y inked.below) [
-    | inl l ↦ (let place : inked.first + (y - inked.first) ≡ y = omega arith in
-        get_or-take (inked.below - inked.first) (drop inked.first rows) (y - inked.first) 0 (omega arith) ∙ get_or-drop inked.first rows (y - inked.first) 0 ∙ ap (λ i. get_or rows i 0) place)
-    | inr m ↦ get_or_past (take (inked.below - inked.first) (drop inked.first rows)) (y - inked.first) 0 (omega (arith, length-take (inked.below - inked.first) (drop inked.first rows)))
-        ∙ sym (is.white y (rw (le-leb inked.first y g, le-ltb y inked.below m) refl))
-  ]))
-]
+inked_dot rows inked x y is = grind (arith, white_dot, get_or-take, get_or-drop, get_or_past, length-take)
 
 -- no dot stands outside a cell
 pub glyph_inside : (sheet : Glyphs) (c x y : ℕ) → glyph_dot sheet c x y ≡ true → (x < sheet.wide) × (y < sheet.high)
 unfolding glyph_dot
-glyph_inside sheet c x y e =
-    let p = and_parts _ _ e in
-    let q = and_parts _ _ p.0 in
-    (ltb-true x sheet.wide q.0, ltb-true y sheet.high q.1)
+glyph_inside sheet c x y e = grind arith
 
 -- what stands ready of a cell
 pub ready_of : (sheet : Glyphs) (rows : List ℕ) (c w h first n : ℕ) (inked : Inked) → IsCut sheet rows → c < 256 → first ≡ sheet.high * c → n ≡ sheet.high → sheet.wide ≤ w → sheet.high ≤ h
     → IsInked (take n (drop first rows)) inked
     → IsReady h inked.first (take (inked.below - inked.first) (drop inked.first (take n (drop first rows)))) (glyph_dot sheet c) × ((x y : ℕ) → glyph_dot sheet c x y ≡ true → (x < w) × (y < h))
-ready_of sheet rows c w h first n inked cut l f m wide high is = (
-  record {
-    inside = omega (arith, m, is.order, is.inside, length-take n (drop first rows), length-take (inked.below - inked.first) (drop inked.first (take n (drop first rows))));
-    dots_are = λ x y. inked_dot (take n (drop first rows)) inked x y is ∙ rows_are sheet rows c x y first n cut l f m;
-  },
-  λ x y e. (let p = glyph_inside sheet c x y e in (omega (arith, p.0), omega (arith, p.1))),
-)
+ready_of sheet rows c w h first n inked cut l f m wide high is = grind (arith, length-take, inked_dot, rows_are, glyph_inside)

@@ -1,7 +1,6 @@
 -- Characters drawn from the dots of their rows.
-use Rattle.std.proofs.Common.{Bool, List, Option, arith, false, inl, inr, leb, refl, ℕ, ℤ, ◌&&◌, ◌*◌, ◌-◌, ◌/◌, ◌<◌, ◌≡◌, ◌≤◌}
-use Rattle.std.proofs.lemmas.Bool.{cases_Bool, cases_lt, le-ltb, lt-ltb, le-leb}
-use Rattle.std.proofs.lemmas.Bool.Decides.{nat_tests}
+use Rattle.std.proofs.Common.{Bool, List, Option, arith, false, leb, refl, ℕ, ℤ, ◌&&◌, ◌*◌, ◌-◌, ◌/◌, ◌<◌, ◌≡◌, ◌≤◌}
+use Rattle.std.proofs.lemmas.Bool.{le-ltb, le-leb}
 use Rattle.vp_dots.specs.Dots.{shifted}
 use Rattle.vp_dots.specs.Words.{word_dot}
 use Rattle.vp_dots.specs.Painting.{Painted}
@@ -20,19 +19,12 @@ moved_none op at f row h = painted_none op (shifted at f) row (λ d l. shifted_n
 module _ (op : Op) (at : ℤ) (sheet : Option Glyphs) (c w h left y : ℕ) where
   pub sampled_below : (row : List ℕ) → h ≤ y → Painted op (shifted at (λ x. leb left x && sampled_dot sheet c w h (x - left) y)) row row
   unfolding sampled_dot
-  sampled_below row l = moved_none op at (λ x. leb left x && sampled_dot sheet c w h (x - left) y) row
-      (λ x. elim (cases_Bool (leb left x)) [ inl t ↦ rw (t, le-ltb y h l) (grind (arith, nat_tests)) | inr f ↦ rw f refl ])
+  sampled_below row l = grind arith
 
   module _ (word : ℕ) (l : y < h) (e : (x : ℕ) → word_dot word x ≡ sheet_dot sheet c x (y * 24 / h)) where
     sampled_ink : (x : ℕ) → ink 12 (word_dot word) left w x ≡ (leb left x && sampled_dot sheet c w h (x - left) y)
     unfolding sampled_dot
-    sampled_ink x = elim (cases_Bool (leb left x)) [
-      | inl t ↦ elim (cases_lt (x - left) w) [
-        | inl k ↦ rw (t, lt-ltb (x - left) w k, lt-ltb y h l, e ((x - left) * 12 / w)) refl
-        | inr g ↦ rw (t, le-ltb (x - left) w g) refl
-      ]
-      | inr f ↦ rw f refl
-    ]
+    sampled_ink x = grind arith
 
     pub sampled_drawn : (a b : List ℕ) → Painted op (shifted at (ink 12 (word_dot word) left w)) a b
         → Painted op (shifted at (λ x. leb left x && sampled_dot sheet c w h (x - left) y)) a b

@@ -1,18 +1,14 @@
 -- How many lines end above a row, and how many pieces they have.
-use Rattle.std.proofs.Common.{inl, inr, ◌⊎◌, ◌≡◌, ℕ, zero, suc, ◌+◌, ◌-◌, ◌*◌, ◌/◌, ◌^◌, ◌<◌, ◌≤◌, min, List, [], ◌∷◌, length, take, drop, Option, MatchOption, Bor, refl, sym, ap, ◌∙◌, arith}
+use Rattle.std.proofs.Common.{inl, inr, ◌⊎◌, ◌≡◌, ℕ, zero, suc, ◌+◌, ◌-◌, ◌*◌, ◌/◌, ◌^◌, ◌<◌, ◌≤◌, min, List, [], ◌∷◌, length, take, drop, Option, MatchOption, Bor, refl, ap, arith}
 use Rattle.std.proofs.Math.Nat.{mul-le-mul_right}
 use Rattle.std.proofs.lemmas.Bool.{cases_lt, cases_eq, le-leb, lt-leb}
 use Rattle.std.proofs.lemmas.List.{length-take-le}
 use Rattle.vp_glyph.specs.Blocks.{BlockLayout, pieces, first, block_lines}
 use Rattle.vp_glyph.specs.Above.{pieces_of, above_of, lines_above, pieces_above}
-use Rattle.vp_glyph.proofs.Stacks.{lines_are, lines_left}
 
 above_most : (b : BlockLayout) (n y : ℕ) → above_of b n y ≤ n
 above_most b zero y = omega arith
-above_most b (suc n) y = elim (cases_lt y (n * b.pitch + b.h)) [
-  | inl l ↦ rw (lt-leb (n * b.pitch + b.h) y l) (let m = above_most b n y in omega (arith, m))
-  | inr g ↦ rw (le-leb (n * b.pitch + b.h) y g) (omega arith)
-]
+above_most b (suc n) y = grind (arith, above_most b n y)
 
 -- no line from the p-th on ends above the row
 pub above_upto : (b : BlockLayout) (p n y : ℕ) → p ≤ n → (p ≡ n) ⊎ (y < p * b.pitch + b.h) → above_of b n y ≤ p
@@ -57,10 +53,7 @@ pieces_begun p walked all = let n = pieces_none p p all (omega arith) in omega (
 pub pieces_more : (p k : ℕ) (all : List (List ℕ)) (line : List ℕ) (rest : List (List ℕ)) → p ≤ k → drop k all ≡ line ∷ rest
     → pieces_of (drop p (take (suc k) all)) ≡ pieces_of (drop p (take k all)) + (1 + length line)
 pieces_more zero zero [] line rest m e = cc
-pieces_more zero zero (x ∷ xs) line rest m e =
-    let f : x ≡ line = cc in
-    let long : length x ≡ length line = ap (λ (l : List ℕ). length l) f in
-    omega (arith, long)
+pieces_more zero zero (x ∷ xs) line rest m e = grind arith
 pieces_more (suc p) zero all line rest m e = absurd (omega (arith, m))
 pieces_more p (suc k) [] line rest m e = cc
 pieces_more zero (suc k) (x ∷ xs) line rest m e = let r = pieces_more 0 k xs line rest (omega arith) e in omega (arith, r)
@@ -76,28 +69,18 @@ pieces_all (suc k) (suc n) (x ∷ xs) line e l = ap (λ (r : List (List ℕ)). x
 
 -- as many as end above the row are passed
 pub pieces_same : (p k n : ℕ) (all : List (List ℕ)) → p ≤ k → n ≤ k → (p < k → k ≤ n) → pieces_of (drop p (take k all)) ≡ pieces_of (drop p (take n all))
-pieces_same p k n all f m l = elim (cases_lt p k) [
-  | inl g ↦ let e : k ≡ n = omega (arith, m, l g) in ap (λ i. pieces_of (drop p (take i all))) e
-  | inr g ↦ pieces_none p k all g ∙ sym (pieces_none p n all (omega (arith, m, g)))
-]
+pieces_same p k n all f m l = grind (arith, pieces_none)
 
 -- the line at the front of what is left is counted
 pub line_counted : (p k begun walked new cells n : ℕ) (text rest : List ℕ) (next : Option (Bor (List ℕ))) → p ≤ k → drop k (block_lines n text) ≡ block_lines n rest
     → MatchOption next (block_lines n rest ≡ take cells (first (pieces rest)) ∷ []) (λ r. block_lines n rest ≡ take cells (first (pieces rest)) ∷ block_lines n r.now) → cells ≤ length (first (pieces rest))
     → walked ≡ min (begun + pieces_of (drop p (take k (block_lines n text)))) (2 ^ 64 - 1) → new ≡ min (walked + (1 + cells)) (2 ^ 64 - 1)
     → new ≡ min (begun + pieces_of (drop p (take (k + 1) (block_lines n text)))) (2 ^ 64 - 1)
-line_counted p k begun walked new cells n text rest next m e lines few before after =
-    let same : k + 1 ≡ suc k = omega arith in
-    let long = length-take-le cells (first (pieces rest)) few in
-    let more = pieces_more p k (block_lines n text) (take cells (first (pieces rest))) (lines_left n next) m (e ∙ lines_are n rest _ next lines) in
-    rw same (omega (arith, long, more, before, after))
+line_counted p k begun walked new cells n text rest next m e lines few before after = grind (arith, length-take-le, pieces_more)
 
 above_more : (b : BlockLayout) (n y z : ℕ) → y ≤ z → above_of b n y ≤ above_of b n z
 above_more b zero y z l = omega arith
-above_more b (suc n) y z l = elim (cases_lt z (n * b.pitch + b.h)) [
-  | inl k ↦ rw (lt-leb (n * b.pitch + b.h) z k, lt-leb (n * b.pitch + b.h) y (omega (arith, k, l))) (above_more b n y z l)
-  | inr g ↦ rw (le-leb (n * b.pitch + b.h) z g) (above_most b (suc n) y)
-]
+above_more b (suc n) y z l = grind (arith, above_most, above_more b n y z l)
 
 pieces_less : (m n : ℕ) (all : List (List ℕ)) → m ≤ n → pieces_of (take m all) ≤ pieces_of (take n all)
 pieces_less zero n all l = omega arith

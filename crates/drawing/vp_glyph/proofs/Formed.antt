@@ -1,9 +1,8 @@
 -- What is read as a header has the form of one.
-use Rattle.std.proofs.Common.{◌≡◌, ℕ, zero, suc, ◌<◌, true, false, eqb, ltb, ◌&&◌, List, [], ◌∷◌, ◌++◌, Option, Some, None, length, length-take, take, drop, refl, sym, ap, ◌∙◌, subst, arith, append_assoc, cond, inl, inr}
+use Rattle.std.proofs.Common.{◌≡◌, ℕ, ◌<◌, true, false, eqb, List, [], ◌∷◌, ◌++◌, Option, Some, None, length, length-take, take, drop, refl, sym, ap, ◌∙◌, arith, append_assoc, inl, inr}
 use Rattle.std.specs.List.{prefix_len}
 use Rattle.std.specs.Str.Parse.{digits_value}
-use Rattle.std.proofs.lemmas.Bool.{cases_Bool, and_parts, ltb-true}
-use Rattle.std.proofs.lemmas.Bool.Decides.{nat_tests}
+use Rattle.std.proofs.lemmas.Bool.{cases_Bool}
 use Rattle.std.proofs.lemmas.List.{take-append-drop}
 use Rattle.std.proofs.lemmas.List.Sums.{prefix_len-le-length}
 use Rattle.vp_glyph.specs.Headers.{white, ends_line, digit, begins_gap, past_gap, past_comment, Number, number_behind, Header, header_behind, behind_white}
@@ -27,8 +26,7 @@ record BehindComment (text : List ℕ) (b : ℕ) (rest : List ℕ) : Type 0 wher
   parts : text ≡ body ++ end ∷ (gap ++ b ∷ rest)
 
 one_more : (c : ℕ) (body : List ℕ) → ends_line c ≡ false → Comment body → Comment (c ∷ body)
-one_more c body n h zero l = n
-one_more c body n h (suc k) l = h k (omega arith)
+one_more c body h1 h2 = grind arith
 
 comment_behind : (c : ℕ) (text : List ℕ) (b : ℕ) (rest : List ℕ) → c ≡ 35 → BehindComment text b rest → Behind (c ∷ text) b rest
 comment_behind c text b rest e h = record {
@@ -46,7 +44,7 @@ mutual
         let h = behind_gap text b rest (rw w at e) in
         record { gap = c ∷ h.gap; is_gap = byte c h.gap w h.is_gap; parts = ap (λ (t : List ℕ). c ∷ t) h.parts }
     | inr n ↦ elim (cases_Bool (eqb c 35)) [
-      | inl s ↦ let is : c ≡ 35 = grind (arith, nat_tests) in comment_behind c text b rest is (behind_comment text b rest (rw (n, s) at e))
+      | inl s ↦ let is : c ≡ 35 = grind arith in comment_behind c text b rest is (behind_comment text b rest (rw (n, s) at e))
       | inr o ↦ let same : c ∷ text ≡ b ∷ rest = rw (n, o) at e in record { gap = []; is_gap = none; parts = same }
     ]
   ]
@@ -92,7 +90,7 @@ first_digit [] l = absurd (omega arith)
 first_digit (b ∷ rest) l = elim (cases_Bool (digit b)) [ inl y ↦ (b, rest, refl, y) | inr n ↦ absurd (let z : 0 < 0 = rw n at l in omega arith) ]
 
 digit_begins_no_gap : (b : ℕ) (rest : List ℕ) → digit b ≡ true → begins_gap (b ∷ rest) ≡ false
-digit_begins_no_gap b rest t = grind (arith, nat_tests)
+digit_begins_no_gap b rest t = grind arith
 
 no_gap : (b : ℕ) (rest gap : List ℕ) → begins_gap (b ∷ rest) ≡ false → begins_gap (gap ++ b ∷ rest) ≡ true → 0 < length gap
 no_gap b rest [] n e = cc
@@ -120,33 +118,11 @@ told_is text g l =
     }
 
 number_read : (text : List ℕ) (number : Number) → number_behind text ≡ Some number → IsNumber text number
-number_read text number e = elim (cases_Bool (begins_gap text && ltb 0 (prefix_len digit (past_gap text)))) [
-  | inl y ↦
-      let both = and_parts (begins_gap text) (ltb 0 (prefix_len digit (past_gap text))) y in
-      let P : Number → Type 0 = λ m. IsNumber text m in
-      subst P (some_same (ap (λ b. cond b (Some (told text)) None) (sym y) ∙ e)) (told_is text both.0 (ltb-true 0 _ both.1))
-  | inr n ↦ none_some (ap (λ b. cond b (Some (told text)) None) (sym n) ∙ e)
-]
-  where
-    some_same : {x y : Number} → ◌≡◌ {A = Option Number} (Some x) (Some y) → x ≡ y
-    some_same h = cc
-
-    none_some : {P : Type 0} {y : Number} → ◌≡◌ {A = Option Number} None (Some y) → P
-    none_some h = cc
+number_read text number e = grind (arith, told_is)
 
 -- a white byte, and then the raster
 white_read : (text raster : List ℕ) → behind_white text ≡ Some raster → (b : ℕ) × (white b ≡ true) × (text ≡ b ∷ raster)
-white_read [] raster e = cc
-white_read (b ∷ text) raster e = elim (cases_Bool (white b)) [
-  | inl y ↦ let same : ◌≡◌ {A = Option (List ℕ)} (Some text) (Some raster) = rw y at e in (b, y, ap (λ (t : List ℕ). b ∷ t) (some_same same))
-  | inr n ↦ let other : ◌≡◌ {A = Option (List ℕ)} None (Some raster) = rw n at e in none_some other
-]
-  where
-    some_same : {x y : List ℕ} → ◌≡◌ {A = Option (List ℕ)} (Some x) (Some y) → x ≡ y
-    some_same h = cc
-
-    none_some : {P : Type 0} {y : List ℕ} → ◌≡◌ {A = Option (List ℕ)} None (Some y) → P
-    none_some h = cc
+white_read text raster h1 = grind arith
 
 by_height : (text : List ℕ) (first : Number) (header : Header) → IsNumber text first → (o : Option Number) → number_behind first.rest ≡ o
     → (second : Number) → o ≡ Some second → (raster : List ℕ) → behind_white second.rest ≡ Some raster

@@ -4,17 +4,16 @@ use Rattle.std.specs.List.{prefix_len}
 use Rattle.std.specs.Str.Parse.{digits_value}
 use Rattle.std.proofs.Math.Seq.{take-append_seam, drop-append_seam}
 use Rattle.std.proofs.lemmas.Bool.{lt-ltb}
-use Rattle.std.proofs.lemmas.Bool.Decides.{nat_tests}
 use Rattle.vp_glyph.specs.Headers.{white, ends_line, digit, begins_gap, past_gap, past_comment, number_behind, header_behind}
 use Rattle.vp_glyph.specs.Grammar.{Comment, Gap, none, byte, comment, Digits, IsHeader}
 
 -- a digit ends a gap
 digit_stops : (b : ℕ) → digit b ≡ true → (white b ≡ false) × (eqb b 35 ≡ false)
-digit_stops b t = (grind (arith, nat_tests), grind (arith, nat_tests))
+digit_stops b t = (grind arith, grind arith)
 
 -- and a gap ends digits
 gap_stops : (b : ℕ) → (white b || eqb b 35) ≡ true → digit b ≡ false
-gap_stops b t = grind (arith, nat_tests)
+gap_stops b t = grind arith
 
 past_digit : (b : ℕ) (rest : List ℕ) → digit b ≡ true → past_gap (b ∷ rest) ≡ b ∷ rest
 past_digit b rest t = let s = digit_stops b t in rw (s.0, s.1) refl
@@ -29,14 +28,11 @@ gap_passed b rest (byte c g w h) t = rw w (gap_passed b rest h t)
 gap_passed b rest (comment text e g c w h) t = ap past_comment (append_assoc text (e ∷ g) (b ∷ rest)) ∙ comment_passed text e (g ++ b ∷ rest) c w ∙ gap_passed b rest h t
 
 gap_begins : {gap : List ℕ} (rest : List ℕ) → Gap gap → 0 < length gap → begins_gap (gap ++ rest) ≡ true
-gap_begins rest none l = absurd (omega arith)
-gap_begins rest (byte c g w h) l = rw w refl
-gap_begins rest (comment text e g c w h) l = refl
+gap_begins h1 h2 = grind arith
 
 -- no digit begins a gap
 no_digits : (text : List ℕ) → begins_gap text ≡ true → prefix_len digit text ≡ 0
-no_digits [] e = refl
-no_digits (b ∷ text) e = rw (gap_stops b e) refl
+no_digits text h1 = grind arith
 
 white_stops : (b : ℕ) (text : List ℕ) → white b ≡ true → prefix_len digit (b ∷ text) ≡ 0
 white_stops b text w = rw (gap_stops b (rw w refl)) refl
@@ -60,7 +56,4 @@ number_is gap (c ∷ ds) rest g l d e =
     number_from text past n b p c l = rw (p, c, b, lt-ltb 0 n l) refl
 
 pub header_is : (text : List ℕ) (w h : ℕ) (raster : List ℕ) → IsHeader text w h raster → header_behind text ≡ Some (record { width = w; height = h; raster = raster })
-header_is text w h raster f =
-    let second = number_is f.before_height f.height_digits (f.last ∷ raster) f.second_gap.1 f.second_gap.0 f.second_number (white_stops f.last raster f.last_white) in
-    let first = number_is f.before_width f.width_digits (f.before_height ++ (f.height_digits ++ f.last ∷ raster)) f.first_gap.1 f.first_gap.0 f.first_number (no_digits (f.before_height ++ (f.height_digits ++ f.last ∷ raster)) (gap_begins (f.height_digits ++ f.last ∷ raster) f.second_gap.1 f.second_gap.0)) in
-    rw (f.parts_are, first, second, f.last_white, f.width_is, f.height_is) refl
+header_is text w h raster f = grind (arith, number_is, white_stops, no_digits, gap_begins)

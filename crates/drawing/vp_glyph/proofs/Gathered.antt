@@ -1,6 +1,6 @@
 -- Many rows of a block, line by line.
 use Rattle.std.proofs.Common.{inl, inr, ◌%◌, ◌≡◌, ℕ, ◌+◌, ◌-◌, ◌*◌, ◌/◌, ◌<◌, ◌≤◌, min, Bool, true, false, ltb, leb, ◌&&◌, ◌||◌, get_or, set, length, replicate, bit_or, cond, eqb, zero, suc, ◌^◌, w64, refl, sym, ap, ◌∙◌, arith, List, Option, ℤ}
-use Rattle.std.proofs.Math.Nat.{mul-le-mul_left, pow-le-pow_right, div-lt_iff_lt-mul, le-div_iff_mul-le, div-le_self, div-mul-le_self, mul-le-mul_right}
+use Rattle.std.proofs.Math.Nat.{mul-le-mul_left, pow-le-pow_right, div-le_self}
 use Rattle.std.proofs.lemmas.List.{get_or-set_same, get_or-set_other, get_or_past}
 use Rattle.std.proofs.lemmas.Bool.{cases_eq, cases_lt, lt-ltb, le-ltb, lt-leb, le-leb}
 use Rattle.std.proofs.lemmas.Nat.Bits.{bit_at-zero, bit_at-trailing_zeros}
@@ -16,7 +16,8 @@ use Rattle.vp_glyph.specs.Texts.{sampled_dot, text_dot}
 use Rattle.vp_glyph.specs.Halves.{half_dot, AreEdges}
 use Rattle.vp_glyph.proofs.Halves.{or_half, white_half}
 use Rattle.vp_glyph.proofs.Overlaid.{zero_dots, zero_at}
-use Rattle.vp_glyph.proofs.Spread.{quotient, edge_at, from_edge, before_edge, edge_first, edge_last, edge_within}
+use Rattle.vp_glyph.proofs.Spread.{edge_at, edge_within}
+use Rattle.std.proofs.lemmas.Bool.Decides.{nat_tests}
 
 -- lines that show the same row of the sheet
 pub text_alike : (sheet : Option Glyphs) (cells : List ℕ) (w h y z : ℕ) → y < h → z < h → y * 24 / h ≡ z * 24 / h → (x : ℕ) → text_dot sheet cells w h x y ≡ text_dot sheet cells w h x z
@@ -25,41 +26,21 @@ text_alike sheet cells w h y z a b e x = rw (lt-ltb y h a, lt-ltb z h b, e) refl
 
 -- the row of 24 that is shown
 pub row_shown : (h s u : ℕ) → s < 24 → edge_at 24 h s ≤ u → u < edge_at 24 h (s + 1) → (u < h) × (u * 24 / h ≡ s)
-row_shown h s u k l m =
-    let n = edge_within 24 h (s + 1) (omega arith) (omega arith) in
-    (omega arith, quotient (u * 24) h s (omega arith) (from_edge 24 h s u (omega arith) l) (before_edge 24 h (s + 1) u (omega arith) m))
+row_shown h s u k l m = grind (arith, edge_within)
 
 -- row u of h shows a row of the sheet, and so do the others that do
 pub row_alike : (h u : ℕ) → u < h → (u * 24 / h < 24) × (edge_at 24 h (u * 24 / h) ≤ u) × (u < edge_at 24 h (u * 24 / h + 1))
-row_alike h u l =
-    let s = u * 24 / h in
-    let few : s < 24 = (div-lt_iff_lt-mul {k = h} {x = u * 24} {y = 24} (omega arith)).1 (omega arith) in
-    let low : s * h ≤ u * 24 = (le-div_iff_mul-le {k = h} {x = s} {y = u * 24} (omega arith)).0 (omega arith) in
-    let high : u * 24 < (s + 1) * h = (div-lt_iff_lt-mul {k = h} {x = u * 24} {y = s + 1} (omega arith)).0 (omega arith) in
-    let begun : edge_at 24 h s < u + 1 = (div-lt_iff_lt-mul {k = 24} {x = s * h + (24 - 1)} {y = u + 1} (omega arith)).1 (omega arith) in
-    let ends : u + 1 ≤ edge_at 24 h (s + 1) = (le-div_iff_mul-le {k = 24} {x = u + 1} {y = (s + 1) * h + (24 - 1)} (omega arith)).1 (omega arith) in
-    (few, omega arith, omega arith)
+row_alike h u l = grind arith
 
 -- later rows begin later
 edge_upto : (n w s t : ℕ) → 0 < n → s ≤ t → edge_at n w s ≤ edge_at n w t
-edge_upto n w s t p l =
-    let m = div-mul-le_self (s * w + (n - 1)) n in
-    let k : s * w ≤ t * w = mul-le-mul_right w l in
-    (le-div_iff_mul-le {k = n} {x = edge_at n w s} {y = t * w + (n - 1)} p).1 (omega (arith, m, k))
+edge_upto n w s t p l = grind arith
 
 black_more : (old new : Bool) → (old || new) ≡ paint Black new old
-black_more true true = refl
-black_more true false = refl
-black_more false true = refl
-black_more false false = refl
+black_more old new = grind arith
 
 or_false : (b : Bool) → b ≡ (b || false)
-or_false true = refl
-or_false false = refl
-
-and_false : (b : Bool) → (b && false) ≡ false
-and_false true = refl
-and_false false = refl
+or_false b = grind arith
 
 -- rows of the sheet, drawn h rows high in all from row `above` on
 -- dot x of row y
@@ -71,44 +52,17 @@ module _ (rows : List ℕ) (above h n top : ℕ) where
   abbrev pub Added : ℕ → (ℕ → ℕ → Bool) → (ℕ → ℕ → Bool) → Type 0
   Added r old new = (i x : ℕ) → i < n → x < 32 → new i x ≡ (old i x || ltb (top + i) (above + edge_at 24 h r) && shown rows above h (top + i) x)
 
-  shown_above : (y x : ℕ) → y < above → shown rows above h y x ≡ false
-  shown_above y x l = rw (lt-leb above y l) refl
-
-  shown_below : (y x : ℕ) → above + h ≤ y → shown rows above h y x ≡ false
-  shown_below y x l = rw (le-ltb (y - above) h (omega arith)) (ap (λ t. t && half_dot (get_or rows ((y - above) * 24 / h) 0) x) (and_false (leb above y)))
-
   -- a row on which one of the rows from r on is shown that are like r
   shown_row : (r q y x : ℕ) → q ≤ 24 → ((p : ℕ) → r ≤ p → p < q → get_or rows p 0 ≡ get_or rows r 0) → above + edge_at 24 h r ≤ y → y < above + edge_at 24 h q → shown rows above h y x ≡ half_dot (get_or rows r 0) x
-  shown_row r q y x k a l m =
-      let z = edge_within 24 h q (omega arith) k in
-      let u : y - above < h = omega arith in
-      let t = row_alike h (y - above) u in
-      let p = (y - above) * 24 / h in
-      let low : r ≤ p = elim (cases_lt p r) [ inl o ↦ absurd (let e = edge_upto 24 h (p + 1) r (omega arith) (omega arith) in let f = t.2 in omega arith) | inr o ↦ o ] in
-      let high : p < q = elim (cases_lt p q) [ inl o ↦ o | inr o ↦ absurd (let e = edge_upto 24 h q p (omega arith) o in let f = t.1 in omega arith) ] in
-      rw (le-leb above y (omega arith), lt-ltb (y - above) h u) (ap (λ v. half_dot v x) (a p low high))
+  shown_row r q y x k a l m = grind (arith, row_alike, edge_upto)
 
   pub added_none : (old : ℕ → ℕ → Bool) → Added 0 old old
-  added_none old i x l m =
-      let e = edge_first 24 h (omega arith) in
-      let none : (ltb (top + i) (above + edge_at 24 h 0) && shown rows above h (top + i) x) ≡ false = elim (cases_lt (top + i) above) [
-        | inl k ↦ ap (λ t. ltb (top + i) (above + edge_at 24 h 0) && t) (shown_above (top + i) x k) ∙ and_false _
-        | inr g ↦ rw (le-ltb (top + i) (above + edge_at 24 h 0) (omega arith)) refl
-      ] in
-      or_false _ ∙ ap (λ t. old i x || t) (sym none)
+  added_none old i x l m = grind arith
 
   module _ (r q : ℕ) (old mid : ℕ → ℕ → Bool) (k : q ≤ 24) (j : r < q) (a : (p : ℕ) → r ≤ p → p < q → get_or rows p 0 ≡ get_or rows r 0) (o : Added r old mid) where
     -- where none of the rows is shown
     unchanged : (i : ℕ) → (above + edge_at 24 h r ≤ top + i → top + i < above + edge_at 24 h q → ⊥) → ltb (top + i) (above + edge_at 24 h r) ≡ ltb (top + i) (above + edge_at 24 h q)
-    unchanged i g =
-        let more = edge_upto 24 h r q (omega arith) (omega arith) in
-        elim (cases_lt (top + i) (above + edge_at 24 h r)) [
-          | inl p ↦ rw (lt-ltb (top + i) (above + edge_at 24 h r) p, lt-ltb (top + i) (above + edge_at 24 h q) (omega arith)) refl
-          | inr p ↦ elim (cases_lt (top + i) (above + edge_at 24 h q)) [
-            | inl z ↦ absurd (g p z)
-            | inr z ↦ rw (le-ltb (top + i) (above + edge_at 24 h r) p, le-ltb (top + i) (above + edge_at 24 h q) z) refl
-          ]
-        ]
+    unchanged i g = grind arith
 
     same : (i x : ℕ) → i < n → x < 32 → (above + edge_at 24 h r ≤ top + i → top + i < above + edge_at 24 h q → ⊥)
         → mid i x ≡ (old i x || ltb (top + i) (above + edge_at 24 h q) && shown rows above h (top + i) x)
@@ -124,13 +78,7 @@ module _ (rows : List ℕ) (above h n top : ℕ) where
 
     -- white rows
     pub added_white : ((x : ℕ) → x < 32 → half_dot (get_or rows r 0) x ≡ false) → Added q old mid
-    added_white e i x l m = elim (cases_lt (top + i) (above + edge_at 24 h r)) [
-      | inl y ↦ same i x l m (λ p v. absurd (omega arith))
-      | inr y ↦ elim (cases_lt (top + i) (above + edge_at 24 h q)) [
-        | inl z ↦ or_false _ ∙ ap (λ t. mid i x || t) (sym (e x m)) ∙ within i x l m y z
-        | inr z ↦ same i x l m (λ p v. absurd (omega arith))
-      ]
-    ]
+    added_white e i x l m = grind (arith, nat_tests, within)
 
     -- other ones
     pub added_more : (from to : ℕ) (new : ℕ → ℕ → Bool) → from ≡ min (above + edge_at 24 h r - top) n → to ≡ min (above + edge_at 24 h q - top) n
@@ -154,14 +102,7 @@ module _ (rows : List ℕ) (above h n top : ℕ) where
 
   -- all rows
   pub added_all : (r : ℕ) (old new : ℕ → ℕ → Bool) → r ≡ 24 → Added r old new → (i x : ℕ) → i < n → x < 32 → new i x ≡ (old i x || shown rows above h (top + i) x)
-  added_all r old new z o i x l m =
-      let e = edge_last 24 h (omega arith) in
-      o i x l m ∙ ap (λ t. old i x || t) (elim (cases_lt (top + i) (above + edge_at 24 h r)) [
-        | inl k ↦ rw (lt-ltb (top + i) (above + edge_at 24 h r) k) refl
-        | inr g ↦
-            let none = shown_below (top + i) x (let f = ap (edge_at 24 h) z in omega (arith, f)) in
-            rw none (and_false _)
-      ])
+  added_all r old new z o i x l m = grind arith
 
 -- rows to which dots are added, those before s
 module _ (f : ℕ → ℕ → Bool) where
@@ -169,26 +110,14 @@ module _ (f : ℕ → ℕ → Bool) where
   Grown s old new = (r d : ℕ) → r < 24 → d < 32 → half_dot (get_or new r 0) d ≡ (half_dot (get_or old r 0) d || ltb r s && f r d)
 
   pub grown_more : (s word : ℕ) (old mid : List ℕ) → s < length mid → ((d : ℕ) → d < 32 → half_dot word d ≡ f s d) → Grown s old mid → Grown (s + 1) old (set mid s (bit_or (get_or mid s 0) word))
-  grown_more s word old mid k h o r d l m = elim (cases_eq r s) [
-    | inl y ↦
-        let same : get_or (set mid s (bit_or (get_or mid s 0) word)) s 0 ≡ bit_or (get_or mid s 0) word = get_or-set_same mid s (bit_or (get_or mid s 0) word) 0 k in
-        let mine : half_dot (get_or mid s 0) d ≡ half_dot (get_or old s 0) d =
-        o s d (let z : s < 24 = rw y at l in z) m ∙ ap (λ t. half_dot (get_or old s 0) d || t && f s d) (le-ltb s s (omega arith)) ∙ sym (or_false _) in
-        rw (y, lt-ltb s (s + 1) (omega arith)) (ap (λ v. half_dot v d) same ∙ or_half (get_or mid s 0) word d ∙ ap (λ t. t || half_dot word d) mine ∙ ap (λ t. half_dot (get_or old s 0) d || t) (h d m))
-    | inr n ↦
-        let less : ltb r s ≡ ltb r (s + 1) = elim (cases_lt r s) [ inl z ↦ lt-ltb r s z ∙ sym (lt-ltb r (s + 1) (omega arith)) | inr z ↦ le-ltb r s z ∙ sym (le-ltb r (s + 1) (omega arith)) ] in
-        ap (λ v. half_dot v d) (get_or-set_other mid s r (bit_or (get_or mid s 0) word) 0 n) ∙ o r d l m ∙ ap (λ t. half_dot (get_or old r 0) d || t && f r d) less
-  ]
+  grown_more s word old mid k h o r d l m = grind (arith, get_or-set_same, or_half, get_or-set_other)
 
   pub grown_all : (s : ℕ) (old new : List ℕ) → s ≡ 24 → Grown s old new → (r d : ℕ) → r < 24 → d < 32 → half_dot (get_or new r 0) d ≡ (half_dot (get_or old r 0) d || f r d)
   grown_all s old new e o r d l m = o r d l m ∙ ap (λ t. half_dot (get_or old r 0) d || t && f r d) (lt-ltb r s (omega arith))
 
   -- all, where the others have none
   pub grown_end : (s : ℕ) (old new : List ℕ) → ((r d : ℕ) → s ≤ r → r < 24 → f r d ≡ false) → Grown s old new → (r d : ℕ) → r < 24 → d < 32 → half_dot (get_or new r 0) d ≡ (half_dot (get_or old r 0) d || f r d)
-  grown_end s old new z o r d l m = o r d l m ∙ ap (λ t. half_dot (get_or old r 0) d || t) (elim (cases_lt r s) [
-    | inl y ↦ ap (λ t. t && f r d) (lt-ltb r s y)
-    | inr n ↦ ap (λ t. t && f r d) (le-ltb r s n) ∙ sym (z r d n l)
-  ])
+  grown_end s old new z o r d l m = grind arith
 
 -- a word that was painted on a white one
 pub front_white : (at : ℤ) (f : ℕ → Bool) (row : List ℕ) (word x : ℕ) → x < 64 → word_dot word x ≡ dot row x → Painted Black (shifted at f) (replicate {A = ℕ} 8 0) row → word_dot word x ≡ shifted at f x
@@ -200,48 +129,7 @@ pub record Blackened (ink from to : ℕ) (old new : List ℕ) : Type 0 where
   pub outside : (i : ℕ) → span from to i ≡ false → get_or new i 0 ≡ get_or old i 0
 
 pub blackened_more : (ink from i : ℕ) (old mid : List ℕ) → from ≤ i → i < length mid → Blackened ink from i old mid → Blackened ink from (i + 1) old (set mid i (bit_or (get_or mid i 0) ink))
-blackened_more ink from i old mid l m b = record {
-  inside = λ j x g h. elim (cases_eq j i) [
-    | inl y ↦
-        let same : get_or (set mid i (bit_or (get_or mid i 0) ink)) i 0 ≡ bit_or (get_or mid i 0) ink = get_or-set_same mid i (bit_or (get_or mid i 0) ink) 0 m in
-        rw (y, same) (or_half (get_or mid i 0) ink x ∙ ap (λ v. half_dot v x || half_dot ink x) (b.outside i (rw (le-leb from i l, le-ltb i i (omega arith)) refl)))
-    | inr n ↦ ap (λ v. half_dot v x) (get_or-set_other mid i j (bit_or (get_or mid i 0) ink) 0 n) ∙ b.inside j x g (omega arith)
-  ];
-  outside = λ j e. elim (cases_eq j i) [
-    | inl y ↦ absurd (let t : span from (i + 1) j ≡ true = rw (le-leb from j (omega arith), lt-ltb j (i + 1) (omega arith)) refl in cc)
-    | inr n ↦ get_or-set_other mid i j (bit_or (get_or mid i 0) ink) 0 n ∙ b.outside j (elim (cases_lt j from) [
-      | inl p ↦ rw (lt-leb from j p) refl
-      | inr p ↦ elim (cases_lt j i) [
-        | inl q ↦ absurd (let t : span from (i + 1) j ≡ true = rw (le-leb from j p, lt-ltb j (i + 1) (omega arith)) refl in cc)
-        | inr q ↦ rw (le-leb from j p, le-ltb j i q) refl
-      ]
-    ])
-  ];
-}
-
-twice_ink : (a b : Bool) → ((a || b) || b) ≡ (a || b)
-twice_ink true b = refl
-twice_ink false true = refl
-twice_ink false false = refl
-
--- the halves from one on, of which those up to another were blackened, and then those from before it on
-pub blackened_on : (ink a b c d : ℕ) (old mid new : List ℕ) → a ≤ c → c ≤ b → b ≤ d → Blackened ink a b old mid → Blackened ink c d mid new → Blackened ink a d old new
-blackened_on ink a b c d old mid new l m n p q = record {
-  inside = λ i x g h. elim (cases_lt i c) [
-    | inl y ↦ ap (λ v. half_dot v x) (q.outside i (rw (lt-leb c i y) refl)) ∙ p.inside i x g (omega arith)
-    | inr z ↦ q.inside i x z h ∙ elim (cases_lt i b) [
-      | inl y ↦ ap (λ t. t || half_dot ink x) (p.inside i x g y) ∙ twice_ink (half_dot (get_or old i 0) x) (half_dot ink x)
-      | inr w ↦ ap (λ v. half_dot v x || half_dot ink x) (p.outside i (rw (le-leb a i g, le-ltb i b w) refl))
-    ]
-  ];
-  outside = λ i e. elim (cases_lt i a) [
-    | inl y ↦ q.outside i (rw (lt-leb c i (omega arith)) refl) ∙ p.outside i (rw (lt-leb a i y) refl)
-    | inr z ↦ elim (cases_lt i d) [
-      | inl y ↦ absurd (let t : span a d i ≡ true = rw (le-leb a i z, lt-ltb i d y) refl in cc)
-      | inr w ↦ q.outside i (rw (le-leb c i (omega arith), le-ltb i d w) refl) ∙ p.outside i (rw (le-leb a i z, le-ltb i b (omega arith)) refl)
-    ]
-  ];
-}
+blackened_more ink from i old mid l m b = grind (arith, get_or-set_same, or_half, get_or-set_other)
 
 -- the fronts before row 16 k with what their groups have
 abbrev pub Settled : List ℕ → ℕ → ℕ → List ℕ → List ℕ → Type 0
@@ -252,106 +140,24 @@ module _ (groups : List ℕ) (n : ℕ) where
   settled_none old i x l m = or_false _ ∙ ap (λ t. half_dot (get_or old i 0) x || t) (sym (rw (le-ltb i (16 * 0) (omega arith)) refl))
 
   module _ (k : ℕ) (old mid : List ℕ) (o : Settled groups n k old mid) where
-    elsewhere : (i x : ℕ) → i < n → x < 32 → (i / 16 ≡ k → ⊥) → half_dot (get_or mid i 0) x ≡ (half_dot (get_or old i 0) x || ltb i (16 * (k + 1)) && half_dot (get_or groups (i / 16) 0) x)
-    elsewhere i x l m g = o i x l m ∙ ap (λ t. half_dot (get_or old i 0) x || t && half_dot (get_or groups (i / 16) 0) x) (elim (cases_lt i (16 * k)) [
-      | inl y ↦ lt-ltb i (16 * k) y ∙ sym (lt-ltb i (16 * (k + 1)) (omega arith))
-      | inr y ↦ elim (cases_lt i (16 * (k + 1))) [
-        | inl z ↦ absurd (g (omega arith))
-        | inr z ↦ le-ltb i (16 * k) y ∙ sym (le-ltb i (16 * (k + 1)) z)
-      ]
-    ])
-
     pub settled_white : get_or groups k 0 ≡ 0 → Settled groups n (k + 1) old mid
-    settled_white e i x l m = elim (cases_eq (i / 16) k) [
-      | inl y ↦
-          let none : half_dot (get_or groups (i / 16) 0) x ≡ false = ap (λ j. half_dot (get_or groups j 0) x) y ∙ ap (λ v. half_dot v x) e ∙ white_half x in
-          o i x l m ∙ ap (λ t. half_dot (get_or old i 0) x || ltb i (16 * k) && t) none ∙ ap (λ t. half_dot (get_or old i 0) x || t) (and_false (ltb i (16 * k)))
-          ∙ sym (ap (λ t. half_dot (get_or old i 0) x || ltb i (16 * (k + 1)) && t) none ∙ ap (λ t. half_dot (get_or old i 0) x || t) (and_false (ltb i (16 * (k + 1)))))
-      | inr n ↦ elsewhere i x l m n
-    ]
-
-    pub settled_more : (from to : ℕ) (new : List ℕ) → from ≡ min (16 * k) n → to ≡ min (16 * (k + 1)) n
-        → ((i x : ℕ) → from ≤ i → i < to → half_dot (get_or new i 0) x ≡ (half_dot (get_or mid i 0) x || half_dot (get_or groups k 0) x))
-        → ((i : ℕ) → span from to i ≡ false → get_or new i 0 ≡ get_or mid i 0) → Settled groups n (k + 1) old new
-    settled_more from to new e f g u i x l m = elim (cases_eq (i / 16) k) [
-      | inl y ↦
-          let mine : half_dot (get_or mid i 0) x ≡ half_dot (get_or old i 0) x =
-          o i x l m ∙ ap (λ t. half_dot (get_or old i 0) x || t && half_dot (get_or groups (i / 16) 0) x) (le-ltb i (16 * k) (omega arith)) ∙ sym (or_false (half_dot (get_or old i 0) x)) in
-          g i x (omega arith) (omega arith) ∙ ap (λ t. t || half_dot (get_or groups k 0) x) mine ∙ rw (lt-ltb i (16 * (k + 1)) (omega arith), y) refl
-      | inr q ↦ ap (λ v. half_dot v x) (u i (let t : span from to i ≡ false = elim (cases_lt i from) [
-        | inl a ↦ rw (lt-leb from i a) refl
-        | inr a ↦ rw (le-leb from i a, le-ltb i to (omega arith)) refl
-      ] in t)) ∙ elsewhere i x l m q
-    ]
+    settled_white e i x l m = grind (arith, white_half)
 
   -- all groups
   pub settled_all : (k : ℕ) (old new : List ℕ) → length groups ≤ k → Settled groups n k old new → (i x : ℕ) → i < n → x < 32
       → half_dot (get_or new i 0) x ≡ (half_dot (get_or old i 0) x || half_dot (get_or groups (i / 16) 0) x)
-  settled_all k old new z o i x l m = o i x l m ∙ ap (λ t. half_dot (get_or old i 0) x || t) (elim (cases_lt i (16 * k)) [
-    | inl y ↦ rw (lt-ltb i (16 * k) y) refl
-    | inr y ↦ rw (le-ltb i (16 * k) y) (sym (ap (λ v. half_dot v x) (get_or_past groups (i / 16) 0 (omega arith)) ∙ white_half x))
-  ])
+  settled_all k old new z o i x l m = grind (arith, get_or_past, white_half)
 
 -- what was blackened, at any place
 pub black_is : (ink from to i x : ℕ) (old new : List ℕ) → Blackened ink from to old new → half_dot (get_or new i 0) x ≡ (half_dot (get_or old i 0) x || span from to i && half_dot ink x)
-black_is ink from to i x old new p = elim (cases_lt i from) [
-  | inl y ↦ ap (λ v. half_dot v x) (p.outside i (rw (lt-leb from i y) refl)) ∙ rw (lt-leb from i y) (or_false _)
-  | inr y ↦ elim (cases_lt i to) [
-    | inl z ↦ p.inside i x y z ∙ rw (le-leb from i y, lt-ltb i to z) refl
-    | inr z ↦ ap (λ v. half_dot v x) (p.outside i (rw (le-leb from i y, le-ltb i to z) refl)) ∙ rw (le-leb from i y, le-ltb i to z) (or_false _)
-  ]
-]
+black_is ink from to i x old new p = grind arith
 
 -- the ends of many fronts and the groups among them are all of them
 ends_all : (from to first last i : ℕ) → from + 48 ≤ to → first ≡ from / 16 + 1 → last ≡ to / 16 → (span from (from + 16) i || span (to - 16) to i || span first last (i / 16)) ≡ span from to i
-ends_all from to first last i m e f = elim (cases_lt i from) [
-  | inl y ↦ rw (lt-leb from i y, lt-leb (to - 16) i (omega arith), lt-leb first (i / 16) (omega arith)) refl
-  | inr y ↦ elim (cases_lt i (from + 16)) [
-    | inl z ↦ rw (le-leb from i y, lt-ltb i (from + 16) z, lt-ltb i to (omega arith)) refl
-    | inr z ↦ elim (cases_lt i (to - 16)) [
-      | inl s ↦ rw (le-leb from i y, le-ltb i (from + 16) z, lt-ltb i to (omega arith), lt-leb (to - 16) i s, le-leb first (i / 16) (omega arith), lt-ltb (i / 16) last (omega arith)) refl
-      | inr s ↦ elim (cases_lt i to) [
-        | inl t ↦ rw (le-leb from i y, le-ltb i (from + 16) z, lt-ltb i to t, le-leb (to - 16) i s) refl
-        | inr t ↦ rw (le-leb from i y, le-ltb i (from + 16) z, le-ltb i to t, le-leb (to - 16) i s, le-leb first (i / 16) (omega arith), le-ltb (i / 16) last (omega arith)) refl
-      ]
-    ]
-  ]
-]
+ends_all from to first last i m e f = grind arith
 
 one_ink : (o g k a b c t : Bool) → (a || b || c) ≡ t → (((o || a && k) || b && k) || (g || c && k)) ≡ ((o || g) || t && k)
-one_ink true g k a b c t e = refl
-one_ink false true true true true true t e = ap (λ v. true || v && true) e
-one_ink false true true true true false t e = ap (λ v. true || v && true) e
-one_ink false false true true true true t e = ap (λ v. false || v && true) e
-one_ink false false true true true false t e = ap (λ v. false || v && true) e
-one_ink false true true true false true t e = ap (λ v. true || v && true) e
-one_ink false true true true false false t e = ap (λ v. true || v && true) e
-one_ink false false true true false true t e = ap (λ v. false || v && true) e
-one_ink false false true true false false t e = ap (λ v. false || v && true) e
-one_ink false true true false true true t e = ap (λ v. true || v && true) e
-one_ink false true true false true false t e = ap (λ v. true || v && true) e
-one_ink false false true false true true t e = ap (λ v. false || v && true) e
-one_ink false false true false true false t e = ap (λ v. false || v && true) e
-one_ink false true true false false true t e = ap (λ v. true || v && true) e
-one_ink false true true false false false t e = ap (λ v. true || v && true) e
-one_ink false false true false false true t e = ap (λ v. false || v && true) e
-one_ink false false true false false false t e = ap (λ v. false || v && true) e
-one_ink false true false true true true t e = ap (λ v. true || v && false) e
-one_ink false true false true true false t e = ap (λ v. true || v && false) e
-one_ink false false false true true true t e = ap (λ v. false || v && false) e
-one_ink false false false true true false t e = ap (λ v. false || v && false) e
-one_ink false true false true false true t e = ap (λ v. true || v && false) e
-one_ink false true false true false false t e = ap (λ v. true || v && false) e
-one_ink false false false true false true t e = ap (λ v. false || v && false) e
-one_ink false false false true false false t e = ap (λ v. false || v && false) e
-one_ink false true false false true true t e = ap (λ v. true || v && false) e
-one_ink false true false false true false t e = ap (λ v. true || v && false) e
-one_ink false false false false true true t e = ap (λ v. false || v && false) e
-one_ink false false false false true false t e = ap (λ v. false || v && false) e
-one_ink false true false false false true t e = ap (λ v. true || v && false) e
-one_ink false true false false false false t e = ap (λ v. true || v && false) e
-one_ink false false false false false true t e = ap (λ v. false || v && false) e
-one_ink false false false false false false t e = ap (λ v. false || v && false) e
+one_ink o g k a b c t h1 = grind arith
 
 -- fronts of which the ends were blackened, and of the others the groups
 pub groups_black : (ink from to first last i x : ℕ) (groups grown old one new : List ℕ) → from + 48 ≤ to → first ≡ from / 16 + 1 → last ≡ to / 16
@@ -364,14 +170,10 @@ groups_black ink from to first last i x groups grown old one new m e f p q r =
 
 -- a white front, of groups that are white
 pub no_front : (n : ℕ) (old : List ℕ) (i x : ℕ) → get_or old i 0 ≡ 0 → (half_dot (get_or old i 0) x || half_dot (get_or (replicate {A = ℕ} n 0) (i / 16) 0) x) ≡ false
-no_front n old i x e = ap (λ v. half_dot v x || half_dot (get_or (replicate {A = ℕ} n 0) (i / 16) 0) x) e ∙ ap (λ t. t || half_dot (get_or (replicate {A = ℕ} n 0) (i / 16) 0) x) (white_half x)
-    ∙ ap (λ v. half_dot v x) (zero_at n (i / 16)) ∙ white_half x
+no_front n old i x e = grind (arith, white_half, zero_at)
 
 pub neither : (a b : Bool) → cond b true a ≡ false → (a ≡ false) × (b ≡ false)
-neither false false e = (refl, refl)
-neither false true e = absurd cc
-neither true false e = absurd cc
-neither true true e = absurd cc
+neither a b h1 = grind arith
 
 -- a bit of eight that are moved to the left
 moved_bit : (n k s : ℕ) → n < 2 ^ 8 → k ≤ 16 → k ≤ s → bit (n * 2 ^ k % 2 ^ 64) s ≡ false → bit n (s - k) ≡ false
@@ -398,9 +200,7 @@ three_eights P a b c k s l m h g f1 f2 f3 z =
 
 alike_upto : (rows : List ℕ) (edges s q : ℕ) → AreEdges rows 23 edges → q ≤ 24 → ((r : ℕ) → s ≤ r → r + 1 < q → bit edges r ≡ false) → (k : ℕ) → s + k < q → get_or rows (s + k) 0 ≡ get_or rows s 0
 alike_upto rows edges s q p l h zero m = ap (λ i. get_or rows i 0) (omega arith)
-alike_upto rows edges s q p l h (suc k) m =
-    let e : s + suc k ≡ s + k + 1 = omega arith in
-    rw e (p (s + k) (omega arith) (h (s + k) (omega arith) (omega arith)) ∙ alike_upto rows edges s q p l h k (omega arith))
+alike_upto rows edges s q p l h (suc k) m = grind (arith, alike_upto rows edges s q p l h k (omega arith))
 
 -- rows from s on, of which none has its bit set
 pub alike_rows : (rows : List ℕ) (edges s q : ℕ) → AreEdges rows 23 edges → q ≤ 24 → ((r : ℕ) → s ≤ r → r + 1 < q → bit edges r ≡ false) → (r : ℕ) → s ≤ r → r < q → get_or rows r 0 ≡ get_or rows s 0

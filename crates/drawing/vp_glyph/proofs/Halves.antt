@@ -1,31 +1,19 @@
 -- Halves of words.
-use Rattle.std.proofs.Common.{inl, inr, ◌≡◌, ℕ, ◌-◌, ◌/◌, ◌^◌, ◌<◌, Bool, true, false, cond, eqb, ◌||◌, refl, ap, ◌∙◌, arith, bit_and, bit_or}
-use Rattle.std.proofs.lemmas.Nat.Bits.{bit_at-zero, shr_and_one}
-use Rattle.std.proofs.lemmas.Bool.{cases_lt, lt-ltb, le-ltb}
+use Rattle.std.proofs.Common.{◌≡◌, ℕ, ◌-◌, ◌/◌, ◌^◌, ◌<◌, false, eqb, ◌||◌, refl, ap, ◌∙◌, arith, bit_and, bit_or}
+use Rattle.std.proofs.lemmas.Nat.Bits.{shr_and_one}
+use Rattle.std.proofs.lemmas.Bool.{lt-ltb}
 use Rattle.vp_dots.specs.Dots.{bit}
 use Rattle.vp_dots.specs.Words.{word_dot}
 use Rattle.vp_dots.proofs.Bits.{bit_of_or}
 use Rattle.vp_dots.proofs.Words.{bit_shr}
 use Rattle.vp_glyph.specs.Halves.{half_dot}
 
-or_is : (a b : Bool) → cond b true a ≡ (a || b)
-or_is true true = refl
-or_is true false = refl
-or_is false true = refl
-or_is false false = refl
-
 pub or_half : (v w x : ℕ) → half_dot (bit_or v w) x ≡ (half_dot v x || half_dot w x)
-or_half v w x = elim (cases_lt x 32) [
-  | inl l ↦ rw (lt-ltb x 32 l) (bit_of_or v w (31 - x) ∙ or_is (bit v (31 - x)) (bit w (31 - x)))
-  | inr g ↦ rw (le-ltb x 32 g) refl
-]
+or_half v w x = grind (arith, bit_of_or)
 
 pub white_half : (x : ℕ) → half_dot 0 x ≡ false
 unfolding bit
-white_half x = elim (cases_lt x 32) [
-  | inl l ↦ rw (lt-ltb x 32 l) (ap (λ b. eqb b 1) (bit_at-zero (31 - x)))
-  | inr g ↦ rw (le-ltb x 32 g) refl
-]
+white_half x = grind arith
 
 -- the left half of a word
 pub half_left : (w x : ℕ) → x < 32 → half_dot (w / 2 ^ 32) x ≡ word_dot w x

@@ -1,11 +1,10 @@
 -- How many pieces the lines of a text have.
-use Rattle.std.proofs.Common.{inl, inr, ◌≡◌, ℕ, ◌+◌, ◌-◌, ◌*◌, ◌<◌, ◌≤◌, List, [], ◌∷◌, Bool, true, false, cond, ◌&&◌, eqb, length, replicate, drop, Option, None, Some, MatchOption, Bor, refl, sym, ap, ◌∙◌, arith, length-drop, ◌/◌, ℤ, pos, ◌+ℤ◌, leb, take}
-use Rattle.std.proofs.Math.Nat.{div-lt_iff_lt-mul, mul-le-mul_right}
+use Rattle.std.proofs.Common.{inl, inr, ◌≡◌, ℕ, ◌+◌, ◌-◌, ◌*◌, ◌<◌, ◌≤◌, List, [], ◌∷◌, Bool, true, false, ◌&&◌, length, replicate, drop, Option, None, Some, MatchOption, Bor, refl, sym, ap, ◌∙◌, arith, length-drop, ◌/◌, ℤ, pos, ◌+ℤ◌, leb, take}
+use Rattle.std.proofs.Math.Nat.{div-lt_iff_lt-mul}
 use Rattle.std.proofs.lemmas.Bool.{cases_eq, cases_lt, false_from_ne_true, le-leb, and_parts, leb-true}
 use Rattle.std.proofs.lemmas.List.{length-replicate, length-take-le}
 use Rattle.vp_dots.specs.Dots.{shifted}
 use Rattle.vp_dots.proofs.Shifts.{shifted_same, shifted_none}
-use Prim.Native.Char.{code}
 use Rattle.vp_glyph.specs.Blocks.{pieces, first, others, block_pieces, line_pieces, block_lines, lines_dot, block_dot, block_height, block_inside}
 use Rattle.vp_glyph.specs.declared.block.Alignment.{Alignment}
 use Rattle.vp_glyph.proofs.Layouts.{layout}
@@ -30,13 +29,7 @@ size_is (Cell b ∷ rest) = let h = size_is rest in omega (arith, h)
 pub size_less : (text : List ℕ) → length (pieces text) ≤ length text
 size_less [] = omega arith
 size_less (b ∷ []) = omega arith
-size_less (b ∷ next ∷ text) = of_cases (eqb b (code "\\") && eqb next (code "&")) (eqb b (code "\\") && eqb next (code "\\")) (size_less text) (size_less (next ∷ text))
-  where
-    of_cases : (end backslash : Bool) → length (pieces text) ≤ length text → length (pieces (next ∷ text)) ≤ length (next ∷ text)
-        → length (cond end (ParagraphEnd ∷ pieces text) (cond backslash (Cell (code "\\") ∷ pieces text) (Cell b ∷ pieces (next ∷ text)))) ≤ length (b ∷ next ∷ text)
-    of_cases true backslash h i = omega (arith, h)
-    of_cases false true h i = omega (arith, h)
-    of_cases false false h i = omega (arith, i)
+size_less (b ∷ next ∷ text) = grind (arith, size_less text, size_less (next ∷ text))
 
 pub lines_fit : (text : List ℕ) → line_pieces text ≤ block_pieces text
 lines_fit text = let h = size_less text in omega (arith, h)
@@ -44,24 +37,13 @@ lines_fit text = let h = size_less text in omega (arith, h)
 -- a text behind its first cells
 pub size_behind : (k : ℕ) (text rest : List ℕ) → k ≤ length (first (pieces text)) → first (pieces rest) ≡ drop k (first (pieces text)) → others (pieces rest) ≡ others (pieces text)
     → length (pieces rest) + k ≡ length (pieces text)
-size_behind k text rest l e o =
-    let a = size_is (pieces text) in
-    let b = size_is (pieces rest) in
-    let d = length-drop k (first (pieces text)) in
-    let same : length (first (pieces rest)) ≡ length (drop k (first (pieces text))) = ap (λ (cells : List ℕ). length cells) e in
-    let left : total (others (pieces rest)) ≡ total (others (pieces text)) = ap total o in
-    omega (arith, a, b, d, same, left)
+size_behind k text rest l e o = grind (arith, size_is, length-drop)
 
 -- a line of k cells that is the last of its paragraph
 pub paragraph_less : (k : ℕ) (text behind : List ℕ) (next : Option (Bor (List ℕ))) → length (pieces behind) + k ≤ length (pieces text)
     → MatchOption next (others (pieces behind) ≡ []) (λ r. others (pieces behind) ≡ first (pieces r.now) ∷ others (pieces r.now))
     → MatchOption next (1 + k ≤ line_pieces text) (λ r. 1 + k + line_pieces r.now ≤ line_pieces text)
-paragraph_less k text behind None l m = omega (arith, l)
-paragraph_less k text behind (Some r) l m =
-    let a = size_is (pieces behind) in
-    let b = size_is (pieces r.now) in
-    let left : total (others (pieces behind)) ≡ total (first (pieces r.now) ∷ others (pieces r.now)) = ap total m in
-    omega (arith, a, b, left, l)
+paragraph_less k text behind next h1 h2 = grind (arith, size_is)
 
 -- those of the lines that are left, if any are
 abbrev pub pieces_left : Option (Bor (List ℕ)) → ℕ
@@ -69,15 +51,11 @@ pieces_left None = 0
 pieces_left (Some text) = line_pieces text.now
 
 pub less_left : (k : ℕ) (text : List ℕ) (next : Option (Bor (List ℕ))) → MatchOption next (1 + k ≤ line_pieces text) (λ r. 1 + k + line_pieces r.now ≤ line_pieces text) → 1 + k + pieces_left next ≤ line_pieces text
-less_left k text None m = omega (arith, m)
-less_left k text (Some r) m = m
+less_left k text next h1 = grind arith
 
 -- cells that begin within n others
 pub cells_upto : (w q n : ℕ) → q * w < (n + 1) * w → q ≤ n
-cells_upto w q n l = elim (cases_lt n q) [
-  | inl y ↦ absurd (let m : (n + 1) * w ≤ q * w = mul-le-mul_right w (omega (arith, y)) in omega (arith, m, l))
-  | inr g ↦ g
-]
+cells_upto w q n l = grind arith
 
 -- cells of w dots, of which the first begins before `from` and the last before `to`
 pub cells_few : (from to b w q : ℕ) → 0 < w → to ≤ from + b → q * w < to + w → q ≤ from / w + (b / w + 2)
@@ -102,10 +80,7 @@ unseen at f left from to end bytes d n h before behind l =
 
 -- so where it has one, some is seen
 pub seen_some : (n : ℕ) (b : Bool) → (n ≡ 0 → b ≡ false) → b ≡ true → 0 < n
-seen_some n b h t = elim (cases_eq n 0) [
-  | inl e ↦ absurd (let f = h e in cc)
-  | inr g ↦ omega (arith, g)
-]
+seen_some n b h t = grind arith
 
 -- of cells side by side, of which none is seen
 pub text_unseen : (at : ℤ) (sheet : Option Glyphs) (text : List ℕ) (w h y from to bytes d : ℕ) → to ≤ from

@@ -1,17 +1,17 @@
 -- Lines over each other, as rows of the sheet.
-use Rattle.std.proofs.Common.{inl, inr, ◌≡◌, ℕ, suc, ◌+◌, ◌-◌, ◌*◌, ◌/◌, ◌%◌, ◌<◌, ◌≤◌, min, Bool, true, false, ltb, leb, ◌&&◌, ◌||◌, ◌⊎◌, get_or, length, take, replicate, refl, sym, ap, ◌∙◌, arith, List, [], ◌∷◌, Option, None, Some, MatchOption, Bor, ℤ}
+use Rattle.std.proofs.Common.{inl, inr, ◌≡◌, ℕ, suc, ◌+◌, ◌-◌, ◌*◌, ◌/◌, ◌<◌, ◌≤◌, min, Bool, true, false, ltb, leb, ◌&&◌, ◌||◌, ◌⊎◌, get_or, length, take, replicate, refl, sym, ap, ◌∙◌, arith, List, [], ◌∷◌, Option, None, Some, MatchOption, Bor, ℤ}
 use Rattle.std.specs.List.{All}
 use Rattle.std.proofs.Math.Nat.{div-lt_iff_lt-mul, le-div_iff_mul-le}
 use Rattle.std.proofs.Math.Seq.{take-length}
 use Rattle.std.proofs.lemmas.List.{length-take-le}
-use Rattle.std.proofs.lemmas.Bool.{cases_lt, lt-ltb, le-ltb, le-leb, false_from_ne_true}
+use Rattle.std.proofs.lemmas.Bool.{cases_lt, le-ltb, false_from_ne_true}
 use Rattle.vp_dots.specs.Dots.{shifted}
 use Rattle.vp_dots.specs.Words.{word_dot}
-use Rattle.vp_dots.proofs.Shifts.{shifted_none, shifted_same, shifted_or}
+use Rattle.vp_dots.proofs.Shifts.{shifted_none, shifted_same}
 use Rattle.vp_glyph.specs.Halves.{half_dot}
 use Rattle.vp_glyph.specs.Sheets.{Glyphs, sheet_dot}
 use Rattle.vp_glyph.specs.Texts.{sampled_dot, text_dot}
-use Rattle.vp_glyph.specs.Blocks.{pieces, first, indent, line_dot, lines_dot, block_lines, block_width, block_height, block_dot}
+use Rattle.vp_glyph.specs.Blocks.{pieces, first, indent, line_dot, lines_dot, block_lines, block_height, block_dot}
 use Rattle.vp_glyph.specs.Layouts.{AreRowsOf}
 use Rattle.vp_glyph.specs.declared.block.Alignment.{Alignment}
 use Rattle.vp_glyph.proofs.Breaking.{block_few}
@@ -19,72 +19,28 @@ use Rattle.vp_glyph.proofs.Gathered.{shown}
 use Rattle.vp_glyph.proofs.Halves.{white_half}
 use Rattle.vp_glyph.proofs.Layouts.{layout}
 use Rattle.vp_glyph.proofs.Overlaid.{line_inside, zero_at}
-use Rattle.vp_glyph.proofs.Stacks.{lines_left, lines_are, block_within, block_past}
+use Rattle.vp_glyph.proofs.Stacks.{lines_left, block_within, block_past}
 
 and_false : (b : Bool) → (b && false) ≡ false
-and_false true = refl
-and_false false = refl
-
-none_and : (a b c : Bool) → (a && (b && false && c)) ≡ false
-none_and true true c = refl
-none_and true false c = refl
-none_and false b c = refl
-
-into : (a b c d : Bool) → (a && b && (c && d)) ≡ (b && c && (a && d))
-into true true true d = refl
-into true true false d = refl
-into true false c d = refl
-into false true true d = refl
-into false true false d = refl
-into false false c d = refl
-
-plain : (a b : Bool) → (a && b) ≡ (a && true && b)
-plain true b = refl
-plain false b = refl
-
-or_assoc : (a b c : Bool) → (a || (b || c)) ≡ (a || b || c)
-or_assoc true b c = refl
-or_assoc false b c = refl
-
-or_false : (a : Bool) → (a || false) ≡ a
-or_false true = refl
-or_false false = refl
+and_false b = grind arith
 
 shared_or : (a b c : Bool) → ((a && b) || (a && c)) ≡ (a && (b || c))
-shared_or true b c = refl
-shared_or false b c = refl
+shared_or a b c = grind arith
 
 -- a dot that falls only on some rows
 shifted_if : (at : ℤ) (a : Bool) (f : ℕ → Bool) (d : ℕ) → shifted at (λ x. a && f x) d ≡ (a && shifted at f d)
-shifted_if at true f d = refl
-shifted_if at false f d = shifted_none at (λ x. false && f x) d (λ x. refl)
+shifted_if at a f d = grind arith
 
 module _ (sheet : Option Glyphs) (w h a b s : ℕ) (d : Alignment) where
   -- a row of a text shows one of the sheet
   text_rows : (cells : List ℕ) (u v : ℕ) → text_dot sheet cells w h u v ≡ (ltb v h && text_dot sheet cells w 24 u (v * 24 / h))
   unfolding text_dot sampled_dot
-  text_rows cells u v = elim (cases_lt v h) [
-    | inl l ↦
-        let q : v * 24 / h < 24 = (div-lt_iff_lt-mul {k = h} {x = v * 24} {y = 24} (omega arith)).1 (omega arith) in
-        let t : v * 24 / h * 24 / 24 ≡ v * 24 / h = omega arith in
-        rw (lt-ltb v h l, lt-ltb (v * 24 / h) 24 q, t) refl
-    | inr g ↦ rw (le-ltb v h g) (none_and (ltb u (w * length cells)) (ltb (u % w) w) _)
-  ]
-
-  first_rows : (line : List ℕ) (x r : ℕ) → (leb (indent d (a - w * length line)) x && text_dot sheet line w 24 (x - indent d (a - w * length line)) r) ≡ line_dot (layout sheet w 24 a 1 0 d) 0 line x r
-  first_rows line x r =
-      let z : r - 0 ≡ r = omega arith in
-      let g : leb 0 r ≡ true = le-leb 0 r (omega arith) in
-      rw (g, z) (plain (leb (indent d (a - w * length line)) x) (text_dot sheet line w 24 (x - indent d (a - w * length line)) r))
+  text_rows cells u v = grind arith
 
   -- and so does a row of a line
   pub line_rows : (place : ℕ) (line : List ℕ) (x y : ℕ) → line_dot (layout sheet w h a b s d) place line x y
       ≡ (leb (place * s) y && ltb (y - place * s) h && line_dot (layout sheet w 24 a 1 0 d) 0 line x ((y - place * s) * 24 / h))
-  line_rows place line x y =
-      let left : ℕ = indent d (a - w * length line) in
-      ap (λ t. leb left x && leb (place * s) y && t) (text_rows line (x - left) (y - place * s))
-      ∙ into (leb left x) (leb (place * s) y) (ltb (y - place * s) h) (text_dot sheet line w 24 (x - left) ((y - place * s) * 24 / h))
-      ∙ ap (λ t. leb (place * s) y && ltb (y - place * s) h && t) (first_rows line x ((y - place * s) * 24 / h))
+  line_rows place line x y = grind (arith, text_rows)
 
   line_top : (place t : ℕ) (line : List ℕ) (x y : ℕ) → place * s ≡ t → line_dot (layout sheet w h a b s d) place line x y
       ≡ (leb t y && ltb (y - t) h && line_dot (layout sheet w 24 a 1 0 d) 0 line x ((y - t) * 24 / h))
@@ -135,24 +91,16 @@ module _ (sheet : Option Glyphs) (w h a b s : ℕ) (d : Alignment) where
   -- the cells of a line are its rows
   pub line_sheet : (k left width r v : ℕ) (cells : List ℕ) → k ≤ length cells → left ≡ indent d (a - w * k) → width ≡ w
       → (leb left v && text_dot sheet (take k cells) width 24 (v - left) r) ≡ line_dot (layout sheet w 24 a 1 0 d) 0 (take k cells) v r
-  line_sheet k left width r v cells l e f =
-      let n : length (take k cells) ≡ k = length-take-le k cells l in
-      let m : left ≡ indent d (a - w * length (take k cells)) = e ∙ ap (λ j. indent d (a - w * j)) (sym n) in
-      ap (λ j. leb j v && text_dot sheet (take k cells) width 24 (v - j) r) m
-      ∙ ap (λ j. leb (indent d (a - w * length (take k cells))) v && text_dot sheet (take k cells) j 24 (v - indent d (a - w * length (take k cells))) r) f
-      ∙ first_rows (take k cells) v r
+  line_sheet k left width r v cells l e f = grind (arith, length-take-le)
 
   pub line_first : (at : ℤ) (k left width r x : ℕ) (cells : List ℕ) (old new : Bool) → k ≤ length cells → left ≡ indent d (a - w * k) → width ≡ w
       → new ≡ (old || shifted at (λ v. leb left v && text_dot sheet (take k cells) width 24 (v - left) r) x) → new ≡ (old || shifted at (λ v. line_dot (layout sheet w 24 a 1 0 d) 0 (take k cells) v r) x)
-  line_first at k left width r x cells old new l e f p =
-      p ∙ ap (λ t. old || t) (shifted_same at (λ v. leb left v && text_dot sheet (take k cells) width 24 (v - left) r) (λ v. line_dot (layout sheet w 24 a 1 0 d) 0 (take k cells) v r) x
-      (λ v _. line_sheet k left width r v cells l e f))
+  line_first at k left width r x cells old new l e f p = grind (arith, line_sheet)
 
   -- one without cells has none
   no_cells : (x r : ℕ) → line_dot (layout sheet w 24 a 1 0 d) 0 [] x r ≡ false
   unfolding text_dot
-  no_cells x r = ap (λ t. leb (indent d (a - w * 0)) x && leb (0 * 0) r && (t && sampled_dot sheet (get_or [] ((x - indent d (a - w * 0)) / w) 0) w 24 ((x - indent d (a - w * 0)) % w) (r - 0 * 0)))
-      (le-ltb (x - indent d (a - w * 0)) (w * 0) (omega arith)) ∙ and_false (leb (indent d (a - w * 0)) x && leb (0 * 0) r)
+  no_cells x r = grind arith
 
   pub rows_none : (at : ℤ) (rows : List ℕ) → rows ≡ replicate {A = ℕ} 24 0 → AreRowsOf (layout sheet w h a b s d) at [] rows
   rows_none at rows e r x l m =
@@ -165,15 +113,7 @@ module _ (sheet : Option Glyphs) (w h a b s : ℕ) (d : Alignment) where
       → MatchOption next (block_lines n text.now ≡ take k (first (pieces text.now)) ∷ []) (λ q. block_lines n text.now ≡ take k (first (pieces text.now)) ∷ block_lines n q.now)
       → new ≡ (old || shifted at (λ v. line_dot (layout sheet w 24 a 1 0 d) 0 (take k (first (pieces lent))) v r) x)
       → all ≡ (new || shifted at (λ v. lines_dot (layout sheet w 24 a 1 0 d) 0 (lines_left n next) v r) x)
-  joined_more at n k r x old new left next text lent all p e m o q =
-      let line : List ℕ = take k (first (pieces text.now)) in
-      let front : lines_left n left ≡ line ∷ lines_left n next = ap (lines_left n) e ∙ lines_are n text.now line next o in
-      let now : new ≡ (old || shifted at (λ v. line_dot (layout sheet w 24 a 1 0 d) 0 line v r) x) = rw m at q in
-      p ∙ ap (λ (ls : List (List ℕ)). old || shifted at (λ v. lines_dot (layout sheet w 24 a 1 0 d) 0 ls v r) x) front
-      ∙ ap (λ t. old || t) (shifted_or at (λ v. line_dot (layout sheet w 24 a 1 0 d) 0 line v r) (λ v. lines_dot (layout sheet w 24 a 1 0 d) 0 (lines_left n next) v r)
-      (λ v. lines_dot (layout sheet w 24 a 1 0 d) 0 (line ∷ lines_left n next) v r) x (λ v. refl))
-      ∙ or_assoc (old) (shifted at (λ v. line_dot (layout sheet w 24 a 1 0 d) 0 line v r) x) _
-      ∙ ap (λ t. t || shifted at (λ v. lines_dot (layout sheet w 24 a 1 0 d) 0 (lines_left n next) v r) x) (sym now)
+  joined_more at n k r x old new left next text lent all p e m o q = grind arith
 
   -- no line yet
   pub joined_none : (r x : ℕ) (all : Bool) → all ≡ (half_dot (get_or (replicate {A = ℕ} 24 0) r 0) x || all)
@@ -182,8 +122,7 @@ module _ (sheet : Option Glyphs) (w h a b s : ℕ) (d : Alignment) where
   -- all lines
   pub joined_all : (at : ℤ) (n r x : ℕ) (new : Bool) (left : Option (Bor (List ℕ))) (all : Bool) → all ≡ (new || shifted at (λ v. lines_dot (layout sheet w 24 a 1 0 d) 0 (lines_left n left) v r) x)
       → left ≡ None → new ≡ all
-  joined_all at n r x new left all p e =
-      sym (p ∙ ap (λ t. new || t) (ap (λ l. shifted at (λ v. lines_dot (layout sheet w 24 a 1 0 d) 0 (lines_left n l) v r) x) e ∙ shifted_none at (λ v. false) x (λ v. refl)) ∙ or_false (new))
+  joined_all at n r x new left all p e = grind arith
 
   -- all lines stand in the block
   lines_inside : (x y place : ℕ) (all : List (List ℕ)) → All (λ line. length line ≤ a / w) all → lines_dot (layout sheet w h a b s d) place all x y ≡ true → x < a
@@ -201,25 +140,13 @@ module _ (sheet : Option Glyphs) (w h a b s : ℕ) (d : Alignment) where
 
   -- the lines of a block are its dots
   pub lines_block : (text : List ℕ) (y v : ℕ) → 0 < w → w ≤ a → y < block_height h b s → lines_dot (layout sheet w h a b s d) 0 (block_lines (a / w) text) v y ≡ block_dot (layout sheet w h a b s d) text v y
-  lines_block text y v p m k = elim (cases_lt v (block_width a w)) [
-    | inl j ↦ block_within sheet text w h a b s d v y j k m
-    | inr g ↦
-        let some : 0 < a / w = (le-div_iff_mul-le {k = w} {x = 1} {y = a} p).1 (omega arith) in
-        let all = lines_dot (layout sheet w h a b s d) 0 (block_lines (a / w) text) v y in
-        false_from_ne_true all (λ t. absurd (let i = lines_inside v y 0 (block_lines (a / w) text) (block_few (a / w) text some) t in omega arith)) ∙ block_past sheet text w h a b s d v y g
-  ]
+  lines_block text y v p m k = grind (arith, block_within, le-div_iff_mul-le, false_from_ne_true, lines_inside, block_few, block_past)
 
 -- a row of a cell as high as the sheet's
 pub cell_row : (sheet : Option Glyphs) (c w place s : ℕ) (at : ℤ) (d : ℕ) (row : ℕ) → s < 24 → ((u : ℕ) → word_dot row u ≡ sheet_dot sheet c u s)
     → shifted at (λ x. leb place x && ltb (x - place) w && word_dot row ((x - place) * 12 / w)) d ≡ shifted at (λ x. leb place x && sampled_dot sheet c w 24 (x - place) s) d
 unfolding sampled_dot
-cell_row sheet c w place s at d row l h = shifted_same at (λ x. leb place x && ltb (x - place) w && word_dot row ((x - place) * 12 / w)) (λ x. leb place x && sampled_dot sheet c w 24 (x - place) s) d
-    (λ x _. let t : s * 24 / 24 ≡ s = omega arith in rw (lt-ltb s 24 l, t, h ((x - place) * 12 / w)) (order (leb place x) (ltb (x - place) w) (sheet_dot sheet c ((x - place) * 12 / w) s)))
-  where
-    order : (a b c : Bool) → (a && b && c) ≡ (a && (b && true && c))
-    order true true c = refl
-    order true false c = refl
-    order false b c = refl
+cell_row sheet c w place s at d row l h = grind arith
 
 -- rows that were white
 pub rows_white : (r x : ℕ) (f new : Bool) → new ≡ (half_dot (get_or (replicate {A = ℕ} 24 0) r 0) x || f) → new ≡ f

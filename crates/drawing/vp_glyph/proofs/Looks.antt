@@ -1,7 +1,7 @@
 -- Rows of characters as words.
 use Rattle.std.proofs.Common.{inl, inr, ◌≡◌, ℕ, ◌+◌, ◌-◌, ◌*◌, ◌/◌, ◌%◌, ◌^◌, ◌<◌, Bool, true, false, not, cond, eqb, ltb, leb, ◌&&◌, ◌||◌, eq-eqb, refl, sym, ap, ◌∙◌, arith, bit_and, bit_or}
 use Rattle.std.proofs.lemmas.Nat.{pow_below}
-use Rattle.std.proofs.lemmas.Nat.Bits.{bit_at-zero, bit_at-pow_same, bit_at-pow_other, shr_and_one}
+use Rattle.std.proofs.lemmas.Nat.Bits.{bit_at-pow_same, bit_at-pow_other, shr_and_one}
 use Rattle.std.proofs.lemmas.Bool.{cases_eq, cases_lt, ne_eqb, lt-ltb, le-ltb}
 use Rattle.vp_dots.specs.Dots.{bit}
 use Rattle.vp_dots.specs.Words.{word_dot}
@@ -11,10 +11,7 @@ use Rattle.vp_dots.proofs.Words.{word_shr}
 use Rattle.vp_dots.proofs.Cuts.{bit_not64}
 
 or_is : (a b : Bool) → cond b true a ≡ (a || b)
-or_is true true = refl
-or_is true false = refl
-or_is false true = refl
-or_is false false = refl
+or_is a b = grind arith
 
 pub thick_dot : (w x : ℕ) → w < 2 ^ 64 → x < 64 → word_dot (bit_or w (w / 2)) x ≡ (word_dot w x || ltb 0 x && word_dot w (x - 1))
 thick_dot w x p h = rw (lt-ltb x 64 h, lt-ltb (x - 1) 64 (omega arith)) (bit_of_or w (w / 2) (63 - x) ∙ ap (λ b. cond b true (bit w (63 - x))) (word_shr w 1 x p h) ∙ or_is (bit w (63 - x)) (leb 1 x && bit w (63 - (x - 1))))
@@ -23,23 +20,14 @@ pub not_dot : (w x : ℕ) → w < 2 ^ 64 → x < 64 → word_dot (2 ^ 64 - 1 - w
 not_dot w x p h = rw (lt-ltb x 64 h) (bit_not64 w (63 - x) p (omega arith))
 
 pub and_dot : (v w x : ℕ) → word_dot (bit_and v w) x ≡ (word_dot v x && word_dot w x)
-and_dot v w x = elim (cases_lt x 64) [
-  | inl l ↦ rw (lt-ltb x 64 l) (bit_of_and v w (63 - x))
-  | inr g ↦ rw (le-ltb x 64 g) refl
-]
+and_dot v w x = grind (arith, bit_of_and)
 
 pub or_dot : (v w x : ℕ) → word_dot (bit_or v w) x ≡ (word_dot v x || word_dot w x)
-or_dot v w x = elim (cases_lt x 64) [
-  | inl l ↦ rw (lt-ltb x 64 l) (bit_of_or v w (63 - x) ∙ or_is (bit v (63 - x)) (bit w (63 - x)))
-  | inr g ↦ rw (le-ltb x 64 g) refl
-]
+or_dot v w x = grind (arith, bit_of_or)
 
 pub white_dot : (x : ℕ) → word_dot 0 x ≡ false
 unfolding bit
-white_dot x = elim (cases_lt x 64) [
-  | inl l ↦ rw (lt-ltb x 64 l) (ap (λ b. eqb b 1) (bit_at-zero (63 - x)))
-  | inr g ↦ rw (le-ltb x 64 g) refl
-]
+white_dot x = grind arith
 
 -- the dot as the code reads it
 pub dot_read : (word x : ℕ) → x < 64 → eqb (bit_and (word / 2 ^ (63 - x)) 1) 1 ≡ word_dot word x
@@ -61,20 +49,7 @@ alone_dot x d h =
 
 -- a dot more of a row
 pub dot_more : (f : ℕ → Bool) (nine new x d : ℕ) → x < 64 → word_dot nine d ≡ (ltb d x && f d) → new ≡ bit_or nine (1 * 2 ^ (63 - x) % 2 ^ 64) → f x ≡ true → word_dot new d ≡ (ltb d (x + 1) && f d)
-dot_more f nine new x d h p e t = ap (λ n. word_dot n d) e ∙ or_dot nine _ d ∙ rw (p, alone_dot x d h) (elim (cases_eq d x) [
-  | inl y ↦ (let s : f d ≡ true = ap f y ∙ t in rw (eq-eqb d x y, s, lt-ltb d (x + 1) (omega arith), le-ltb d x (omega arith)) refl)
-  | inr n ↦ rw (ne_eqb d x n) (or_false _ ∙ ap (λ b. b && f d) (one_less d x n))
-])
-  where
-    or_false : (b : Bool) → (b || false) ≡ b
-    or_false true = refl
-    or_false false = refl
-
-    one_less : (d x : ℕ) → (d ≡ x → ⊥) → ltb d x ≡ ltb d (x + 1)
-    one_less d x n = elim (cases_lt d x) [ inl y ↦ lt-ltb d x y ∙ sym (lt-ltb d (x + 1) (omega arith)) | inr g ↦ le-ltb d x g ∙ sym (le-ltb d (x + 1) (omega arith)) ]
+dot_more f nine new x d h p e t = grind (arith, or_dot, alone_dot)
 
 pub dot_less : (f : ℕ → Bool) (nine x d : ℕ) → word_dot nine d ≡ (ltb d x && f d) → f x ≡ false → word_dot nine d ≡ (ltb d (x + 1) && f d)
-dot_less f nine x d p t = p ∙ elim (cases_eq d x) [
-  | inl y ↦ (let s : f d ≡ false = ap f y ∙ t in rw (s, le-ltb d x (omega arith), lt-ltb d (x + 1) (omega arith)) refl)
-  | inr n ↦ elim (cases_lt d x) [ inl y ↦ rw (lt-ltb d x y, lt-ltb d (x + 1) (omega arith)) refl | inr g ↦ rw (le-ltb d x g, le-ltb d (x + 1) (omega arith)) refl ]
-]
+dot_less f nine x d p t = grind arith

@@ -1,12 +1,11 @@
 -- Words whose dots are drawn several times as wide.
-use Rattle.std.proofs.Common.{inl, inr, ◌≡◌, ℕ, ◌+◌, ◌-◌, ◌*◌, ◌/◌, ◌%◌, ◌^◌, ◌<◌, ◌≤◌, Bool, true, false, cond, eqb, ltb, leb, ◌&&◌, ◌||◌, eq-eqb, refl, sym, ap, ◌∙◌, arith, bit_and, bit_or}
+use Rattle.std.proofs.Common.{inl, inr, ◌≡◌, ℕ, ◌+◌, ◌-◌, ◌*◌, ◌/◌, ◌%◌, ◌^◌, ◌<◌, ◌≤◌, Bool, true, false, cond, eqb, ltb, leb, ◌&&◌, ◌||◌, refl, sym, ap, ◌∙◌, arith, bit_and, bit_or}
 use Rattle.std.proofs.Math.Nat.{mul-le-mul_right}
-use Rattle.std.proofs.lemmas.Bool.{cases_eq, cases_lt, and_parts, eqb-true, ne_eqb, lt-ltb, le-ltb, lt-leb, le-leb, ltb-true}
+use Rattle.std.proofs.lemmas.Bool.{cases_lt, lt-ltb, le-ltb, lt-leb, le-leb, ltb-true}
 use Rattle.std.proofs.lemmas.Bool.Decides.{nat_tests}
 use Rattle.vp_dots.specs.Dots.{bit, span}
 use Rattle.vp_dots.specs.Words.{word_dot}
 use Rattle.vp_dots.proofs.Swaps.{every, every_at}
-use Rattle.vp_dots.proofs.Words.{and_true, and_false}
 use Rattle.vp_glyph.proofs.Looks.{and_dot, or_dot}
 use Rattle.vp_glyph.proofs.Moved.{moved_right}
 use Rattle.vp_glyph.proofs.Parts.{place_within, some_width}
@@ -14,8 +13,7 @@ use Rattle.vp_glyph.proofs.Spread.{quotient}
 
 -- a word and the same moved to the right, at the dots of a mask
 pub spread_dot : (word far mask x : ℕ) → word < 2 ^ 64 → x < 64 → word_dot (bit_and (bit_or word (word / 2 ^ far)) mask) x ≡ ((word_dot word x || leb far x && word_dot word (x - far)) && word_dot mask x)
-spread_dot word far mask x p h =
-    and_dot (bit_or word (word / 2 ^ far)) mask x ∙ ap (λ b. b && word_dot mask x) (or_dot word (word / 2 ^ far) x ∙ ap (λ b. word_dot word x || b) (moved_right word far x h p))
+spread_dot word far mask x p h = grind (arith, and_dot, or_dot, moved_right)
 
 -- which of twelve dots stands on dot x, where n of them and n white ones take turns; past the word where none does
 abbrev place : ℕ → ℕ → ℕ
@@ -30,16 +28,10 @@ abbrev comes : Bool → Bool → ℕ → ℕ → ℕ → Bool
 comes m l a b c = cond m (cond l (cond (eqb a 64) (eqb b c) (eqb a c && eqb b 64)) (eqb a c)) (eqb c 64)
 
 or_false : (b : Bool) → (b || false) ≡ b
-or_false true = refl
-or_false false = refl
+or_false b = grind arith
 
 came : (f : ℕ → Bool) (m l : Bool) (a b c : ℕ) → f 64 ≡ false → comes m l a b c ≡ true → ((f a || l && f b) && m) ≡ f c
-came f false l a b c n e = and_false _ ∙ sym (ap f (eqb-true c 64 e) ∙ n)
-came f true false a b c n e = and_true _ ∙ or_false (f a) ∙ ap f (eqb-true a c e)
-came f true true a b c n e = and_true _ ∙ elim (cases_eq a 64) [
-  | inl y ↦ (let q : eqb b c ≡ true = rw (eq-eqb a 64 y) at e in ap (λ t. t || f b) (ap f y ∙ n) ∙ ap f (eqb-true b c q))
-  | inr o ↦ (let q : (eqb a c && eqb b 64) ≡ true = rw (ne_eqb a 64 o) at e in let p = and_parts _ _ q in ap (λ t. f a || t) (ap f (eqb-true b 64 p.1) ∙ n) ∙ or_false (f a) ∙ ap f (eqb-true a c p.0))
-]
+came f m l a b c h1 h2 = grind arith
 
 -- a step to the right, where each dot comes from one that p tells before it, and from one that q tells behind it
 abbrev comes_at : (ℕ → ℕ) → (ℕ → ℕ) → ℕ → ℕ → ℕ → Bool
@@ -105,16 +97,9 @@ doubled_dot word twelve eights fours twos ones new a b c d e f x = elim (cases_l
   | inr g ↦ rw (le-ltb x 64 g, le-ltb x 24 (omega arith)) refl
 ]
 
--- the mask that is moved along, on which dot s falls
-pub mask_first : (wm x : ℕ) → wm ≤ 64 → ltb x wm ≡ (ltb x 64 && span (0 * wm) (0 * wm + wm) x)
-mask_first wm x few = grind (arith, nat_tests)
-
 pub mask_moved : (dots s wm x : ℕ) → dots < 2 ^ 64 → ((y : ℕ) → word_dot dots y ≡ (ltb y 64 && span (s * wm) (s * wm + wm) y))
     → word_dot (dots / 2 ^ wm) x ≡ (ltb x 64 && span ((s + 1) * wm) ((s + 1) * wm + wm) x)
-mask_moved dots s wm x p e = elim (cases_lt x 64) [
-  | inl l ↦ moved_right dots wm x l p ∙ ap (λ b. leb wm x && b) (e (x - wm)) ∙ rw (lt-ltb x 64 l, lt-ltb (x - wm) 64 (omega arith)) (grind (arith, nat_tests))
-  | inr g ↦ rw (le-ltb x 64 g) refl
-]
+mask_moved dots s wm x p e = grind (arith, nat_tests, moved_right)
 
 pub magnified_none : (word wm x : ℕ) → false ≡ (ltb x (0 * wm) && word_dot word (x / wm))
 magnified_none word wm x = rw (le-ltb x (0 * wm) (omega arith)) refl
@@ -124,30 +109,7 @@ module _ (n word wm : ℕ) (few : n * wm ≤ 64) where
   pub magnified_more : (wide more new dots s x : ℕ) → s < n → word_dot wide x ≡ (ltb x (s * wm) && word_dot word (x / wm))
       → word_dot more x ≡ (word_dot word s && word_dot dots x) → word_dot dots x ≡ (ltb x 64 && span (s * wm) (s * wm + wm) x)
       → new ≡ bit_or wide more → word_dot new x ≡ (ltb x ((s + 1) * wm) && word_dot word (x / wm))
-  magnified_more wide more new dots s x h p q d e =
-      let next : (s + 1) * wm ≡ s * wm + wm = omega arith in
-      let most : (s + 1) * wm ≤ n * wm = mul-le-mul_right wm (let j : s + 1 ≤ n = omega arith in j) in
-      ap (λ n. word_dot n x) e ∙ or_dot wide more x ∙ ap (λ b. b || word_dot more x) p ∙ ap (λ b. ltb x (s * wm) && word_dot word (x / wm) || b) (q ∙ ap (λ b. word_dot word s && b) d)
-      ∙ elim (cases_lt x (s * wm)) as (λ _. (ltb x (s * wm) && word_dot word (x / wm) || word_dot word s && (ltb x 64 && span (s * wm) (s * wm + wm) x)) ≡ (ltb x ((s + 1) * wm) && word_dot word (x / wm))) [
-        | inl b ↦ rw (lt-ltb x (s * wm) b, lt-leb (s * wm) x b, lt-ltb x ((s + 1) * wm) (omega arith)) (neither (word_dot word (x / wm)) (word_dot word s) (ltb x 64))
-        | inr g ↦ elim (cases_lt x ((s + 1) * wm)) [
-          | inl b ↦
-              let at : x / wm ≡ s = quotient x wm s (omega arith) g b in
-              rw (le-ltb x (s * wm) g, le-leb (s * wm) x g, lt-ltb x ((s + 1) * wm) b, lt-ltb x (s * wm + wm) (omega arith), lt-ltb x 64 (omega arith), at) (and_true (word_dot word s))
-          | inr o ↦ rw (le-ltb x (s * wm) g, le-leb (s * wm) x g, le-ltb x ((s + 1) * wm) o, le-ltb x (s * wm + wm) (omega arith)) (nowhere (word_dot word s) (ltb x 64))
-        ]
-      ]
-    where
-      neither : (a b c : Bool) → (a || b && (c && false)) ≡ a
-      neither true b c = refl
-      neither false true true = refl
-      neither false true false = refl
-      neither false false c = refl
-
-      nowhere : (b c : Bool) → (b && (c && false)) ≡ false
-      nowhere true true = refl
-      nowhere true false = refl
-      nowhere false c = refl
+  magnified_more wide more new dots s x h p q d e = grind (arith, mul-le-mul_right, or_dot, cases_lt, lt-ltb, lt-leb, quotient, le-leb)
 
 -- so many dots of a row from one on
 pub widened_row : (word moved wide first n wm x : ℕ) → n ≤ 12 → first ≤ 12 → ((d : ℕ) → d < 64 → word_dot moved d ≡ word_dot word (d + first))

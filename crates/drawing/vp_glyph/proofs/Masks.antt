@@ -1,16 +1,15 @@
 -- Dots drawn at another width, as words.
-use Rattle.std.proofs.Common.{inl, inr, ◌≡◌, ℕ, ◌+◌, ◌-◌, ◌*◌, ◌/◌, ◌<◌, ◌≤◌, Bool, true, false, eqb, ltb, leb, ◌&&◌, get_or, set, length, eq-eqb, refl, sym, ap, ◌∙◌, arith, List, ℤ, pos, ◌+ℤ◌, bit_or}
+use Rattle.std.proofs.Common.{inl, inr, ◌≡◌, ℕ, ◌+◌, ◌-◌, ◌*◌, ◌/◌, ◌<◌, ◌≤◌, Bool, false, eqb, ltb, leb, ◌&&◌, get_or, set, length, eq-eqb, refl, sym, ◌∙◌, arith, List, ℤ, pos, ◌+ℤ◌, bit_or}
 use Rattle.std.proofs.Math.Nat.{div-lt_iff_lt-mul, le-div_iff_mul-le}
 use Rattle.std.proofs.lemmas.List.{get_or-set_same, get_or-set_other}
-use Rattle.std.proofs.lemmas.Bool.{cases_lt, cases_eq, ne_eqb, lt-ltb, le-ltb, lt-leb, le-leb}
-use Rattle.std.proofs.lemmas.Bool.Decides.{nat_tests}
+use Rattle.std.proofs.lemmas.Bool.{cases_lt, ne_eqb, lt-ltb, le-ltb, lt-leb, le-leb}
 use Rattle.std.proofs.lemmas.Int.{ints}
 use Rattle.vp_dots.specs.Dots.{shifted, span}
 use Rattle.vp_dots.specs.Words.{word_dot}
 use Rattle.vp_dots.specs.Painting.{Painted}
 use Rattle.vp_dots.specs.declared.Op.{Op}
 use Rattle.vp_dots.proofs.Paints.{painted_same}
-use Rattle.vp_dots.proofs.Shifts.{met, shifted_same, shifted_meets, shifted_outside}
+use Rattle.vp_dots.proofs.Shifts.{met, shifted_meets, shifted_outside}
 use Rattle.vp_glyph.proofs.Looks.{or_dot}
 use Rattle.vp_glyph.proofs.Spread.{quotient, edge_at, from_edge, before_edge, edge_within, ink}
 
@@ -20,7 +19,7 @@ edges_are n w s x p l = elim (cases_lt x (edge_at n w s)) [
   | inl b ↦
       let inside = edge_within n w s p (omega arith) in
       let low : x * n / w < s = (div-lt_iff_lt-mul {k = w} {x = x * n} {y = s} (omega arith)).1 (before_edge n w s x p b) in
-      rw (lt-leb (edge_at n w s) x b, ne_eqb (x * n / w) s (λ e. absurd (omega arith))) (grind (arith, nat_tests))
+      rw (lt-leb (edge_at n w s) x b, ne_eqb (x * n / w) s (λ e. absurd (omega arith))) (grind arith)
   | inr g ↦ elim (cases_lt x (edge_at n w (s + 1))) [
     | inl i ↦
         let inside = edge_within n w (s + 1) p (omega arith) in
@@ -29,8 +28,8 @@ edges_are n w s x p l = elim (cases_lt x (edge_at n w s)) [
     | inr o ↦ elim (cases_lt x w) [
       | inl k ↦
           let high : s + 1 ≤ x * n / w = (le-div_iff_mul-le {k = w} {x = s + 1} {y = x * n} (omega arith)).1 (from_edge n w (s + 1) x p o) in
-          rw (le-ltb x (edge_at n w (s + 1)) o, ne_eqb (x * n / w) s (λ e. absurd (omega arith))) (grind (arith, nat_tests))
-      | inr k ↦ rw (le-ltb x (edge_at n w (s + 1)) o, le-ltb x w k) (grind (arith, nat_tests))
+          rw (le-ltb x (edge_at n w (s + 1)) o, ne_eqb (x * n / w) s (λ e. absurd (omega arith))) (grind arith)
+      | inr k ↦ rw (le-ltb x (edge_at n w (s + 1)) o, le-ltb x w k) (grind arith)
     ]
   ]
 ]
@@ -38,30 +37,23 @@ edges_are n w s x p l = elim (cases_lt x (edge_at n w s)) [
 -- one more mask
 pub mask_more : (w s : ℕ) (masks : List ℕ) (mask from to : ℕ) → s < length masks → s < 12 → from ≡ edge_at 12 w s → to ≡ edge_at 12 w (s + 1) → ((x : ℕ) → word_dot mask x ≡ span from to x)
     → ((r x : ℕ) → r < s → word_dot (get_or masks r 0) x ≡ (ltb x w && eqb (x * 12 / w) r)) → (r x : ℕ) → r < s + 1 → word_dot (get_or (set masks s mask) r 0) x ≡ (ltb x w && eqb (x * 12 / w) r)
-mask_more w s masks mask from to l k e f m h r x b = elim (cases_eq r s) [
-  | inl y ↦ ap (λ i. word_dot (get_or (set masks s mask) i 0) x) y ∙ ap (λ n. word_dot n x) (get_or-set_same masks s mask 0 l) ∙ m x
-      ∙ ap (λ n. span n to x) e ∙ ap (λ n. span (edge_at 12 w s) n x) f ∙ edges_are 12 w s x (omega arith) k ∙ ap (λ i. ltb x w && eqb (x * 12 / w) i) (sym y)
-  | inr n ↦ ap (λ v. word_dot v x) (get_or-set_other masks s r mask 0 n) ∙ h r x (omega arith)
-]
+mask_more w s masks mask from to l k e f m h r x b = grind (arith, get_or-set_same, edges_are, get_or-set_other)
 
 -- no dot yet
 pub stretch_none : (f : ℕ → Bool) (width x : ℕ) → false ≡ (ltb x width && (ltb (x * 12 / width) 0 && f (x * 12 / width)))
-stretch_none f width x = grind (arith, nat_tests)
+stretch_none f width x = grind arith
 
 -- the dots of a word that fall on the dots of one mask more
 pub stretch_more : (f : ℕ → Bool) (width wide more new s x : ℕ) → word_dot wide x ≡ (ltb x width && (ltb (x * 12 / width) s && f (x * 12 / width)))
     → word_dot more x ≡ (f s && (ltb x width && eqb (x * 12 / width) s)) → new ≡ bit_or wide more → word_dot new x ≡ (ltb x width && (ltb (x * 12 / width) (s + 1) && f (x * 12 / width)))
-stretch_more f width wide more new s x p q e = ap (λ n. word_dot n x) e ∙ or_dot wide more x ∙ rw (p, q) (elim (cases_eq (x * 12 / width) s) [
-  | inl y ↦ (let g : f (x * 12 / width) ≡ f s = ap f y in rw g (grind (arith, nat_tests)))
-  | inr n ↦ grind (arith, nat_tests)
-])
+stretch_more f width wide more new s x p q e = grind (arith, or_dot)
 
 -- all twelve
 pub stretch_all : (f : ℕ → Bool) (width wide s x : ℕ) → 12 ≤ s → word_dot wide x ≡ (ltb x width && (ltb (x * 12 / width) s && f (x * 12 / width))) → word_dot wide x ≡ (ltb x width && f (x * 12 / width))
 stretch_all f width wide s x m p = p ∙ elim (cases_lt x width) [
   | inl l ↦
       let low : x * 12 / width < 12 = (div-lt_iff_lt-mul {k = width} {x = x * 12} {y = 12} (omega arith)).1 (omega arith) in
-      rw (lt-ltb (x * 12 / width) s (omega arith)) (grind (arith, nat_tests))
+      rw (lt-ltb (x * 12 / width) s (omega arith)) (grind arith)
   | inr g ↦ rw (le-ltb x width g) refl
 ]
 
@@ -75,16 +67,10 @@ shift_more at n f d = elim (met at d) [
   | inr m ↦ shifted_outside (at +ℤ pos n) f d (λ x e. m.0 (n + x) (omega (arith, ints))) ∙ sym (m.1 (λ x. leb n x && f (x - n)))
 ]
 
-and_assoc : (a b c : Bool) → (a && (b && c)) ≡ (a && b && c)
-and_assoc true b c = refl
-and_assoc false b c = refl
-
 module _ (at at' : ℤ) (glyph : ℕ → Bool) (left width wide : ℕ) (e : at' ≡ at +ℤ pos left) (h : (x : ℕ) → word_dot wide x ≡ (ltb x width && glyph (x * 12 / width))) where
   -- a word from a place on
   pub word_placed : (d : ℕ) → shifted at' (word_dot wide) d ≡ shifted at (ink 12 glyph left width) d
-  word_placed d = ap (λ z. shifted z (word_dot wide) d) e ∙ shift_more at left (word_dot wide) d
-      ∙ shifted_same at (λ x. leb left x && word_dot wide (x - left)) (ink 12 glyph left width) d
-      (λ x _. ap (λ t. leb left x && t) (h (x - left)) ∙ and_assoc (leb left x) (ltb (x - left) width) (glyph ((x - left) * 12 / width)))
+  word_placed d = grind (arith, shift_more)
 
   -- and painted there
   pub word_painted : (op : Op) (a b : List ℕ) → Painted op (shifted at' (word_dot wide)) a b → Painted op (shifted at (ink 12 glyph left width)) a b

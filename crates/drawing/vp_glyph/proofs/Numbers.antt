@@ -1,30 +1,17 @@
 -- Numbers in digits.
 use Rattle.std.proofs.Common.{◌≡◌, ℕ, ◌+◌, ◌-◌, ◌*◌, ◌^◌, ◌<◌, min, IsTrue, arith, List, length, take, get_or, length-take}
-use Rattle.std.specs.Int.{IsInRange}
-use Rattle.std.proofs.lemmas.Bool.{and_parts, leb-true}
 use Rattle.std.proofs.lemmas.List.{get_or-take}
 use Rattle.std.proofs.lemmas.Int.Digits.{digits_value_more}
-use Rattle.std.proofs.lemmas.Str.{digit_value_digit}
 use Rattle.std.proofs.lemmas.List.Sums.{prefix_len_passes}
-use Rattle.std.specs.Char.{digit_value}
 use Rattle.std.specs.List.{prefix_len}
 use Rattle.std.specs.Str.Parse.{digits_value}
 use Rattle.vp_glyph.specs.Headers.{digit}
 
-digit_range : (c : ℕ) → IsTrue (digit c) → IsInRange 48 57 c
-digit_range c t = let p = and_parts _ _ t in (leb-true _ _ p.0, leb-true _ _ p.1)
-
 -- what is counted at the front are digits
 pub digits_counted : (text : List ℕ) (n i : ℕ) → n ≡ prefix_len digit text → i < length (take n text) → IsTrue (digit (get_or (take n text) i 0))
-digits_counted text n i e l =
-    let below : i < n = omega (arith, length-take n text) in
-    rw (get_or-take n text i 0 below) (prefix_len_passes digit text i 0 (omega arith))
+digits_counted text n i e l = grind (arith, length-take, get_or-take, prefix_len_passes)
 
 -- one more digit, where a number that is too great counts as the greatest one
 pub value_more : (digits : List ℕ) (i v m d r : ℕ) → i < length digits → IsTrue (digit (get_or digits i 0)) → v ≡ min (digits_value 10 (take i digits)) (2 ^ 32 - 1)
     → m ≡ min (v * 10) (2 ^ 32 - 1) → d ≡ get_or digits i 0 - 48 → r ≡ min (m + d) (2 ^ 32 - 1) → r ≡ min (digits_value 10 (take (i + 1) digits)) (2 ^ 32 - 1)
-value_more digits i v m d r l t e e1 e2 e3 =
-    let more : digits_value 10 (take (i + 1) digits) ≡ digits_value 10 (take i digits) * 10 + digit_value (get_or digits i 0) = digits_value_more 10 digits i l in
-    let w : digit_value (get_or digits i 0) + 48 ≡ get_or digits i 0 = digit_value_digit (get_or digits i 0) (digit_range (get_or digits i 0) t) in
-    let r = digit_range (get_or digits i 0) t in
-    omega arith
+value_more digits i v m d r l t e e1 e2 e3 = grind (arith, digits_value_more)

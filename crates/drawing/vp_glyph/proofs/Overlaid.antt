@@ -2,64 +2,34 @@
 use Rattle.std.proofs.Common.{pos, replicate, eqb, get_or, ◌%◌, ◌⊎◌, leb, ◌≡◌, ◌≢◌, ℕ, ◌+◌, ◌-◌, ◌*◌, ◌/◌, ◌<◌, ◌≤◌, min, List, [], ◌∷◌, Option, Some, MatchOption, Bor, Bool, true, false, ◌||◌, ◌&&◌, length, take, refl, sym, ap, ◌∙◌, arith, ℤ, inl, inr}
 use Rattle.std.proofs.Math.Nat.{mul-le-mul_left, mul-div-le}
 use Rattle.std.proofs.lemmas.List.{length-take-le, get_or-replicate, get_or_past, length-replicate}
-use Rattle.std.proofs.lemmas.Bool.{cases_lt, le-leb, and_parts, leb-true, false_from_ne_true}
+use Rattle.std.proofs.lemmas.Bool.{and_parts, leb-true}
 use Rattle.std.specs.Int.{bit_at}
 use Rattle.std.proofs.lemmas.Nat.Bits.{bit_at-zero}
 use Rattle.vp_dots.proofs.Rows.{dot_past}
 use Rattle.vp_dots.specs.Dots.{bit, dot, dots, shifted}
-use Rattle.vp_dots.specs.Painting.{paint, Painted}
+use Rattle.vp_dots.specs.Painting.{Painted}
 use Rattle.vp_dots.specs.declared.Op.{Op}
-use Rattle.vp_dots.specs.declared.Op.TheVariants.{Black, White, Flip}
+use Rattle.vp_dots.specs.declared.Op.TheVariants.{Black, Flip}
 use Rattle.vp_dots.proofs.Moves.{moved_same}
-use Rattle.vp_dots.proofs.Shifts.{shifted_or}
 use Rattle.vp_glyph.specs.Sheets.{Glyphs}
 use Rattle.vp_glyph.specs.Texts.{text_dot, text_inside}
-use Rattle.vp_glyph.specs.Blocks.{pieces, first, indent, block_lines, line_dot, lines_dot, block_width, block_height, block_dot, block_inside}
+use Rattle.vp_glyph.specs.Blocks.{pieces, first, indent, block_lines, line_dot, lines_dot, block_height, block_dot, block_inside}
 use Rattle.vp_glyph.proofs.Layouts.{layout}
 use Rattle.vp_glyph.specs.declared.block.Alignment.{Alignment}
-use Rattle.vp_glyph.specs.declared.block.Alignment.TheVariants.{Left, Centre, Right}
 use Rattle.vp_glyph.proofs.Drawn.{moved_none}
 use Rattle.vp_glyph.proofs.Stacks.{lines_left, lines_are, line_above, block_past, block_within}
 
-black_is : (i old : Bool) → old ≡ false → paint Black i old ≡ i
-black_is true old e = refl
-black_is false old e = e
-
--- black over black and white over white
-again : (op : Op) (i j k old : Bool) → op ≢ Flip → k ≡ (i || j) → paint op j (paint op i old) ≡ paint op k old
-again Black true true k old n e = rw e refl
-again Black true false k old n e = rw e refl
-again Black false true k old n e = rw e refl
-again Black false false k old n e = rw e refl
-again White true true k old n e = rw e refl
-again White true false k old n e = rw e refl
-again White false true k old n e = rw e refl
-again White false false k old n e = rw e refl
-again Flip i j k old n e = absurd (n refl)
-
 pub painted_over : (op : Op) (at : ℤ) (f g h : ℕ → Bool) (a b c : List ℕ) → op ≢ Flip → ((x : ℕ) → h x ≡ (f x || g x)) → Painted op (shifted at f) a b → Painted op (shifted at g) b c → Painted op (shifted at h) a c
-painted_over op at f g h a b c n u p q = record {
-  length_is = q.length_is ∙ p.length_is;
-  dots_are = λ d l.
-      q.dots_are d (let m : d < dots b = rw p.length_is l in m) ∙ ap (λ o. paint op (shifted at g d) o) (p.dots_are d l) ∙ again op (shifted at f d) (shifted at g d) (shifted at h d) _ n (shifted_or at f g h d u);
-}
+painted_over op at f g h a b c n u p q = grind arith
 
 indent_within : (d : Alignment) (room : ℕ) → indent d room ≤ room
-indent_within Left room = omega arith
-indent_within Centre room = omega arith
-indent_within Right room = omega arith
+indent_within d room = grind arith
 
 or_assoc : (a b c : Bool) → (a || (b || c)) ≡ (a || b || c)
-or_assoc true b c = refl
-or_assoc false b c = refl
-
-or_false : (b : Bool) → b ≡ (b || false)
-or_false true = refl
-or_false false = refl
+or_assoc a b c = grind arith
 
 or_true : (a b : Bool) → (a || b) ≡ true → (a ≡ true) ⊎ (b ≡ true)
-or_true true b e = inl refl
-or_true false b e = inr e
+or_true a b h1 = grind arith
 
 module _ (sheet : Option Glyphs) (w h a b s : ℕ) (d : Alignment) (y : ℕ) where
   -- a line stands within the block
@@ -113,13 +83,7 @@ module _ (sheet : Option Glyphs) (w h a b s : ℕ) (d : Alignment) (y : ℕ) whe
   pub overlaid_all : (op : Op) (at : ℤ) (n : ℕ) (text : List ℕ) (place : ℕ) (left : Option (Bor (List ℕ))) (old new : List ℕ) → n ≡ a / w → w ≤ a → y < block_height h b s
       → ((x : ℕ) → lines_dot (layout sheet w h a b s d) place (lines_left n left) x y ≡ false)
       → Overlaid op at n (block_lines n text) place left old new → Painted op (shifted at (λ x. block_dot (layout sheet w h a b s d) text x y)) old new
-  overlaid_all op at n text place left old new z m l e o = moved_same op at o.done (λ x. block_dot (layout sheet w h a b s d) text x y) old new
-      (λ x.
-      let total : o.done x ≡ lines_dot (layout sheet w h a b s d) 0 (block_lines n text) x y = or_false (o.done x) ∙ sym (o.rest_is x ∙ ap (λ q. o.done x || q) (e x)) in
-      elim (cases_lt x (block_width a w)) [
-        | inl k ↦ total ∙ ap (λ c. lines_dot (layout sheet w h a b s d) 0 (block_lines c text) x y) z ∙ block_within sheet text w h a b s d x y k l m
-        | inr g ↦ false_from_ne_true (o.done x) (λ t. absurd (let i = o.inside x t in omega arith)) ∙ block_past sheet text w h a b s d x y g
-      ]) o.painted
+  overlaid_all op at n text place left old new z m l e o = grind (arith, block_within, block_past)
 
   -- nor has a line that ends above it
   pub above_none : (op : Op) (at : ℤ) (place : ℕ) (line row : List ℕ) → place * s + h ≤ y → Painted op (shifted at (λ x. line_dot (layout sheet w h a b s d) place line x y)) row row
@@ -127,10 +91,7 @@ module _ (sheet : Option Glyphs) (w h a b s : ℕ) (d : Alignment) (y : ℕ) whe
 
 -- a white row
 pub zero_at : (n i : ℕ) → get_or (replicate {A = ℕ} n 0) i 0 ≡ 0
-zero_at n i = elim (cases_lt i n) [
-  | inl l ↦ get_or-replicate n i 0 0 l
-  | inr g ↦ get_or_past (replicate {A = ℕ} n 0) i 0 (let m = length-replicate {A = ℕ} n 0 in omega (arith, m))
-]
+zero_at n i = grind (arith, get_or-replicate, get_or_past, length-replicate)
 
 pub zero_dots : (n x : ℕ) → dot (replicate {A = ℕ} n 0) x ≡ false
 unfolding dot bit
@@ -138,13 +99,7 @@ zero_dots n x = ap (λ k. eqb (bit_at k (7 - x % 8)) 1) (zero_at n (x / 8)) ∙ 
 
 -- ink that was painted black in a white row
 pub from_white : (n wide : ℕ) (f : ℕ → Bool) (row : List ℕ) → ((x : ℕ) → f x ≡ true → x < wide) → wide ≤ 8 * n → Painted Black (shifted (pos 0) f) (replicate {A = ℕ} n 0) row → (x : ℕ) → dot row x ≡ f x
-from_white n wide f row o l p x =
-    let m = length-replicate {A = ℕ} n 0 in
-    let long = p.length_is in
-    elim (cases_lt x (8 * n)) [
-      | inl k ↦ (let z : x - 0 ≡ x = omega arith in p.dots_are x (omega (arith, m)) ∙ black_is (shifted (pos 0) f x) (dot (replicate {A = ℕ} n 0) x) (zero_dots n x) ∙ rw (le-leb 0 x (omega arith), z) refl)
-      | inr g ↦ dot_past row x (omega (arith, m)) ∙ sym (false_from_ne_true (f x) (λ e. absurd (let i = o x e in omega arith)))
-    ]
+from_white n wide f row o l p x = grind (arith, length-replicate, zero_dots, dot_past)
 
 -- a block reversed by way of a white row
 pub flipped : (at : ℤ) (n : ℕ) (sheet : Option Glyphs) (text : List ℕ) (w h a b s : ℕ) (d : Alignment) (y : ℕ) (dots old new : List ℕ) → w ≤ a → a ≤ 8 * n

@@ -1,25 +1,20 @@
 -- A character as its rows, each dot and each row so often, and what is black behind them.
-use Rattle.std.proofs.Common.{inl, inr, ◌≡◌, ℕ, zero, suc, ◌+◌, ◌-◌, ◌*◌, ◌/◌, ◌<◌, ◌≤◌, Bool, true, false, not, cond, ltb, leb, ◌&&◌, ◌||◌, refl, sym, ap, ◌∙◌, arith}
-use Rattle.std.proofs.Math.Nat.{add-mul, div-lt_iff_lt-mul, le-div_iff_mul-le, mul-le-mul_right}
+use Rattle.std.proofs.Common.{inl, inr, ◌≡◌, ℕ, ◌+◌, ◌-◌, ◌*◌, ◌/◌, ◌<◌, ◌≤◌, Bool, true, false, not, cond, ltb, leb, ◌&&◌, ◌||◌, sym, ap, ◌∙◌, arith}
+use Rattle.std.proofs.Math.Nat.{mul-le-mul_right}
 use Rattle.std.proofs.lemmas.Bool.{cases_lt, lt-ltb, le-ltb, lt-leb, le-leb, ltb-true, ltb-false}
 use Rattle.vp_dots.specs.Dots.{span}
 use Rattle.vp_glyph.specs.Cells.{font_width, font_height, font_dot, bold_dot, cell_width, cell_height, underlined, cell_dot}
 use Rattle.vp_glyph.specs.Parts.{row_dot, filled_dot}
 use Rattle.vp_glyph.specs.declared.cell.Font.{Font}
-use Rattle.vp_glyph.specs.declared.cell.Font.TheVariants.{A, B}
 use Rattle.vp_glyph.specs.declared.cell.Style.{Style}
 use Rattle.vp_glyph.specs.Sheets.{Sheets}
 
 pub some_width : (x n w : ℕ) → x < n * w → 0 < w
-some_width x n zero l = absurd (omega arith)
-some_width x n (suc w) l = omega arith
+some_width x n w h1 = grind arith
 
 -- a place of n that are so wide
 pub place_within : (x n w : ℕ) → 0 < w → ltb (x / w) n ≡ ltb x (n * w)
-place_within x n w p = elim (cases_lt x (n * w)) [
-  | inl y ↦ (let q : x / w < n = (div-lt_iff_lt-mul {k = w} {x = x} {y = n} p).1 y in lt-ltb (x / w) n q ∙ sym (lt-ltb x (n * w) y))
-  | inr g ↦ (let q : n ≤ x / w = (le-div_iff_mul-le {k = w} {x = n} {y = x} p).1 g in le-ltb (x / w) n q ∙ sym (le-ltb x (n * w) g))
-]
+place_within x n w p = grind arith
 
 -- a place of the character itself, not of its spacing
 pub body_place : (x n k w : ℕ) → x < (n + k) * w → ltb x (n * w) ≡ ltb (x / w) n
@@ -29,21 +24,14 @@ pub past_all : (x n k w : ℕ) → (n + k) * w ≤ x → ltb x (n * w) ≡ false
 past_all x n k w l = let j : n ≤ n + k = omega arith in let m : n * w ≤ (n + k) * w = mul-le-mul_right w j in le-ltb x (n * w) (omega arith)
 
 pub font_few : (font : Font) → font_width font ≤ 12
-font_few A = omega arith
-font_few B = omega arith
+font_few font = grind arith
 
 pub font_low : (font : Font) → font_height font ≤ 24
-font_low A = omega arith
-font_low B = omega arith
+font_low font = grind arith
 
 -- one of twelve dots that are so wide
 in_row : (font : Font) (w x : ℕ) → (ltb x (12 * w) && ltb (x / w) (font_width font)) ≡ ltb x (font_width font * w)
-in_row font w x =
-    let most : font_width font * w ≤ 12 * w = mul-le-mul_right w (font_few font) in
-    elim (cases_lt x (12 * w)) [
-      | inl l ↦ rw (lt-ltb x (12 * w) l) (place_within x (font_width font) w (some_width x 12 w l))
-      | inr g ↦ rw (le-ltb x (12 * w) g, le-ltb x (font_width font * w) (omega arith)) refl
-    ]
+in_row font w x = grind arith
 
 not_before : (x n : ℕ) → leb n x ≡ not (ltb x n)
 not_before x n = elim (cases_lt x n) [ inl l ↦ lt-leb n x l ∙ sym (ap not (lt-ltb x n l)) | inr g ↦ le-leb n x g ∙ sym (ap not (le-ltb x n g)) ]
@@ -51,22 +39,10 @@ not_before x n = elim (cases_lt x n) [ inl l ↦ lt-leb n x l ∙ sym (ap not (l
 -- a dot of the character or of what is black behind it
 either : (i p q r s b u : Bool) → (p ≡ true → s ≡ r) → (p ≡ false → s ≡ false)
     → (p && q && cond i (not (r && b)) (r && b || u)) ≡ (s && (q && cond i (not b) b) || p && q && cond i (not s) u)
-either i true q r s b u f g = rw (f refl) (same i q r b u)
-  where
-    same : (i q r b u : Bool) → (true && q && cond i (not (r && b)) (r && b || u)) ≡ (r && (q && cond i (not b) b) || true && q && cond i (not r) u)
-    same true true true true u = refl
-    same true true true false u = refl
-    same true true false b u = refl
-    same false true true b u = refl
-    same false true false b u = refl
-    same i false true b u = refl
-    same i false false b u = refl
-either i false q r s b u f g = rw (g refl) refl
+either i p q r s b u h1 h2 = grind arith
 
 joined : (t r q e s : Bool) → (t && r) ≡ s → (t && (r && q && e)) ≡ (s && (q && e))
-joined true true q e s h = rw (sym h) refl
-joined true false q e s h = rw (sym h) refl
-joined false r q e s h = rw (sym h) refl
+joined t r q e s h1 = grind arith
 
 module _ (sheets : Sheets) (font : Font) (style : Style) (c : ℕ) where
   -- rows that are printed once and more
@@ -83,39 +59,15 @@ module _ (sheets : Sheets) (font : Font) (style : Style) (c : ℕ) where
 
   -- below the character
   pub row_below : (x y : ℕ) → font_height font ≤ y → row_dot sheets font style c x y ≡ false
-  row_below x y g = rw (le-ltb y (font_height font) g) (none (ltb x (font_width font)) _)
-    where
-      none : (a b : Bool) → (a && false && b) ≡ false
-      none true b = refl
-      none false b = refl
+  row_below x y g = grind arith
 
 module _ (font : Font) (style : Style) (x y : ℕ) where
   -- the spacing of an inverse one
   pub spacing_dot : (left wide high : ℕ) → style.inverse ≡ true → left ≡ font_width font * style.wm → wide ≡ style.spacing * style.wm → high ≡ cell_height font style
       → (span left (left + wide) x && span 0 (0 + high) y) ≡ filled_dot font style x y
-  spacing_dot left wide high i a b h =
-      let far : left + wide ≡ cell_width font style = rw (a, b) (sym (add-mul (font_width font) style.spacing style.wm)) in
-      let all : 0 + high ≡ cell_height font style = omega (arith, h) in
-      rw (far, a, all, i, le-leb 0 y (omega arith)) (turned (leb (font_width font * style.wm) x) (ltb x (cell_width font style)) (ltb y (cell_height font style)))
-    where
-      turned : (a b c : Bool) → (a && b && (true && c)) ≡ (b && c && a)
-      turned true true true = refl
-      turned true true false = refl
-      turned true false c = refl
-      turned false true true = refl
-      turned false true false = refl
-      turned false false c = refl
+  spacing_dot left wide high i a b h = grind arith
 
   -- the underline of any other
   pub underline_dot : (top wide high : ℕ) → style.inverse ≡ false → top ≡ cell_height font style - style.underline → wide ≡ cell_width font style → top + high ≡ cell_height font style
       → (span 0 (0 + wide) x && span top (top + high) y) ≡ filled_dot font style x y
-  underline_dot top wide high i t w h =
-      let all : 0 + wide ≡ cell_width font style = omega (arith, w) in
-      rw (h, all, i, t, le-leb 0 x (omega arith)) (turned (ltb x (cell_width font style)) (leb (cell_height font style - style.underline) y) (ltb y (cell_height font style)))
-    where
-      turned : (a b c : Bool) → (true && a && (b && c)) ≡ (a && c && b)
-      turned true true true = refl
-      turned true true false = refl
-      turned true false true = refl
-      turned true false false = refl
-      turned false b c = refl
+  underline_dot top wide high i t w h = grind arith

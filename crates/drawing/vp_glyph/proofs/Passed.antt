@@ -1,7 +1,7 @@
 -- Rows of dots, of which many get the same ones.
-use Rattle.std.proofs.Common.{inl, inr, ◌≡◌, ℕ, zero, suc, ◌+◌, ◌-◌, ◌*◌, ◌/◌, ◌<◌, ◌≤◌, Bool, true, false, ltb, leb, ◌&&◌, ◌||◌, get_or, set, length, replicate, refl, sym, ap, ◌∙◌, arith, List, []}
+use Rattle.std.proofs.Common.{inl, inr, ◌≡◌, ℕ, zero, suc, ◌+◌, ◌-◌, ◌*◌, ◌/◌, ◌<◌, ◌≤◌, Bool, false, ltb, leb, ◌&&◌, ◌||◌, get_or, set, length, replicate, refl, ap, ◌∙◌, arith, List, []}
 use Rattle.std.proofs.lemmas.List.{get_or-set_same, get_or-set_other, get_or-replicate, get_or_past, length-replicate}
-use Rattle.std.proofs.lemmas.Bool.{cases_eq, cases_lt, lt-ltb, le-ltb, le-leb, lt-leb}
+use Rattle.std.proofs.lemmas.Bool.{cases_lt, lt-ltb, le-ltb, le-leb, lt-leb}
 use Rattle.vp_dots.specs.Dots.{dot, span}
 use Rattle.vp_dots.specs.Painting.{paint, Painted}
 use Rattle.vp_dots.specs.declared.Op.TheVariants.{Black}
@@ -9,32 +9,14 @@ use Rattle.vp_glyph.specs.Runs.{dot_upto, run_dot}
 use Rattle.vp_glyph.proofs.Overlaid.{zero_dots}
 
 pub black_or : (ink old : Bool) → paint Black ink old ≡ (old || ink)
-black_or true true = refl
-black_or true false = refl
-black_or false true = refl
-black_or false false = refl
+black_or ink old = grind arith
 
 pub or_false : (b : Bool) → b ≡ (b || false)
-or_false true = refl
-or_false false = refl
-
-or_comm : (a b : Bool) → (a || b) ≡ (b || a)
-or_comm true true = refl
-or_comm true false = refl
-or_comm false true = refl
-or_comm false false = refl
+or_false b = grind arith
 
 -- the bytes before i of a row are blackened, all of n
 pub bytes_done : (n i x : ℕ) (ink old new : List ℕ) → n ≤ i → length old ≡ n → x < 8 * n → Painted Black (λ d. ltb (d / 8) i && dot ink d) old new → dot new x ≡ (dot old x || dot ink x)
 bytes_done n i x ink old new l m h p = p.dots_are x (omega (arith, m)) ∙ ap (λ b. paint Black (b && dot ink x) (dot old x)) (lt-ltb (x / 8) i (omega arith)) ∙ black_or (dot ink x) (dot old x)
-
--- dots added to a row that others were added to
-or_more : (a r c : Bool) → (a || c || r) ≡ ((a || r) || c)
-or_more true r c = refl
-or_more false true true = refl
-or_more false true false = refl
-or_more false false true = refl
-or_more false false false = refl
 
 -- rows to which dots are added
 module _ (b : ℕ) (ink : ℕ → ℕ → Bool) where
@@ -48,23 +30,10 @@ module _ (b : ℕ) (ink : ℕ → ℕ → Bool) where
 
   pub blacker_more : (from i : ℕ) (old mid : List (List ℕ)) (new : List ℕ) → from ≤ i → i < length mid → ((x : ℕ) → x < 8 * b → dot new x ≡ (dot (get_or mid i []) x || ink i x))
       → Blacker from i old mid → Blacker from (i + 1) old (set mid i new)
-  blacker_more from i old mid new l m e p = record {
-    inside = λ k x u v h. elim (cases_eq k i) [
-      | inl y ↦ rw (y, get_or-set_same mid i new [] m) (e x h ∙ ap (λ r. dot r x || ink i x) (p.behind i (omega arith)))
-      | inr n ↦ ap (λ r. dot r x) (get_or-set_other mid i k new [] n) ∙ p.inside k x u (omega arith) h
-    ];
-    below = λ k u. get_or-set_other mid i k new [] (omega arith) ∙ p.below k u;
-    behind = λ k u. get_or-set_other mid i k new [] (omega arith) ∙ p.behind k (omega arith);
-  }
+  blacker_more from i old mid new l m e p = grind (arith, get_or-set_same, get_or-set_other)
 
   pub blacker_span : (from to end : ℕ) (old new : List (List ℕ)) → end ≡ to → Blacker from end old new → (k x : ℕ) → x < 8 * b → dot (get_or new k []) x ≡ (dot (get_or old k []) x || span from to k && ink k x)
-  blacker_span from to end old new e p k x h = elim (cases_lt k from) [
-    | inl y ↦ rw (lt-leb from k y) (ap (λ r. dot r x) (p.below k y) ∙ or_false _)
-    | inr g ↦ elim (cases_lt k to) [
-      | inl z ↦ rw (le-leb from k g, lt-ltb k to z) (p.inside k x g (omega arith) h)
-      | inr z ↦ rw (le-leb from k g, le-ltb k to z) (ap (λ r. dot r x) (p.behind k (omega arith)) ∙ or_false _)
-    ]
-  ]
+  blacker_span from to end old new e p k x h = grind arith
 
 -- the rows before k have what the rows above them had
 pub record Passed (b k : ℕ) (old new : List (List ℕ)) : Type 0 where
@@ -75,21 +44,9 @@ pub record Passed (b k : ℕ) (old new : List (List ℕ)) : Type 0 where
 pub passed_one : (b : ℕ) (old : List (List ℕ)) → Passed b 1 old old
 passed_one b old = record { some = omega arith; done = λ j x l h. (let z : j ≡ 0 = omega arith in rw z refl); rest = λ j l. refl }
 
-upto_next : (rows : List (List ℕ)) (k x : ℕ) → 0 < k → dot_upto rows k x ≡ (dot_upto rows (k - 1) x || dot (get_or rows k []) x)
-upto_next rows zero x l = absurd (omega arith)
-upto_next rows (suc k) x l = let z : suc k - 1 ≡ k = omega arith in rw z refl
-
 pub passed_more : (b k : ℕ) (old mid : List (List ℕ)) (new : List ℕ) → k < length mid → ((x : ℕ) → x < 8 * b → dot new x ≡ (dot (get_or mid k []) x || dot (get_or mid (k - 1) []) x))
     → Passed b k old mid → Passed b (k + 1) old (set mid k new)
-passed_more b k old mid new m e p = record {
-  some = omega arith;
-  done = λ j x l h. elim (cases_eq j k) [
-    | inl y ↦ rw (y, get_or-set_same mid k new [] m) (e x h ∙ ap (λ r. dot r x || dot (get_or mid (k - 1) []) x) (p.rest k (omega arith))
-        ∙ ap (λ t. dot (get_or old k []) x || t) (p.done (k - 1) x (let s = p.some in omega arith) h) ∙ or_comm (dot (get_or old k []) x) (dot_upto old (k - 1) x) ∙ sym (upto_next old k x p.some))
-    | inr n ↦ ap (λ r. dot r x) (get_or-set_other mid k j new [] n) ∙ p.done j x (omega arith) h
-  ];
-  rest = λ j l. get_or-set_other mid k j new [] (omega arith) ∙ p.rest j (omega arith);
-}
+passed_more b k old mid new m e p = grind (arith, get_or-set_same, get_or-set_other)
 
 -- white rows
 pub white_row : (n b k x : ℕ) → dot (get_or (replicate {A = List ℕ} n (replicate {A = ℕ} b 0)) k []) x ≡ false
@@ -103,62 +60,23 @@ white_upto n b zero x = white_row n b 0 x
 white_upto n b (suc k) x = ap (λ t. t || dot (get_or (replicate {A = List ℕ} n (replicate {A = ℕ} b 0)) (suc k) []) x) (white_upto n b k x) ∙ white_row n b (suc k) x
 
 pub white_runs : (n b k x : ℕ) → (let white = replicate {A = List ℕ} n (replicate {A = ℕ} b 0) in run_dot white white white n k x ≡ false)
-white_runs n b k x =
-    let white : List (List ℕ) = replicate n (replicate b 0) in
-    ap (λ t. t || (dot_upto white k x || dot_upto white (n - 1 - k) x)) (white_row n b k x)
-    ∙ ap (λ t. t || dot_upto white (n - 1 - k) x) (white_upto n b k x) ∙ white_upto n b (n - 1 - k) x
+white_runs n b k x = grind (arith, white_upto)
 
 -- a row that is passed on has more dots
 upto_set : (rows : List (List ℕ)) (i k x : ℕ) (new : List ℕ) (r : Bool) → i < length rows → dot new x ≡ (dot (get_or rows i []) x || r) → dot_upto (set rows i new) k x ≡ (dot_upto rows k x || leb i k && r)
-upto_set rows i zero x new r m e = elim (cases_eq 0 i) [
-  | inl y ↦
-      ap (λ j. dot (get_or (set rows i new) j []) x) y ∙ ap (λ l. dot l x) (get_or-set_same rows i new [] m) ∙ e ∙ ap (λ j. dot (get_or rows j []) x || r) (sym y)
-      ∙ sym (ap (λ t. dot (get_or rows 0 []) x || t && r) (le-leb i 0 (omega arith)))
-  | inr n ↦ ap (λ l. dot l x) (get_or-set_other rows i 0 new [] n) ∙ or_false _ ∙ sym (ap (λ t. dot (get_or rows 0 []) x || t && r) (lt-leb i 0 (omega arith)))
-]
-upto_set rows i (suc k) x new r m e = elim (cases_eq (suc k) i) [
-  | inl y ↦
-      let same : dot (get_or (set rows i new) (suc k) []) x ≡ (dot (get_or rows (suc k) []) x || r) =
-      ap (λ j. dot (get_or (set rows i new) j []) x) y ∙ ap (λ l. dot l x) (get_or-set_same rows i new [] m) ∙ e ∙ ap (λ j. dot (get_or rows j []) x || r) (sym y) in
-      ap (λ t. t || dot (get_or (set rows i new) (suc k) []) x) (upto_set rows i k x new r m e ∙ ap (λ t. dot_upto rows k x || t && r) (lt-leb i k (omega arith)) ∙ sym (or_false _))
-      ∙ ap (λ t. dot_upto rows k x || t) same ∙ or_assoc (dot_upto rows k x) (dot (get_or rows (suc k) []) x) r ∙ sym (ap (λ t. (dot_upto rows k x || dot (get_or rows (suc k) []) x) || t && r) (le-leb i (suc k) (omega arith)))
-  | inr n ↦
-      let still : leb i k ≡ leb i (suc k) = elim (cases_lt k i) [ inl l ↦ lt-leb i k l ∙ sym (lt-leb i (suc k) (omega arith)) | inr g ↦ le-leb i k g ∙ sym (le-leb i (suc k) (omega arith)) ] in
-      ap (λ t. t || dot (get_or (set rows i new) (suc k) []) x) (upto_set rows i k x new r m e ∙ ap (λ t. dot_upto rows k x || t && r) still)
-      ∙ ap (λ l. (dot_upto rows k x || leb i (suc k) && r) || dot l x) (get_or-set_other rows i (suc k) new [] n)
-      ∙ or_more (dot_upto rows k x) (dot (get_or rows (suc k) []) x) (leb i (suc k) && r)
-]
-  where
-    or_assoc : (a b c : Bool) → (a || (b || c)) ≡ ((a || b) || c)
-    or_assoc true b c = refl
-    or_assoc false b c = refl
-
-down_more : (a d u r : Bool) → (a || ((d || r) || u)) ≡ ((a || (d || u)) || r)
-down_more true d u r = refl
-down_more false true u r = refl
-down_more false false true true = refl
-down_more false false true false = refl
-down_more false false false true = refl
-down_more false false false false = refl
+upto_set rows i zero x new r m e = grind (arith, get_or-set_same, get_or-set_other)
+upto_set rows i (suc k) x new r m e = grind (arith, get_or-set_same, get_or-set_other, upto_set rows i k x new r m e)
 
 up_more : (a d u r : Bool) → (a || (d || (u || r))) ≡ ((a || (d || u)) || r)
-up_more true d u r = refl
-up_more false true u r = refl
-up_more false false true r = refl
-up_more false false false r = refl
+up_more a d u r = grind arith
 
 alone_more : (a d u r : Bool) → ((a || r) || (d || u)) ≡ ((a || (d || u)) || r)
-alone_more true d u r = refl
-alone_more false d u true = sym (or_comm (d || u) true)
-alone_more false d u false = or_false (d || u)
+alone_more a d u r = grind arith
 
 module _ (alone down up : List (List ℕ)) (n k x : ℕ) (l : k < n) where
   -- what runs to the last row
   pub runs_down : (from to : ℕ) (new : List ℕ) (r : Bool) → to ≡ n → from < length down → dot new x ≡ (dot (get_or down from []) x || r) → run_dot alone (set down from new) up n k x ≡ (run_dot alone down up n k x || span from to k && r)
-  runs_down from to new r t m e =
-      let here : leb from k ≡ span from to k = elim (cases_lt k from) [ inl y ↦ rw (lt-leb from k y) refl | inr g ↦ rw (le-leb from k g, lt-ltb k to (omega arith)) refl ] in
-      ap (λ v. dot (get_or alone k []) x || (v || dot_upto up (n - 1 - k) x)) (upto_set down from k x new r m e ∙ ap (λ v. dot_upto down k x || v && r) here)
-      ∙ down_more (dot (get_or alone k []) x) (dot_upto down k x) (dot_upto up (n - 1 - k) x) (span from to k && r)
+  runs_down from to new r t m e = grind (arith, upto_set)
 
   -- or from the first
   pub runs_up : (from to : ℕ) (new : List ℕ) (r : Bool) → from ≡ 0 → from < to → to ≤ n → n - to < length up → dot new x ≡ (dot (get_or up (n - to) []) x || r) → run_dot alone down (set up (n - to) new) n k x ≡ (run_dot alone down up n k x || span from to k && r)

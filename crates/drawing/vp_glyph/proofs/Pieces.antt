@@ -1,7 +1,6 @@
 -- Paragraphs, piece by piece.
-use Rattle.std.proofs.Common.{◌≡◌, ℕ, zero, suc, ◌+◌, ◌-◌, ◌<◌, ◌≤◌, List, [], ◌∷◌, length, take, drop, get_or, eqb, false, cond, refl, sym, ap, ◌∙◌, arith, sub-one, length-drop, inl, inr}
+use Rattle.std.proofs.Common.{◌≡◌, ℕ, zero, suc, ◌+◌, ◌-◌, ◌<◌, ◌≤◌, List, [], ◌∷◌, length, take, drop, get_or, eqb, false, cond, refl, sym, ap, ◌∙◌, arith, length-drop}
 use Rattle.std.proofs.lemmas.List.{drop_more}
-use Rattle.std.proofs.lemmas.Bool.{cases_Bool}
 use Rattle.vp_glyph.specs.Blocks.{pieces, first, others, last_blank}
 use Rattle.vp_glyph.specs.declared.lines.Piece.{Piece}
 use Rattle.vp_glyph.specs.declared.lines.Piece.TheVariants.{Cell}
@@ -36,8 +35,7 @@ behind_all k text at p e = let n = length-drop k (first text) in let m = ap leng
 
 -- the last blank, one cell further
 pub blank_more : (i b blank v : ℕ) (cells : List ℕ) → get_or cells i 0 ≡ b → blank ≡ last_blank (i - 1) cells → v ≡ cond (eqb b 32) i blank → v ≡ last_blank i cells
-blank_more zero b blank v cells g e w = elim (cases_Bool (eqb b 32)) [ inl t ↦ rw t at w | inr f ↦ (rw f at w) ∙ e ]
-blank_more (suc i) b blank v cells g e w = w ∙ rw (g, e, sub-one) refl
+blank_more i b blank v cells h1 h2 h3 = grind arith
 
 -- what the scan of a paragraph keeps: the last blank of the cells that it has passed
 pub record Scanned (i : ℕ) (text at : List Piece) (blank : ℕ) : Type 0 where
@@ -65,8 +63,7 @@ front_is k b cells text rest e w =
 
 -- a byte that isn't a backslash is a cell
 pub plain_piece : (b : ℕ) (text : List ℕ) → eqb b 92 ≡ false → pieces (b ∷ text) ≡ Cell b ∷ pieces text
-plain_piece b [] e = refl
-plain_piece b (next ∷ text) e = rw e refl
+plain_piece b text h1 = grind arith
 
 -- texts that begin with the same bytes, none of them a backslash, begin with the same cells
 pub same_front : (n : ℕ) (one other : List ℕ) → n ≤ length one → n ≤ length other → ((j : ℕ) → j < n → get_or one j 0 ≡ get_or other j 0) → ((j : ℕ) → j < n → eqb (get_or one j 0) 92 ≡ false)

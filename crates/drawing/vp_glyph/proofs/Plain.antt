@@ -1,5 +1,5 @@
 -- Texts that begin with cells alone, none of them a blank.
-use Rattle.std.proofs.Common.{◌≡◌, ℕ, zero, suc, ◌+◌, ◌-◌, ◌/◌, ◌%◌, ◌^◌, ◌<◌, ◌≤◌, Bool, true, false, cond, eqb, List, [], ◌∷◌, map, length, drop, get_or, replicate, w8, refl, sym, ap, ◌∙◌, arith}
+use Rattle.std.proofs.Common.{◌≡◌, ℕ, zero, suc, ◌+◌, ◌-◌, ◌/◌, ◌%◌, ◌^◌, ◌<◌, ◌≤◌, Bool, false, cond, eqb, List, [], ◌∷◌, map, length, drop, get_or, replicate, w8, refl, sym, ap, ◌∙◌, arith}
 use lib.Lanes.{zip2, mask_l, top}
 use Rattle.std.proofs.lemmas.List.{get_or-map}
 use Rattle.std.proofs.lemmas.Simd.{bitmask_splat, bit_mask_l}
@@ -9,8 +9,7 @@ use Rattle.vp_glyph.specs.declared.lines.Piece.{Piece}
 use Rattle.vp_glyph.proofs.Pieces.{plain_piece}
 
 not_one : (b : Bool) → eqb (cond b 1 0) 1 ≡ false → b ≡ false
-not_one true z = absurd cc
-not_one false z = refl
+not_one b h1 = grind arith
 
 -- a lane whose bit is 0 isn't the byte that is looked for
 pub other_byte : (byte : ℕ) (xs : List ℕ) (i : ℕ) → length xs ≡ 16 → i < 16 → bit (mask_l (map (top 7) (zip2 (λ a b. cond (eqb a b) (2 ^ 8 - 1) 0) xs (replicate 16 byte))) % 2 ^ 64) i ≡ false → eqb (get_or xs i 0) byte ≡ false

@@ -1,5 +1,5 @@
 -- Rows of a band that show the rows of a sheet.
-use Rattle.std.proofs.Common.{inl, inr, ◌≡◌, ℕ, ◌+◌, ◌-◌, ◌*◌, ◌/◌, ◌<◌, ◌≤◌, min, Bool, true, false, ltb, leb, ◌&&◌, ◌||◌, length, take, replicate, refl, sym, ap, ◌∙◌, arith, List, [], ◌∷◌, Option, Some, MatchOption, Bor, ℤ}
+use Rattle.std.proofs.Common.{inl, inr, ◌≡◌, ℕ, ◌+◌, ◌-◌, ◌*◌, ◌/◌, ◌<◌, ◌≤◌, min, Bool, false, ltb, leb, ◌&&◌, ◌||◌, length, take, replicate, refl, sym, ap, ◌∙◌, arith, List, [], ◌∷◌, Option, Some, MatchOption, Bor, ℤ}
 use Rattle.std.proofs.lemmas.Bool.{cases_lt, lt-ltb, le-ltb, le-leb, lt-leb}
 use Rattle.std.proofs.lemmas.List.{length-replicate}
 use Rattle.vp_dots.specs.Dots.{dot, shifted, span}
@@ -17,10 +17,6 @@ use Rattle.vp_glyph.proofs.Passed.{black_or, or_false}
 use Rattle.vp_glyph.proofs.Spread.{edge_at}
 use Rattle.vp_glyph.proofs.Stacks.{lines_left, lines_are, block_narrow}
 
-and_false : (b : Bool) → (b && false) ≡ false
-and_false true = refl
-and_false false = refl
-
 -- a row painted on white
 pub on_white : (n : ℕ) (at : ℤ) (f : ℕ → Bool) (row : List ℕ) (x : ℕ) → x < 8 * n → Painted Black (shifted at f) (replicate {A = ℕ} n 0) row → dot row x ≡ shifted at f x
 on_white n at f row x l p = p.dots_are x (let m = length-replicate {A = ℕ} n 0 in omega (arith, m)) ∙ black_or (shifted at f x) (dot (replicate {A = ℕ} n 0) x) ∙ ap (λ b. b || shifted at f x) (zero_dots n x)
@@ -34,10 +30,7 @@ white_or n x all = sym (ap (λ t. t || all) (zero_dots n x))
 
 -- there are rows that show the same row of the sheet as row r
 pub rows_more : (n top t h r s to : ℕ) → r < n → t ≤ top + r → top + r - t < h → s ≡ (top + r - t) * 24 / h → to ≡ min (t + edge_at 24 h (s + 1) - top) n → r < to
-rows_more n top t h r s to l a i z m =
-    let u = row_alike h (top + r - t) i in
-    let ends : top + r - t < edge_at 24 h (s + 1) = rw z u.2 in
-    omega arith
+rows_more n top t h r s to l a i z m = grind arith
 
 -- the rows before row r have ink f
 abbrev pub Shown : ℕ → ℕ → ℕ → ℤ → (ℕ → ℕ → Bool) → ℕ → (ℕ → ℕ → Bool) → (ℕ → ℕ → Bool) → Type 0
@@ -45,18 +38,8 @@ Shown n b top at f r old new = (k x : ℕ) → k < n → x < 8 * b → new k x �
 
 -- ink from row t on, h rows high, each of which shows a row of the sheet, whose ink is g
 module _ (n b top t h : ℕ) (at : ℤ) (f g : ℕ → ℕ → Bool) (e : (x y : ℕ) → f x y ≡ (leb t y && ltb (y - t) h && g x ((y - t) * 24 / h))) where
-  none_above : (k x : ℕ) → top + k < t → shifted at (λ v. f v (top + k)) x ≡ false
-  none_above k x l = shifted_none at (λ v. f v (top + k)) x (λ v. e v (top + k) ∙ ap (λ c. c && ltb (top + k - t) h && g v ((top + k - t) * 24 / h)) (lt-leb t (top + k) l))
-
-  none_below : (k x : ℕ) → t + h ≤ top + k → shifted at (λ v. f v (top + k)) x ≡ false
-  none_below k x l = shifted_none at (λ v. f v (top + k)) x (λ v. e v (top + k) ∙ ap (λ c. leb t (top + k) && c && g v ((top + k - t) * 24 / h)) (le-ltb (top + k - t) h (omega arith))
-      ∙ ap (λ c. c && g v ((top + k - t) * 24 / h)) (and_false (leb t (top + k))))
-
   pub shown_none : (r : ℕ) (old : ℕ → ℕ → Bool) → r ≡ min (t - top) n → Shown n b top at f r old old
-  shown_none r old z k x l h = elim (cases_lt k r) [
-    | inl y ↦ or_false (old k x) ∙ ap (λ c. old k x || c) (sym (ap (λ c. ltb k r && c) (none_above k x (omega arith)) ∙ and_false (ltb k r)))
-    | inr y ↦ or_false (old k x) ∙ ap (λ c. old k x || c) (sym (ap (λ c. c && shifted at (λ v. f v (top + k)) x) (le-ltb k r y)))
-  ]
+  shown_none r old z k x l h = grind arith
 
   pub shown_more : (r to s : ℕ) (old mid new : ℕ → ℕ → Bool) (row : ℕ → Bool) → Shown n b top at f r old mid → t ≤ top + r → top + r - t < h → s ≡ (top + r - t) * 24 / h → to ≡ min (t + edge_at 24 h (s + 1) - top) n
       → ((k x : ℕ) → k < n → x < 8 * b → new k x ≡ (mid k x || span r to k && row x)) → ((x : ℕ) → x < 8 * b → row x ≡ shifted at (λ v. g v s) x) → Shown n b top at f to old new
@@ -78,14 +61,10 @@ module _ (n b top t h : ℕ) (at : ℤ) (f g : ℕ → ℕ → Bool) (e : (x y :
       ]
 
   pub shown_all : (r : ℕ) (old new : ℕ → ℕ → Bool) → min (t + h - top) n ≤ r → Shown n b top at f r old new → (k x : ℕ) → k < n → x < 8 * b → new k x ≡ (old k x || shifted at (λ v. f v (top + k)) x)
-  shown_all r old new z o k x l c = o k x l c ∙ ap (λ v. old k x || v) (elim (cases_lt k r) [
-    | inl y ↦ rw (lt-ltb k r y) refl
-    | inr y ↦ ap (λ v. ltb k r && v) (none_below k x (omega arith)) ∙ and_false (ltb k r) ∙ sym (none_below k x (omega arith))
-  ])
+  shown_all r old new z o k x l c = grind arith
 
 or_assoc : (p q r : Bool) → (p || (q || r)) ≡ ((p || q) || r)
-or_assoc true q r = refl
-or_assoc false q r = refl
+or_assoc p q r = grind arith
 
 -- the dots of a row to which the lines so far were added
 module _ (sheet : Option Glyphs) (w h a b s : ℕ) (d : Alignment) (y : ℕ) (at : ℤ) (bytes : ℕ) where
@@ -124,19 +103,13 @@ module _ (sheet : Option Glyphs) (w h a b s : ℕ) (d : Alignment) (y : ℕ) (at
   pub drawn_all : (text : List ℕ) (place : ℕ) (left : Option (Bor (List ℕ))) (row : ℕ → Bool) → 0 < w → w ≤ a → y < block_height h b s
       → ((x : ℕ) → lines_dot (layout sheet w h a b s d) place (lines_left (a / w) left) x y ≡ false) → Drawn (a / w) (block_lines (a / w) text) place left row
       → (x : ℕ) → x < 8 * bytes → row x ≡ shifted at (λ v. block_dot (layout sheet w h a b s d) text v y) x
-  drawn_all text place left row p m k z o x c = o.dots_are x c ∙ shifted_same at o.done (λ v. block_dot (layout sheet w h a b s d) text v y) x
-      (λ v _. or_false (o.done v) ∙ ap (λ q. o.done v || q) (sym (z v)) ∙ sym (o.rest_is v) ∙ lines_block sheet w h a b s d text y v p m k)
+  drawn_all text place left row p m k z o x c = grind (arith, lines_block)
 
   -- all that is left was added
   pub drawn_joined : (text : List ℕ) (place : ℕ) (left : Option (Bor (List ℕ))) (lent : Bor (List ℕ)) (old new : ℕ → Bool) → 0 < w → w ≤ a → y < block_height h b s → left ≡ Some lent
       → ((x : ℕ) → x < 8 * bytes → new x ≡ (old x || shifted at (λ v. lines_dot (layout sheet w h a b s d) place (block_lines (a / w) lent.now) v y) x)) → Drawn (a / w) (block_lines (a / w) text) place left old
       → (x : ℕ) → x < 8 * bytes → new x ≡ shifted at (λ v. block_dot (layout sheet w h a b s d) text v y) x
-  drawn_joined text place left lent old new p m k e z o x c =
-      let rest = λ (v : ℕ). lines_dot (layout sheet w h a b s d) place (block_lines (a / w) lent.now) v y in
-      let all = λ (v : ℕ). lines_dot (layout sheet w h a b s d) 0 (block_lines (a / w) text) v y in
-      z x c ∙ ap (λ v. v || shifted at rest x) (o.dots_are x c)
-      ∙ sym (shifted_or at o.done rest all x (λ v. o.rest_is v ∙ ap (λ t. o.done v || lines_dot (layout sheet w h a b s d) place (lines_left (a / w) t) v y) e))
-      ∙ shifted_same at all (λ v. block_dot (layout sheet w h a b s d) text v y) x (λ v _. lines_block sheet w h a b s d text y v p m k)
+  drawn_joined text place left lent old new p m k e z o x c = grind (arith, lines_block)
 
   -- a block less wide than a cell has none
   pub drawn_narrow : (text : List ℕ) (row : Bool) (x : ℕ) → a < w → row ≡ false → row ≡ shifted at (λ v. block_dot (layout sheet w h a b s d) text v y) x

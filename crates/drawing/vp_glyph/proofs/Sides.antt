@@ -12,7 +12,6 @@ use Rattle.vp_dots.specs.declared.Op.{Op}
 use Rattle.vp_dots.proofs.Moves.{moved_then, moved_same}
 use Rattle.vp_dots.proofs.Paints.{painted_none, painted_same}
 use Rattle.vp_dots.proofs.Shifts.{met, shifted_or}
-use Rattle.vp_glyph.proofs.Drawn.{moved_none}
 use Rattle.vp_glyph.proofs.Looks.{or_dot, white_dot}
 use Rattle.vp_glyph.proofs.Spread.{quotient}
 use Rattle.vp_glyph.specs.Sheets.{Glyphs}
@@ -45,20 +44,16 @@ abbrev pub so_far : Option Glyphs → List ℕ → ℕ → ℕ → ℕ → ℕ �
 so_far sheet line w h left y i x = leb left x && ltb (x - left) (w * i) && text_dot sheet line w h (x - left) y
 
 and_false : (b : Bool) → (b && false) ≡ false
-and_false true = refl
-and_false false = refl
+and_false b = grind arith
 
 or_false : (b : Bool) → (b || false) ≡ b
-or_false true = refl
-or_false false = refl
+or_false b = grind arith
 
 or_assoc : (a b c : Bool) → (a || b || c) ≡ (a || (b || c))
-or_assoc true b c = refl
-or_assoc false b c = refl
+or_assoc a b c = grind arith
 
 true_and : (a s : Bool) → (a && true && s) ≡ (a && s)
-true_and true s = refl
-true_and false s = refl
+true_and a s = grind arith
 
 module _ (op : Op) (at : ℤ) (sheet : Option Glyphs) (cells : List ℕ) (k w h left y : ℕ) (within : k ≤ length cells) (some : 0 < w) where
   module _ (i b place : ℕ) (l : i < k) (g : get_or cells i 0 ≡ b) (e : place ≡ left + w * i) where
@@ -67,10 +62,7 @@ module _ (op : Op) (at : ℤ) (sheet : Option Glyphs) (cells : List ℕ) (k w h 
 
     -- left of the cell
     before : (x : ℕ) → x < place → so_far sheet (take k cells) w h left y (i + 1) x ≡ so_far sheet (take k cells) w h left y i x
-    before x j = let n = next in elim (cases_lt x left) [
-      | inl z ↦ rw (lt-leb left x z) refl
-      | inr o ↦ rw (lt-ltb (x - left) (w * (i + 1)) (omega arith), lt-ltb (x - left) (w * i) (omega arith)) refl
-    ]
+    before x j = grind arith
 
     -- from the cell on
     from_cell : (x : ℕ) → place ≤ x → so_far sheet (take k cells) w h left y (i + 1) x ≡ sampled_dot sheet b w h (x - place) y
@@ -89,10 +81,7 @@ module _ (op : Op) (at : ℤ) (sheet : Option Glyphs) (cells : List ℕ) (k w h 
 
     -- one cell more
     pub more : (x : ℕ) → so_far sheet (take k cells) w h left y (i + 1) x ≡ (so_far sheet (take k cells) w h left y i x || leb place x && sampled_dot sheet b w h (x - place) y)
-    more x = elim (cases_lt x place) [
-      | inl j ↦ rw (lt-leb place x j) (before x j ∙ sym (or_false (so_far sheet (take k cells) w h left y i x)))
-      | inr j ↦ from_cell x j ∙ sym (rw (le-leb place x j) (ap (λ v. v || sampled_dot sheet b w h (x - place) y) (not_yet x j)))
-    ]
+    more x = grind (arith, from_cell)
 
     pub side_more : (a c d : List ℕ) → Painted op (shifted at (so_far sheet (take k cells) w h left y i)) a c
         → Painted op (shifted at (λ x. leb place x && sampled_dot sheet b w h (x - place) y)) c d → Painted op (shifted at (so_far sheet (take k cells) w h left y (i + 1))) a d
@@ -119,16 +108,7 @@ module _ (op : Op) (at : ℤ) (sheet : Option Glyphs) (cells : List ℕ) (k w h 
   module _ (i : ℕ) (n : (x d : ℕ) → left ≤ x → x < left + w * i → pos d ≡ at +ℤ pos x → d < 0) where
     -- left of the row's first dot there is nothing
     none : (d : ℕ) → shifted at (so_far sheet (take k cells) w h left y i) d ≡ false
-    none d = elim (met at d) [
-      | inl q ↦ q.2 (so_far sheet (take k cells) w h left y i) ∙ elim (cases_lt q.0 left) [
-        | inl j ↦ rw (lt-leb left q.0 j) refl
-        | inr g ↦ elim (cases_lt (q.0 - left) (w * i)) [
-          | inl u ↦ absurd (let z = n q.0 d g (omega arith) q.1 in omega arith)
-          | inr u ↦ rw (le-ltb (q.0 - left) (w * i) u, and_false (leb left q.0)) refl
-        ]
-      ]
-      | inr q ↦ q.1 (so_far sheet (take k cells) w h left y i)
-    ]
+    none d = grind arith
 
     pub side_none : (row : List ℕ) → Painted op (shifted at (so_far sheet (take k cells) w h left y i)) row row
     side_none row = painted_none op (shifted at (so_far sheet (take k cells) w h left y i)) row (λ d l. none d)
@@ -169,12 +149,7 @@ module _ (op : Op) (at : ℤ) (sheet : Option Glyphs) (cells : List ℕ) (w h y 
   -- a row below the cells
   pub text_below : (row : List ℕ) → h ≤ y → Painted op (shifted at (λ x. text_dot sheet cells w h x y)) row row
   unfolding text_dot sampled_dot
-  text_below row l = moved_none op at (λ x. text_dot sheet cells w h x y) row (λ x. rw (le-ltb y h l) (nothing (ltb x (w * length cells)) (ltb (x % w) w) _))
-    where
-      nothing : (a b c : Bool) → (a && (b && false && c)) ≡ false
-      nothing true true c = refl
-      nothing true false c = refl
-      nothing false b c = refl
+  text_below row l = grind arith
 
   -- all cells of a text that can be seen
   pub text_all : 0 < w → (i to : ℕ) (a b : List ℕ) → to ≤ i → ((x d : ℕ) → 0 + w * to ≤ x → x < 0 + w * length cells → pos d ≡ at +ℤ pos x → 8 * length a ≤ d)

@@ -1,55 +1,33 @@
 -- Dots drawn at another width.
-use Rattle.std.proofs.Common.{◌≡◌, ℕ, ◌+◌, ◌-◌, ◌*◌, ◌/◌, ◌<◌, ◌≤◌, Bool, true, false, ltb, leb, ◌&&◌, refl, ap, ◌∙◌, arith, List, ℤ, inl, inr}
-use Rattle.std.proofs.Math.Nat.{div-lt_iff_lt-mul, le-div_iff_mul-le, div-mul-le_self, mul-le-mul_right}
-use Rattle.std.proofs.lemmas.Bool.{cases_lt, lt-ltb, le-leb}
+use Rattle.std.proofs.Common.{◌≡◌, ℕ, ◌+◌, ◌-◌, ◌*◌, ◌/◌, ◌<◌, ◌≤◌, Bool, true, false, ltb, leb, ◌&&◌, refl, arith, List, ℤ}
+use Rattle.std.proofs.lemmas.Bool.{lt-ltb, le-leb}
 use Rattle.std.proofs.lemmas.Bool.Decides.{nat_tests}
 use Rattle.vp_dots.specs.Dots.{shifted, span}
 use Rattle.vp_dots.specs.Painting.{Painted}
 use Rattle.vp_dots.specs.declared.Op.{Op}
-use Rattle.vp_dots.proofs.Moves.{moved_then, moved_same}
-use Rattle.vp_dots.proofs.Paints.{painted_none}
-use Rattle.vp_dots.proofs.Shifts.{shifted_none}
 
 -- a quotient by its bounds
 pub quotient : (a w s : ℕ) → 0 < w → s * w ≤ a → a < (s + 1) * w → a / w ≡ s
-quotient a w s p l h =
-    let low : s ≤ a / w = (le-div_iff_mul-le {k = w} {x = s} {y = a} p).1 l in
-    let high : a / w < s + 1 = (div-lt_iff_lt-mul {k = w} {x = a} {y = s + 1} p).1 h in
-    omega arith
+quotient a w s p l h = grind arith
 
 -- where dot s of n begins, drawn w wide in all
 abbrev pub edge_at : ℕ → ℕ → ℕ → ℕ
 edge_at n w s = (s * w + (n - 1)) / n
 
 pub from_edge : (n w s u : ℕ) → 0 < n → edge_at n w s ≤ u → s * w ≤ u * n
-from_edge n w s u p l =
-    let h : s * w + (n - 1) < (u + 1) * n = (div-lt_iff_lt-mul {k = n} {x = s * w + (n - 1)} {y = u + 1} p).0 (omega arith) in
-    omega arith
+from_edge n w s u p l = grind arith
 
 pub before_edge : (n w s u : ℕ) → 0 < n → u < edge_at n w s → u * n < s * w
-before_edge n w s u p l =
-    let h : (u + 1) * n ≤ s * w + (n - 1) = (le-div_iff_mul-le {k = n} {x = u + 1} {y = s * w + (n - 1)} p).0 (omega arith) in
-    omega arith
-
-pub edge_first : (n w : ℕ) → 0 < n → edge_at n w 0 ≡ 0
-edge_first n w p = let h : (0 * w + (n - 1)) / n < 1 = (div-lt_iff_lt-mul {k = n} {x = 0 * w + (n - 1)} {y = 1} p).1 (omega arith) in omega arith
+before_edge n w s u p l = grind arith
 
 pub edge_more : (n w s : ℕ) → 0 < n → edge_at n w s ≤ edge_at n w (s + 1)
-edge_more n w s p =
-    let m = div-mul-le_self (s * w + (n - 1)) n in
-    (le-div_iff_mul-le {k = n} {x = edge_at n w s} {y = (s + 1) * w + (n - 1)} p).1 (omega (arith, m))
+edge_more n w s p = grind arith
 
 pub edge_last : (n w : ℕ) → 0 < n → edge_at n w n ≡ w
-edge_last n w p =
-    let low : w ≤ edge_at n w n = (le-div_iff_mul-le {k = n} {x = w} {y = n * w + (n - 1)} p).1 (omega arith) in
-    let high : edge_at n w n < w + 1 = (div-lt_iff_lt-mul {k = n} {x = n * w + (n - 1)} {y = w + 1} p).1 (omega arith) in
-    omega arith
+edge_last n w p = grind arith
 
 pub edge_within : (n w s : ℕ) → 0 < n → s ≤ n → edge_at n w s ≤ w
-edge_within n w s p l =
-    let m : s * w ≤ n * w = mul-le-mul_right w l in
-    let high : edge_at n w s < w + 1 = (div-lt_iff_lt-mul {k = n} {x = s * w + (n - 1)} {y = w + 1} p).1 (omega arith) in
-    omega arith
+edge_within n w s p l = grind arith
 
 -- n dots from a place on, drawn so wide in all
 abbrev pub ink : ℕ → (ℕ → Bool) → ℕ → ℕ → ℕ → Bool
@@ -63,26 +41,6 @@ ink_is n glyph left width s x p k l h =
     let q : (x - left) * n / width ≡ s = quotient ((x - left) * n) width s (omega arith) low high in
     rw (le-leb left x (omega arith), lt-ltb (x - left) width (omega arith), q) refl
 
-module _ (op : Op) (at : ℤ) (f : ℕ → Bool) where
-  -- a run of ink behind what is painted
-  pub run_painted : (from to : ℕ) (a b c : List ℕ) → from ≤ to → Painted op (shifted at (λ x. ltb x from && f x)) a b → Painted op (shifted at (span from to)) b c
-      → ((x : ℕ) → from ≤ x → x < to → f x ≡ true) → Painted op (shifted at (λ x. ltb x to && f x)) a c
-  run_painted from to a b c l p q h = moved_then op at (λ x. ltb x from && f x) (span from to) (λ x. ltb x to && f x) a b c p q
-      (λ x. elim (cases_lt x from) [
-        | inl y ↦ grind (arith, nat_tests)
-        | inr g ↦ elim (cases_lt x to) [ inl z ↦ rw (h x g z) (grind (arith, nat_tests)) | inr o ↦ grind (arith, nat_tests) ]
-      ])
-      (λ x. grind (arith, nat_tests))
-
-  -- a run without ink
-  pub run_blank : (from to : ℕ) (a b : List ℕ) → from ≤ to → Painted op (shifted at (λ x. ltb x from && f x)) a b
-      → ((x : ℕ) → from ≤ x → x < to → f x ≡ false) → Painted op (shifted at (λ x. ltb x to && f x)) a b
-  run_blank from to a b l p h = moved_same op at (λ x. ltb x from && f x) (λ x. ltb x to && f x) a b
-      (λ x. elim (cases_lt x from) [
-        | inl y ↦ grind (arith, nat_tests)
-        | inr g ↦ elim (cases_lt x to) [ inl z ↦ rw (h x g z) (grind (arith, nat_tests)) | inr o ↦ grind (arith, nat_tests) ]
-      ]) p
-
 module _ (op : Op) (at : ℤ) (n : ℕ) (glyph : ℕ → Bool) (left width : ℕ) where
   -- the dots before s: all before the run is painted, and the run is all ink
   pub record Running (s from to : ℕ) (a b : List ℕ) : Type 0 where
@@ -93,43 +51,17 @@ module _ (op : Op) (at : ℤ) (n : ℕ) (glyph : ℕ → Bool) (left width : ℕ
 
   module _ (p : 0 < n) where
     pub running_none : (a : List ℕ) → Running 0 left left a a
-    running_none a = record {
-      edge_is = let e = edge_first n width p in omega (arith, e);
-      run = omega arith;
-      solid = λ x l h. absurd (omega arith);
-      painted = painted_none op (shifted at (λ x. ltb x left && ink n glyph left width x)) a (λ d l. shifted_none at (λ x. ltb x left && ink n glyph left width x) d (λ x. grind (arith, nat_tests)));
-    }
+    running_none a = grind arith
 
     -- a black dot more
     pub running_on : (s from to next : ℕ) (a b : List ℕ) → s < n → Running s from to a b → next ≡ left + edge_at n width (s + 1) → glyph s ≡ true → Running (s + 1) from next a b
-    running_on s from to next a b l r e t =
-        let m = edge_more n width s p in
-        let w = r.edge_is in
-        let g = r.run in
-        record {
-          edge_is = e;
-          run = omega arith;
-          solid = λ x j k. elim (cases_lt x to) [ inl y ↦ r.solid x j y | inr z ↦ ink_is n glyph left width s x p l (omega arith) (omega arith) ∙ t ];
-          painted = r.painted;
-        }
+    running_on s from to next a b l r e t = grind (arith, ink_is)
 
     -- a white dot more
     pub running_off : (s from to next : ℕ) (a b c : List ℕ) → s < n → Running s from to a b → Painted op (shifted at (span from to)) b c → next ≡ left + edge_at n width (s + 1) → glyph s ≡ false
         → Running (s + 1) next next a c
-    running_off s from to next a b c l r q e t =
-        let m = edge_more n width s p in
-        let w = r.edge_is in
-        record {
-          edge_is = e;
-          run = omega arith;
-          solid = λ x j k. absurd (omega arith);
-          painted = run_blank op at (ink n glyph left width) to next a c (omega arith) (run_painted op at (ink n glyph left width) from to a b c r.run r.painted q r.solid)
-              (λ x j k. ink_is n glyph left width s x p l (omega arith) (omega arith) ∙ t);
-        }
+    running_off s from to next a b c l r q e t = grind (arith, nat_tests, edge_more, ink_is)
 
     -- all dots
     pub running_all : (s from to : ℕ) (a b c : List ℕ) → s ≡ n → Running s from to a b → Painted op (shifted at (span from to)) b c → Painted op (shifted at (ink n glyph left width)) a c
-    running_all s from to a b c l r q =
-        let e = edge_last n width p in
-        let w : to ≡ left + width = r.edge_is ∙ ap (λ k. left + edge_at n width k) l ∙ omega (arith, e) in
-        moved_same op at (λ x. ltb x to && ink n glyph left width x) (ink n glyph left width) a c (λ x. grind (arith, nat_tests)) (run_painted op at (ink n glyph left width) from to a b c r.run r.painted q r.solid)
+    running_all s from to a b c l r q = grind (arith, nat_tests, edge_last)

@@ -19,21 +19,14 @@ lines_left n (Some text) = block_lines n text.now
 
 -- a line, and those behind it
 pub lines_are : (n : ℕ) (text line : List ℕ) (next : Option (Bor (List ℕ))) → MatchOption next (block_lines n text ≡ line ∷ []) (λ r. block_lines n text ≡ line ∷ block_lines n r.now) → block_lines n text ≡ line ∷ lines_left n next
-lines_are n text line None m = m
-lines_are n text line (Some r) m = m
+lines_are n text line next h1 = grind arith
 
 module _ (sheet : Option Glyphs) (w h a b s : ℕ) (d : Alignment) (x y : ℕ) where
-  -- a line with the dot
-  pub dot_found : (place : ℕ) (line : List ℕ) (rest all : List (List ℕ)) → all ≡ line ∷ rest → line_dot (layout sheet w h a b s d) place line x y ≡ true → lines_dot (layout sheet w h a b s d) place all x y ≡ true
-  dot_found place line rest all e f = rw (e, f) refl
-
   -- the line at the front of what is left has the dot
   pub front_found : (n place k : ℕ) (left next : Option (Bor (List ℕ))) (text : Bor (List ℕ)) (lent : List ℕ) (r : Bool) → left ≡ Some text → lent ≡ text.now
       → MatchOption next (block_lines n text.now ≡ take k (first (pieces text.now)) ∷ []) (λ q. block_lines n text.now ≡ take k (first (pieces text.now)) ∷ block_lines n q.now)
       → r ≡ line_dot (layout sheet w h a b s d) place (take k (first (pieces lent))) x y → r ≡ true → lines_dot (layout sheet w h a b s d) place (lines_left n left) x y ≡ true
-  front_found n place k left next text lent r e m l f t =
-      let g : line_dot (layout sheet w h a b s d) place (take k (first (pieces lent))) x y ≡ true = sym f ∙ t in
-      dot_found place (take k (first (pieces text.now))) (lines_left n next) (lines_left n left) (ap (lines_left n) e ∙ lines_are n text.now (take k (first (pieces text.now))) next l) (rw m at g)
+  front_found n place k left next text lent r e m l f t = grind arith
 
 module _ (sheet : Option Glyphs) (w h a b s : ℕ) (d : Alignment) (x y : ℕ) where
   -- a line that ends above the row
@@ -107,12 +100,12 @@ module _ (sheet : Option Glyphs) (text : List ℕ) (w h a b s : ℕ) (d : Alignm
 
   pub block_below : block_height h b s ≤ y → false ≡ block_dot (layout sheet w h a b s d) text x y
   unfolding block_dot
-  block_below l = grind (arith, le-ltb y (block_height h b s) l)
+  block_below l = grind arith
 
   -- less wide than a cell
   pub block_narrow : a < w → false ≡ block_dot (layout sheet w h a b s d) text x y
   unfolding block_dot
-  block_narrow l = grind (arith, lt-leb w a l)
+  block_narrow l = grind arith
 
   -- inside
   pub block_within : x < block_width a w → y < block_height h b s → w ≤ a → lines_dot (layout sheet w h a b s d) 0 (block_lines (a / w) text) x y ≡ block_dot (layout sheet w h a b s d) text x y

@@ -2,10 +2,9 @@
 use Rattle.std.proofs.Common.{inl, inr, ◌≡◌, ℕ, ◌+◌, ◌-◌, ◌*◌, ◌/◌, ◌<◌, ◌≤◌, Bool, true, false, eqb, ltb, leb, ◌&&◌, ◌||◌, refl, sym, ap, ◌∙◌, arith, ℤ, pos, negsuc, ◌+ℤ◌, ◌<ℤ◌, ◌≤ℤ◌}
 use Rattle.std.proofs.Math.Nat.{div-lt_iff_lt-mul, le-div_iff_mul-le}
 use Rattle.std.proofs.lemmas.Int.{ints}
-use Rattle.std.proofs.lemmas.Bool.{cases_lt, cases_eq, lt-ltb, le-ltb, lt-leb, le-leb}
-use Rattle.std.proofs.lemmas.Bool.Decides.{nat_tests}
+use Rattle.std.proofs.lemmas.Bool.{cases_lt, lt-ltb, le-ltb, lt-leb, le-leb}
 use Rattle.vp_dots.specs.Dots.{shifted, span}
-use Rattle.vp_dots.proofs.Shifts.{met, shifted_same, shifted_or, shifted_none}
+use Rattle.vp_dots.proofs.Shifts.{met, shifted_same, shifted_or}
 use Rattle.vp_glyph.proofs.Masks.{edges_are}
 use Rattle.vp_glyph.proofs.Spread.{edge_at, from_edge, before_edge, ink}
 
@@ -26,25 +25,7 @@ place_meets (negsuc a) place r d l below above = elim (cases_lt (d + (a + 1)) pl
 
 -- and what lies between two of them
 span_meets : (at : ℤ) (p q r s d : ℕ) → leb r d ≡ shifted at (leb p) d → leb s d ≡ shifted at (leb q) d → span r s d ≡ shifted at (span p q) d
-span_meets at p q r s d e f = elim (met at d) [
-  | inl m ↦
-      let low : leb r d ≡ leb p m.0 = e ∙ m.2 (leb p) in
-      let high : ltb d s ≡ ltb m.0 q = turned s d q m.0 (f ∙ m.2 (leb q)) in
-      ap (λ t. t && ltb d s) low ∙ ap (λ t. leb p m.0 && t) high ∙ sym (m.2 (span p q))
-  | inr n ↦ ap (λ t. t && ltb d s) (e ∙ n.1 (leb p)) ∙ sym (n.1 (span p q))
-]
-  where
-    turned : (s d q x : ℕ) → leb s d ≡ leb q x → ltb d s ≡ ltb x q
-    turned s d q x e = elim (cases_lt d s) [
-      | inl l ↦ elim (cases_lt x q) [
-        | inl m ↦ lt-ltb d s l ∙ sym (lt-ltb x q m)
-        | inr m ↦ absurd (let a = lt-leb s d l in let b = le-leb q x m in cc)
-      ]
-      | inr l ↦ elim (cases_lt x q) [
-        | inl m ↦ absurd (let a = le-leb s d l in let b = lt-leb q x m in cc)
-        | inr m ↦ le-ltb d s l ∙ sym (le-ltb x q m)
-      ]
-    ]
+span_meets at p q r s d e f = grind arith
 
 module _ (at : ℤ) (left w : ℕ) (g : ℕ → Bool) where
   -- the dots before s of a cell
@@ -59,32 +40,22 @@ module _ (at : ℤ) (left w : ℕ) (g : ℕ → Bool) where
   ]
     where
       moved : (a b : ℕ) → left ≤ x → span a b (x - left) ≡ span (left + a) (left + b) x
-      moved a b o = grind (arith, nat_tests, o)
+      moved a b o = grind arith
 
   one_more : (s x : ℕ) → before (s + 1) x ≡ (before s x || g s && (leb left x && ltb (x - left) w && eqb ((x - left) * 12 / w) s))
-  one_more s x = elim (cases_eq ((x - left) * 12 / w) s) [
-    | inl y ↦ (let t : g ((x - left) * 12 / w) ≡ g s = ap g y in rw t (grind (arith, nat_tests)))
-    | inr n ↦ grind (arith, nat_tests)
-  ]
+  one_more s x = grind arith
 
   shifted_if : (a : Bool) (f : ℕ → Bool) (d : ℕ) → shifted at (λ x. a && f x) d ≡ (a && shifted at f d)
-  shifted_if true f d = refl
-  shifted_if false f d = shifted_none at (λ x. false && f x) d (λ x. refl)
+  shifted_if a f d = grind arith
 
   or_assoc : (a b c : Bool) → (a || b || c) ≡ (a || (b || c))
-  or_assoc true b c = refl
-  or_assoc false b c = refl
+  or_assoc a b c = grind arith
 
   or_false : (a : Bool) → a ≡ (a || false)
-  or_false true = refl
-  or_false false = refl
+  or_false a = grind arith
 
   pub wide_none : (s : ℕ) (old : Bool) (d : ℕ) → s ≡ 0 → old ≡ (old || shifted at (before s) d)
-  wide_none s old d e = or_false old ∙ ap (λ t. old || t) (sym (shifted_none at (before s) d (λ x. rw (le-ltb ((x - left) * 12 / w) s (omega arith)) (nothing (leb left x && ltb (x - left) w)))))
-    where
-      nothing : (a : Bool) → (a && false) ≡ false
-      nothing true = refl
-      nothing false = refl
+  wide_none s old d e = grind arith
 
   -- nor where those before s lie before the row
   pub wide_hidden : (s from d : ℕ) (old : Bool) → s ≤ 12 → leb from d ≡ shifted at (leb (left + edge_at 12 w s)) d → from ≡ 0 → old ≡ (old || shifted at (before s) d)

@@ -6,7 +6,7 @@ ghost use Rattle.vp_glyph.specs.Halves.{half_dot, front_dot, AreEdges, AreInked}
 ghost use Rattle.vp_glyph.specs.Layouts.{layout_of};
 
 use crate::block::Block;
-use crate::kept::Kept;
+use crate::kept::KeptLines;
 use crate::lines::hand_line;
 use vp_dots::{Small, edges, inked};
 
@@ -161,7 +161,7 @@ fn zeros_from(bits: u64, s: u32) -> u32
 
 /// The first dots of the rows of the sheet on which a line stands, and which of them are to be looked at.
 #[derive(Clone, Copy)]
-pub struct Shown {
+pub struct SheetRows {
     pub rows: [u32; 24],
     edges: u64,
     inked: u64,
@@ -169,13 +169,13 @@ pub struct Shown {
     ghost inked_are: { AreInked rows 24 inked },
 }
 
-impl Shown {
+impl SheetRows {
     /// These rows.
     #[inline(always)]
-    pub fn of(rows: [u32; 24]) -> Shown
+    pub fn of(rows: [u32; 24]) -> SheetRows
         ensures { result.rows ≡ rows }
     {
-        Shown {
+        SheetRows {
             rows,
             edges: edges_of(&rows),
             inked: inked_of(&rows),
@@ -242,7 +242,7 @@ impl Starts {
 /// Adds to the fronts of the first `seen` of N rows, the first of which is row `top`, the rows of the sheet
 /// that are drawn as high as a cell from row `above` on: those that are alike at once.
 fn spread<const N: usize>(
-    shown: &Shown,
+    shown: &SheetRows,
     above: u32,
     starts: &Starts,
     top: u32,
@@ -294,14 +294,14 @@ impl<A: Small> Block<'_, A> {
         let (above, text) = self.first_line(top);
         let mut place = above;
         let mut left = Some(text);
-        let mut kept = Kept::new(text);
+        let mut kept = KeptLines::new(text);
         let mut counter = 0u64;
         while let Some(text) = left {
             if u64::from(top) + seen as u64 <= u64::from(place * self.pitch) {
                 return counter;
             }
             if self.pitch == 0 || place + 1 >= self.rows {
-                let shown = Shown::of(self.joined(text, at, &mut counter));
+                let shown = SheetRows::of(self.joined(text, at, &mut counter));
                 spread(
                     &shown,
                     place * self.pitch,

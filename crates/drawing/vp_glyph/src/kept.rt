@@ -5,7 +5,7 @@ ghost use Rattle.vp_glyph.specs.Kept.{IsDrawn, latest_of};
 ghost use Rattle.vp_glyph.specs.Layouts.{layout_of, AreRowsOf};
 
 use crate::block::Block;
-use crate::fronts::Shown;
+use crate::fronts::SheetRows;
 use crate::lines::Line;
 use vp_dots::Small;
 
@@ -13,7 +13,7 @@ use vp_dots::Small;
 #[derive(Clone, Copy)]
 pub struct DrawnLine<'a> {
     pub line: Line<'a>,
-    pub shown: Shown,
+    pub shown: SheetRows,
 }
 
 /// Which of two lines was shown last.
@@ -25,13 +25,13 @@ pub enum Latest {
 
 /// Two lines that were drawn, each in its place, and which of them was shown last.
 #[derive(Drop)]
-pub struct Kept<'a> {
+pub struct KeptLines<'a> {
     pub first: DrawnLine<'a>,
     pub second: DrawnLine<'a>,
     pub latest: Latest,
 }
 
-impl<'a> Kept<'a> {
+impl<'a> KeptLines<'a> {
     /// Two lines of a text without a cell.
     pub fn new(text: &'a [u8]) -> Self
         ensures first { result.first.shown.rows ≡ replicate 24 0 }
@@ -40,9 +40,9 @@ impl<'a> Kept<'a> {
     {
         let white = DrawnLine {
             line: Line { text, cells: 0 },
-            shown: Shown::of([0; 24]),
+            shown: SheetRows::of([0; 24]),
         };
-        Kept {
+        KeptLines {
             first: white,
             second: white,
             latest: Latest::Second,
@@ -51,7 +51,7 @@ impl<'a> Kept<'a> {
 
     /// The rows of the line that was shown last.
     #[inline(always)]
-    pub fn latest(&self) -> &Shown
+    pub fn latest(&self) -> &SheetRows
         ensures { result.now ≡ (latest_of self.now.latest self.now.first self.now.second).shown }
     {
         match self.latest {
@@ -92,7 +92,7 @@ impl<'a> Kept<'a> {
     {
         let drawn = DrawnLine {
             line,
-            shown: Shown::of(rows),
+            shown: SheetRows::of(rows),
         };
         match self.latest {
             Latest::First => {
@@ -110,7 +110,7 @@ impl<'a> Kept<'a> {
 impl<A: Small> Block<'_, A> {
     /// Keeps a line and the rows of the sheet on which it stands: it is drawn only if it is like neither of
     /// the two that are kept. The cells that are drawn are counted.
-    pub fn keep<'t>(&self, line: Line<'t>, at: i64, kept: &mut Kept<'t>, counter: &mut u64)
+    pub fn keep<'t>(&self, line: Line<'t>, at: i64, kept: &mut KeptLines<'t>, counter: &mut u64)
         requires cells { line.cells ≤ length (first (pieces line.text.now)) }
         requires most { line.cells ≤ self.now.wide / self.now.w }
         requires first { IsDrawn (layout_of self.now) at kept.old.first }

@@ -1,4 +1,4 @@
-use Rattle.std.proofs.Common.{arith, length, ◌≡◌, ◌*◌, ◌≤◌, refl, sym, w64}
+use Rattle.std.proofs.Common.{arith, refl, sym, w64}
 use Rattle.std.proofs.Math.Nat.{mul-le-mul_left, mul-le-mul_right}
 use Rattle.std.proofs.lemmas.Int.{to_z-of_z}
 use Rattle.vp_glyph.specs.Blocks.{pieces, first}
@@ -17,9 +17,7 @@ loop-i-init g c = record {
 }
 
 pub unreachable-requires : goal.unreachable-requires
-unreachable-requires g c =
-    let all : length (first (pieces c.args.line.text.now)) ≡ c.loop-i._i = behind_all c.loop-i._i _ _ c.loop-i.invariant.behind c.in_default.ensures in
-    omega (arith, c.seen-from.ensures.last)
+unreachable-requires g c = grind (arith, behind_all, c.loop-i.invariant.behind)
 
 pub loop-i-preserved : goal.loop-i-preserved
 loop-i-preserved g c = record {
@@ -32,9 +30,7 @@ loop-i-preserved g c = record {
 }
 
 pub overflow_add-painted : goal.overflow_add-painted
-overflow_add-painted g c =
-    let few : 1 * c.args.line.cells ≤ c.args.stretch.now.width * c.args.line.cells = mul-le-mul_right c.args.line.cells (omega (arith, c.requires.w)) in
-    omega (arith, few, c.requires.fits, c.loop-i.invariant.counted, c.seen-from.ensures.last)
+overflow_add-painted g c = grind (arith, mul-le-mul_right, c.requires.fits)
 
 pub returns : goal.returns
 returns g c = rw (sym (to_z-of_z w64 c.args.at c.ranges.at)) (record {

@@ -1,17 +1,10 @@
-use Rattle.std.proofs.Common.{◌≡◌, ap, arith, ◌∙◌}
+use Rattle.std.proofs.Common.{arith}
 use Rattle.std.proofs.lemmas.List.{length-set}
-use Rattle.vp_dots.specs.Dots.{span}
 use Rattle.vp_glyph.proofs.Gathered.{blackened_more}
 use Rattle.vp_glyph.proofs.fronts.blacken.Goals as goal
 
 pub loop-i-preserved : goal.loop-i-preserved
-loop-i-preserved g c = record {
-  count = length-set c.loop-i.halves c.loop-i.i _ ∙ c.loop-i.invariant.count;
-  after = omega arith;
-  blackened = blackened_more c.args.ink c.args.from c.loop-i.i c.args.halves.now c.loop-i.halves c.loop-i.invariant.after (omega (arith, c.loop-i.invariant.count)) c.loop-i.invariant.blackened;
-}
+loop-i-preserved g c = grind (arith, length-set, blackened_more, c.loop-i.invariant.count)
 
 pub returns-clause-outside : goal.returns-clause-outside
-returns-clause-outside g c = λ i e.
-    let end : c.loop-i.i ≡ c.args.to = omega arith in
-    c.loop-i.invariant.blackened.outside i (ap (λ n. span c.args.from n i) end ∙ e)
+returns-clause-outside g c = grind arith

@@ -1,6 +1,5 @@
-use Rattle.std.proofs.Common.{◌≡◌, ◌+◌, ap, sym, arith, ◌∙◌}
+use Rattle.std.proofs.Common.{◌≡◌, ◌+◌, sym, arith, ◌∙◌}
 use Rattle.std.proofs.lemmas.List.{length-set}
-use Rattle.vp_dots.specs.Dots.{span}
 use Rattle.vp_glyph.proofs.Gathered.{blackened_more}
 use Rattle.vp_glyph.proofs.fronts.blacken_next.Goals as goal
 
@@ -13,6 +12,4 @@ loop-i-preserved g c =
     }
 
 pub returns-clause-outside : goal.returns-clause-outside
-returns-clause-outside g c = λ i e.
-    let end : c.loop-i.i ≡ g.row.M = omega arith in
-    c.loop-i.invariant.blackened.outside i (ap (λ n. span c.args.from (c.args.from + n) i) end ∙ e)
+returns-clause-outside g c = grind arith

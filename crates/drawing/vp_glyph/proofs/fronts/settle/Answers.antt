@@ -1,5 +1,5 @@
 use Rattle.std.proofs.Common.{arith}
-use Rattle.vp_glyph.proofs.Gathered.{settled_none, settled_white, settled_more, settled_all}
+use Rattle.vp_glyph.proofs.Gathered.{settled_none, settled_white, settled_all}
 use Rattle.vp_glyph.proofs.fronts.settle.Goals as goal
 use Rattle.vp_glyph.proofs.fronts.settle.Goals.{then-from, else-from}
 
@@ -10,10 +10,7 @@ pub loop-k-preserved-then-groups-k-eq0 : goal.loop-k-preserved-then-groups-k-eq0
 loop-k-preserved-then-groups-k-eq0 g c = settled_white _ _ _ _ _ c.loop-k.invariant c.if-groups-k-eq0.true
 
 pub loop-k-preserved : goal.loop-k-preserved
-loop-k-preserved g c = elim c.if-from.branch [
-  | then-from w ↦ (let m = w.if-from.true in rw w.fronts-is (settled_more _ _ _ _ _ c.loop-k.invariant _ _ _ (omega arith) (omega arith) w.blacken_next.ensures.inside w.blacken_next.ensures.outside))
-  | else-from w ↦ (let m = w.if-from.false in rw w.fronts-is (settled_more _ _ _ _ _ c.loop-k.invariant _ _ _ (omega arith) (omega arith) w.blacken.ensures.inside w.blacken.ensures.outside))
-]
+loop-k-preserved g c = grind arith
 
 pub returns : goal.returns
 returns g c = settled_all _ _ _ _ _ (omega arith) c.loop-k.invariant

@@ -1,4 +1,4 @@
-use Rattle.std.proofs.Common.{ℕ, arith, length, ◌≡◌, ◌∙◌, ◌+◌, ◌*◌, ◌<◌, ◌≤◌, ap, ◌||◌, get_or, inl, inr, refl, sym, w64}
+use Rattle.std.proofs.Common.{ℕ, arith, ◌∙◌, ◌+◌, ◌*◌, ◌<◌, ◌≤◌, ap, ◌||◌, get_or, inl, inr, refl, sym, w64}
 use Rattle.std.proofs.Math.Nat.{mul-le-mul_left, mul-le-mul_right}
 use Rattle.std.proofs.lemmas.Bool.{cases_lt}
 use Rattle.std.proofs.lemmas.Int.{to_z-of_z}
@@ -20,9 +20,7 @@ few : (w k cells from : ℕ) → 0 < w → w * k ≤ from → from ≤ w * cells
 few w k cells from p l m = elim (cases_lt cells k) [ inl y ↦ absurd (let o : w * (cells + 1) ≤ w * k = mul-le-mul_left w (let z : cells + 1 ≤ k = omega arith in z) in omega arith) | inr g ↦ g ]
 
 pub behind_cells-rest-requires : goal.behind_cells-rest-requires
-behind_cells-rest-requires g c =
-    let upto = few c.args.stretch.now.width c.cells_within-k.result c.args.line.cells c.seen_dots-from.result.0 c.requires.w c.cells_within-k.ensures c.seen_dots-from.ensures.first in
-    omega (arith, upto, c.requires.cells)
+behind_cells-rest-requires g c = grind (arith, few, c.cells_within-k.ensures)
 
 pub loop-k-init : goal.loop-k-init
 loop-k-init g c =
@@ -44,10 +42,7 @@ add_rows-requires g c =
     record { fits = omega (arith, room, c.requires.fits) }
 
 pub unreachable-requires : goal.unreachable-requires
-unreachable-requires g c =
-    let all : length (first (pieces c.args.line.text.now)) ≡ c.loop-k.k = behind_all c.loop-k.k _ _ c.loop-k.invariant.behind c.in_default.ensures in
-    let more = begun c.args.stretch.now.width c.loop-k.k c.args.line.cells c.seen_dots-from.result.1 (omega arith) (omega (arith, c.seen_dots-from.ensures.last)) in
-    omega (arith, c.requires.cells, more, all)
+unreachable-requires g c = grind (arith, behind_all, begun, c.in_default.ensures)
 
 pub loop-k-preserved : goal.loop-k-preserved
 loop-k-preserved g c =
@@ -64,15 +59,10 @@ loop-k-preserved g c =
     }
 
 pub loop-k-smaller : goal.loop-k-smaller
-loop-k-smaller g c =
-    let more = begun c.args.stretch.now.width c.loop-k.k c.args.line.cells c.seen_dots-from.result.1 (omega arith) (omega (arith, c.seen_dots-from.ensures.last)) in
-    omega (arith, more)
+loop-k-smaller g c = grind arith
 
 pub overflow_add-drawn : goal.overflow_add-drawn
-overflow_add-drawn g c =
-    let more = begun c.args.stretch.now.width c.loop-k.k c.args.line.cells c.seen_dots-from.result.1 (omega arith) (omega (arith, c.seen_dots-from.ensures.last)) in
-    let few : 1 * c.args.line.cells ≤ c.args.stretch.now.width * c.args.line.cells = mul-le-mul_right c.args.line.cells (omega (arith, c.requires.w)) in
-    omega (arith, more, few, c.requires.fits, c.loop-k.invariant.counted)
+overflow_add-drawn g c = grind (arith, begun, mul-le-mul_right, c.requires.w)
 
 pub returns : goal.returns
 returns g c = rw (sym (to_z-of_z w64 c.args.at c.ranges.at)) (record {

@@ -1,12 +1,9 @@
-use Rattle.std.proofs.Common.{arith, length, ◌≡◌}
-use Rattle.vp_glyph.specs.Blocks.{pieces, first}
+use Rattle.std.proofs.Common.{arith}
 use Rattle.vp_glyph.proofs.Pieces.{behind_all, behind_more}
 use Rattle.vp_glyph.proofs.lines.behind_cells.Goals as goal
 
 pub unreachable-requires : goal.unreachable-requires
-unreachable-requires c =
-    let all : length (first (pieces c.args.text.now)) ≡ c.loop-i._i = behind_all c.loop-i._i _ _ c.loop-i.invariant c.in_default.ensures in
-    omega arith
+unreachable-requires c = grind (arith, behind_all)
 
 pub loop-i-preserved : goal.loop-i-preserved
 loop-i-preserved c = behind_more c.loop-i._i _ _ _ _ c.loop-i.invariant c.in-Some.ensures

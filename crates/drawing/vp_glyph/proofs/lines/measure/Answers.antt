@@ -1,4 +1,4 @@
-use Rattle.std.proofs.Common.{arith, length, ◌≡◌, ◌+◌, ◌-◌, ap, ◌∙◌, eq-eqb}
+use Rattle.std.proofs.Common.{arith, ◌≡◌, ◌+◌, ◌-◌, ap, ◌∙◌, eq-eqb}
 use Rattle.std.proofs.lemmas.Bool.{ne_eqb}
 use Rattle.vp_glyph.specs.Blocks.{pieces, first, last_blank}
 use Rattle.vp_glyph.proofs.Pieces.{scan_more, behind_all, blank_more, cell_is}
@@ -11,14 +11,10 @@ loop-i-preserved c =
     (elim c.if-b-eq32.branch [ then-b-eq32 w ↦ rw (eq-eqb c.in-Some.b 32 w.if-b-eq32.true) w.blank-is | else-b-eq32 w ↦ rw (ne_eqb c.in-Some.b 32 w.if-b-eq32.false) w.blank-is ])
 
 pub returns-in_default-clause-cells : goal.returns-in_default-clause-cells
-returns-in_default-clause-cells c =
-    let all : length (first (pieces c.args.text.now)) ≡ c.loop-i.i = behind_all c.loop-i.i _ _ c.loop-i.invariant.behind c.in_default.ensures in
-    omega arith
+returns-in_default-clause-cells c = grind (arith, behind_all)
 
 pub returns-in_default-next_cell-clause-cells : goal.returns-in_default-next_cell-clause-cells
-returns-in_default-next_cell-clause-cells c =
-    let all : length (first (pieces c.args.text.now)) ≡ c.loop-i.i = behind_all c.loop-i.i _ _ c.loop-i.invariant.behind c.in_default-next_cell.ensures in
-    omega arith
+returns-in_default-next_cell-clause-cells c = grind (arith, behind_all)
 
 pub returns-clause-blank : goal.returns-clause-blank
 returns-clause-blank c =

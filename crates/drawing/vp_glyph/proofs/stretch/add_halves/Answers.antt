@@ -1,7 +1,5 @@
-use Rattle.std.proofs.Common.{◌≡◌, arith, ◌∙◌, ap, ltb, ◌&&◌, ◌||◌, get_or}
+use Rattle.std.proofs.Common.{arith, ◌∙◌}
 use Rattle.std.proofs.lemmas.List.{length-set}
-use Rattle.vp_dots.specs.Words.{word_dot}
-use Rattle.vp_glyph.specs.Halves.{half_dot}
 use Rattle.vp_glyph.proofs.Gathered.{grown_more}
 use Rattle.vp_glyph.proofs.stretch.add_halves.Goals as goal
 
@@ -12,6 +10,4 @@ loop-r-preserved c = record {
 }
 
 pub returns : goal.returns
-returns c =
-    let all : c.loop-r.r ≡ c.args.high = omega arith in
-    λ r d n l. c.loop-r.invariant.grown r d n l ∙ ap (λ k. half_dot (get_or c.args.halves.now r 0) d || ltb r k && word_dot (get_or c.args.cell.now r 0) d) all
+returns c = grind arith

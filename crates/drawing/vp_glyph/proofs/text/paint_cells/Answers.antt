@@ -1,4 +1,4 @@
-use Rattle.std.proofs.Common.{arith, refl, length, sym, w64, ◌*◌, ◌≤◌}
+use Rattle.std.proofs.Common.{arith, refl, length, sym, w64, ◌*◌}
 use Rattle.std.proofs.Math.Nat.{mul-le-mul_left, mul-le-mul_right}
 use Rattle.std.proofs.lemmas.Int.{to_z-of_z}
 use Rattle.vp_glyph.proofs.Handed.{text_unseen, seen_some, no_text}
@@ -29,9 +29,7 @@ loop-k-preserved g c = record {
 }
 
 pub overflow_add-painted : goal.overflow_add-painted
-overflow_add-painted g c =
-    let few : 1 * length c.args.text.now ≤ c.args.stretch.now.width * length c.args.text.now = mul-le-mul_right (length c.args.text.now) (omega (arith, c.requires.some)) in
-    omega (arith, few, c.requires.fits, c.loop-k.invariant.counted, c.seen-from.ensures.last)
+overflow_add-painted g c = grind (arith, mul-le-mul_right, c.requires.fits)
 
 pub returns : goal.returns
 returns g c = rw (sym (to_z-of_z w64 c.args.at c.ranges.at)) (record {

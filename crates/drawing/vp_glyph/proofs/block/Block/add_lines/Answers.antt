@@ -11,15 +11,7 @@ use Rattle.vp_glyph.proofs.block.Block.add_lines.Goals.{then-self-eq0-via-then-s
 
 pub loop-left-init : goal.loop-left-init
 loop-left-init g c =
-    let b = c.args.self.now in
-    record {
-      place_within = omega arith;
-      first_is = rw (c.new-kept.ensures.first, c.new-kept.ensures.first_cells) (rows_none b.sheet.now b.w b.h b.wide b.rows b.pitch b.alignment _ _ refl);
-      second_is = rw (c.new-kept.ensures.second, c.new-kept.ensures.first, c.new-kept.ensures.first_cells) (rows_none b.sheet.now b.w b.h b.wide b.rows b.pitch b.alignment _ _ refl);
-      drawn = λ i l. drawn_none b.sheet.now b.w b.h b.wide b.rows b.pitch b.alignment (c.args.top + i) _ 4 _ _ _ _ _ (λ x. c.requires.white i x) (λ x. c.first_line-above.ensures.lines x (c.args.top + i) (omega arith));
-      counted = omega (arith, c.first_line-above.ensures.less);
-      none = λ e i x. c.requires.white i x;
-    }
+    grind (arith, rows_none, drawn_none, c.new-kept.ensures.first, c.new-kept.ensures.first_cells, c.requires.white)
 
 pub loop-left-preserved : goal.loop-left-preserved
 loop-left-preserved g c =
@@ -30,10 +22,7 @@ loop-left-preserved g c =
       second_is = c.keep.ensures.second;
       drawn = λ i l. drawn_more b.sheet.now b.w b.h b.wide b.rows b.pitch b.alignment (c.args.top + i) _ 4 _ _ c.loop-left.place c.hand_line.result.0.cells _ c.loop-left.left c.hand_line.result.1 c.in-Some.text c.hand_line.result.0.text.now _ _
           (c.loop-left.invariant.drawn i l) c.in-Some.is c.hand_line.ensures.text c.hand_line.ensures.lines (λ x m. line_added b.sheet.now b.w b.h b.wide b.rows b.pitch b.alignment _ x _ c.loop-left.place _ _ _ _ m (c.spread-in-Some.ensures i x l m ∙ ap (λ h. front_dot 16 c.loop-left.groups c.loop-left.fronts i x || shown c.latest.result.now.rows (c.loop-left.place * b.pitch) h (c.args.top + i) x) c.of-starts.ensures) (rw c.latest.ensures c.keep.ensures.line)) (omega arith);
-      counted =
-          let less = less_left c.hand_line.result.0.cells c.in-Some.text.now c.hand_line.result.1 c.hand_line.ensures.less in
-          let left = ap pieces_left c.in-Some.is in
-          omega (arith, less, left, c.loop-left.invariant.counted, c.hand_line.ensures.counted, c.keep.ensures.most);
+      counted = grind (arith, less_left, c.hand_line.ensures.less, c.loop-left.invariant.counted);
       none = λ e. absurd (omega (arith, e, c.hand_line.ensures.counted, c.keep.ensures.counted));
     }
 

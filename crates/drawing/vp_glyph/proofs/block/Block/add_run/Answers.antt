@@ -1,9 +1,8 @@
-use Rattle.std.proofs.Common.{ℕ, ◌-◌, ◌≡◌, ◌∙◌, ◌||◌, ◌&&◌, ap, rules, arith, length, take, get_or, [], sym, w64, to_z, of_z}
+use Rattle.std.proofs.Common.{ℕ, ◌-◌, ◌≡◌, rules, arith, length, take, get_or, [], sym, w64, to_z, of_z}
 use Rattle.std.proofs.lemmas.Int.{to_z-of_z}
-use Rattle.vp_dots.specs.Dots.{shifted, span}
+use Rattle.vp_dots.specs.Dots.{shifted}
 use Rattle.vp_glyph.specs.Blocks.{pieces, first, line_dot}
 use Rattle.vp_glyph.specs.Layouts.{layout_of, sheet_rows}
-use Rattle.vp_glyph.specs.Runs.{run_dot}
 use Rattle.vp_glyph.proofs.Passed.{runs_down, runs_up}
 use Rattle.vp_glyph.proofs.Sheeted.{blackened}
 use Rattle.vp_glyph.proofs.block.Block.add_run.Goals as goal
@@ -35,10 +34,4 @@ returns-then-from-eq0 g c =
     }
 
 pub returns : goal.returns
-returns g c =
-    let r = c.args.rows.now in
-    rw (sym (to_z-of_z w64 c.args.at c.ranges.at)) (record {
-      dots = λ k x l h. c.blacken.ensures k x l h ∙ ap (λ v. run_dot r.alone r.down r.up 32 k x || (span c.args.from c.args.to k && v)) (c.sheet_row.ensures.row x h);
-      counted = c.sheet_row.ensures.counted;
-      most = c.sheet_row.ensures.most;
-    })
+returns g c = grind (arith, to_z-of_z, c.sheet_row.ensures.row)

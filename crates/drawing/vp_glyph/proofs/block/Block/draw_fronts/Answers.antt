@@ -1,4 +1,4 @@
-use Rattle.std.proofs.Common.{arith, sym, w64, ◌+◌, ◌∙◌, ap}
+use Rattle.std.proofs.Common.{arith, ◌+◌, ◌∙◌, ap}
 use Rattle.std.proofs.lemmas.Int.{to_z-of_z}
 use Rattle.vp_glyph.specs.Halves.{half_dot}
 use Rattle.vp_glyph.proofs.Handed.{seen_some, lines_fit}
@@ -20,8 +20,4 @@ pub add_lines-counter-requires : goal.add_lines-counter-requires
 add_lines-counter-requires g c = (omega (arith, c.requires.few), (omega arith, (c.requires.few, (c.requires.seen, λ i x. no_front 80 _ i x (c.requires.white i)))))
 
 pub returns : goal.returns
-returns g c = rw (sym (to_z-of_z w64 c.args.at c.ranges.at)) (record {
-  drawn = λ i x l m k. c.settle.ensures i x (omega (arith, l, c.requires.seen)) m ∙ c.add_lines-counter.ensures.added i x l m k;
-  most = omega (arith, c.add_lines-counter.ensures.most, lines_fit c.args.self.now.text.now);
-  some = λ i x l m t. seen_some _ _ (λ e. c.settle.ensures i x l m ∙ c.add_lines-counter.ensures.none e i x) t;
-})
+returns g c = grind (arith, to_z-of_z, lines_fit, seen_some, c.settle.ensures, c.add_lines-counter.ensures.added)

@@ -41,22 +41,10 @@ loop-k-preserved g c =
     }
 
 pub blacken-requires : goal.blacken-requires
-blacken-requires g c =
-    let b = c.args.self.now in
-    let begun = c.loop-k.invariant.begun in
-    let end = c.rows_above-end.ensures in
-    let to = c.rows_above-to.ensures ∙ ap (λ e. min (c.args.place * b.pitch + e - c.args.top) 32) c.first_row.ensures.row in
-    let more = rows_more 32 c.args.top (c.args.place * b.pitch) b.h c.loop-k.k _ _ (omega (arith, end)) (omega (arith, begun, end)) (omega (arith, begun, end)) c.source_row-s.ensures to in
-    record { some = more; to = omega (arith, to) }
+blacken-requires g c = grind (arith, rows_more, c.loop-k.invariant.begun, c.rows_above-to.ensures)
 
 pub loop-k-smaller : goal.loop-k-smaller
-loop-k-smaller g c =
-    let b = c.args.self.now in
-    let begun = c.loop-k.invariant.begun in
-    let end = c.rows_above-end.ensures in
-    let to = c.rows_above-to.ensures ∙ ap (λ e. min (c.args.place * b.pitch + e - c.args.top) 32) c.first_row.ensures.row in
-    let more = rows_more 32 c.args.top (c.args.place * b.pitch) b.h c.loop-k.k _ _ (omega (arith, end)) (omega (arith, begun, end)) (omega (arith, begun, end)) c.source_row-s.ensures to in
-    omega (arith, more)
+loop-k-smaller g c = grind (arith, rows_more, c.loop-k.invariant.begun, c.rows_above-to.ensures)
 
 pub returns : goal.returns
 returns g c =

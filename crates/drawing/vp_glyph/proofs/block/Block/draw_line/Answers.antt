@@ -10,17 +10,7 @@ use Rattle.vp_glyph.proofs.Sheeted.{rows_more, shown_none, shown_more, shown_all
 use Rattle.vp_glyph.proofs.block.Block.draw_line.Goals as goal
 
 pub loop-k-init : goal.loop-k-init
-loop-k-init g c =
-    let b = c.args.self.now in
-    let line = (take c.args.line.cells (first (pieces c.args.line.text.now))) in
-    record {
-      upto = omega (arith, c.rows_above-k.ensures);
-      counted = omega arith;
-      most = omega arith;
-      begun = omega (arith, c.rows_above-k.ensures);
-      shown = shown_none 32 160 c.args.top (c.args.place * b.pitch) b.h _ (λ v y. line_dot (layout_of b) c.args.place line v y) (λ v y. line_dot (sheet_rows (layout_of b)) 0 line v y)
-          (λ v y. line_rows b.sheet.now b.w b.h b.wide b.rows b.pitch b.alignment c.args.place line v y) _ _ c.rows_above-k.ensures;
-    }
+loop-k-init g c = grind (arith, shown_none)
 
 pub loop-k-preserved : goal.loop-k-preserved
 loop-k-preserved g c =
@@ -40,23 +30,10 @@ loop-k-preserved g c =
     }
 
 pub add_run-requires : goal.add_run-requires
-add_run-requires g c =
-    let b = c.args.self.now in
-    let begun = c.loop-k.invariant.begun in
-    let end = c.rows_above-end.ensures in
-    let to = c.rows_above-to.ensures ∙ ap (λ e. min (c.args.place * b.pitch + e - c.args.top) 32) c.first_row.ensures.row in
-    let u = row_alike b.h (c.args.top + c.loop-k.k - c.args.place * b.pitch) (omega (arith, begun, end)) in
-    let more = rows_more 32 c.args.top (c.args.place * b.pitch) b.h c.loop-k.k _ _ (omega (arith, end)) (omega (arith, begun, end)) (omega (arith, begun, end)) c.source_row-s.ensures to in
-    record { cells = c.requires.cells; most = c.requires.most; s = (let few = u.0 in omega (arith, few, c.source_row-s.ensures)); some = more; to = omega (arith, to) }
+add_run-requires g c = grind (arith, row_alike, rows_more, c.loop-k.invariant.begun, c.rows_above-end.ensures, c.rows_above-to.ensures, c.source_row-s.ensures)
 
 pub loop-k-smaller : goal.loop-k-smaller
-loop-k-smaller g c =
-    let b = c.args.self.now in
-    let begun = c.loop-k.invariant.begun in
-    let end = c.rows_above-end.ensures in
-    let to = c.rows_above-to.ensures ∙ ap (λ e. min (c.args.place * b.pitch + e - c.args.top) 32) c.first_row.ensures.row in
-    let more = rows_more 32 c.args.top (c.args.place * b.pitch) b.h c.loop-k.k _ _ (omega (arith, end)) (omega (arith, begun, end)) (omega (arith, begun, end)) c.source_row-s.ensures to in
-    omega (arith, more)
+loop-k-smaller g c = grind (arith, rows_more, c.loop-k.invariant.begun, c.rows_above-to.ensures)
 
 pub returns-clause-dots : goal.returns-clause-dots
 returns-clause-dots g c =

@@ -8,15 +8,7 @@ use Rattle.vp_glyph.proofs.block.Block.draw_lines.Goals as goal
 use Rattle.vp_glyph.proofs.block.Block.draw_lines.Goals.{then-draw_line, else-draw_line}
 
 pub loop-left-init : goal.loop-left-init
-loop-left-init g c =
-    let b = c.args.self.now in
-    record {
-      place_within = omega arith;
-      drawn = λ k l. drawn_none b.sheet.now b.w b.h b.wide b.rows b.pitch b.alignment (c.args.top + k) _ 160 _ _ _ _ _ (λ x. c.requires.white k x) (λ x. c.first_line-above.ensures.lines x (c.args.top + k) (omega arith));
-      counted = omega (arith, c.requires.none, c.first_line-above.ensures.less);
-      none = λ e k x. c.requires.white k x;
-      white = λ e k x. c.requires.white k x;
-    }
+loop-left-init g c = grind (arith, drawn_none, c.first_line-above.ensures.lines)
 
 pub loop-left-preserved : goal.loop-left-preserved
 loop-left-preserved g c =
@@ -25,10 +17,7 @@ loop-left-preserved g c =
       place_within = omega arith;
       drawn = λ k l. drawn_more b.sheet.now b.w b.h b.wide b.rows b.pitch b.alignment (c.args.top + k) _ 160 _ _ c.loop-left.place c.hand_line.result.0.cells _ c.loop-left.left c.hand_line.result.1 c.in-Some.text c.hand_line.result.0.text.now _ _
           (c.loop-left.invariant.drawn k l) c.in-Some.is c.hand_line.ensures.text c.hand_line.ensures.lines (λ x m. c.draw_line.ensures.dots k x l m) (omega arith);
-      counted =
-          let less = less_left c.hand_line.result.0.cells c.in-Some.text.now c.hand_line.result.1 c.hand_line.ensures.less in
-          let left = ap pieces_left c.in-Some.is in
-          omega (arith, less, left, c.loop-left.invariant.counted, c.hand_line.ensures.counted, c.draw_line.ensures.most);
+      counted = grind (arith, less_left, c.hand_line.ensures.less, c.loop-left.invariant.counted);
       none = λ e. absurd (omega (arith, e, c.hand_line.ensures.counted, c.draw_line.ensures.counted));
       white = λ e k x. elim c.if-draw_line.branch [
         | then-draw_line w ↦ absurd (let d = w.drawn-is in cc)

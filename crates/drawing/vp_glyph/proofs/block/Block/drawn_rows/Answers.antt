@@ -1,4 +1,4 @@
-use Rattle.std.proofs.Common.{◌+◌, ◌∙◌, sym, arith, w64}
+use Rattle.std.proofs.Common.{◌+◌, ◌∙◌, sym, arith}
 use Rattle.std.proofs.lemmas.Int.{to_z-of_z}
 use Rattle.vp_glyph.proofs.Handed.{seen_some, lines_fit}
 use Rattle.vp_glyph.proofs.Sheeted.{drawn_narrow}
@@ -18,12 +18,7 @@ returns-then-self g c =
     }
 
 pub returns : goal.returns
-returns g c =
-    rw (sym (to_z-of_z w64 c.args.at c.ranges.at)) (record {
-      drawn = λ k x l m n. c.rows-2.ensures k x l m ∙ c.draw_lines-drawn.ensures.dots k x l m n;
-      most = omega (arith, c.draw_lines-drawn.ensures.most, lines_fit c.args.self.now.text.now);
-      some = λ k x l m t. seen_some _ _ (λ e. c.rows-2.ensures k x l m ∙ c.draw_lines-drawn.ensures.none e k x) t;
-    })
+returns g c = grind (arith, to_z-of_z, lines_fit, seen_some, c.draw_lines-drawn.ensures.dots)
 
 pub returns-then-from-row_below_lines : goal.returns-then-from-row_below_lines
 returns-then-from-row_below_lines g c =

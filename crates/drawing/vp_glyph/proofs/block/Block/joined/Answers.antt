@@ -1,7 +1,6 @@
-use Rattle.std.proofs.Common.{sym, ap, arith, w64, get_or}
-use Rattle.vp_glyph.specs.Halves.{half_dot}
+use Rattle.std.proofs.Common.{arith}
 use Rattle.std.proofs.lemmas.Int.{to_z-of_z}
-use Rattle.vp_glyph.proofs.Handed.{pieces_left, less_left}
+use Rattle.vp_glyph.proofs.Handed.{less_left}
 use Rattle.vp_glyph.proofs.Joining.{joined_none, joined_more, joined_all}
 use Rattle.vp_glyph.proofs.block.Block.joined.Goals as goal
 
@@ -18,20 +17,10 @@ pub loop-left-preserved : goal.loop-left-preserved
 loop-left-preserved g c =
     let b = c.args.self.now in
     record {
-      joined = λ s x l m. joined_more b.sheet.now b.w b.h b.wide b.rows b.pitch b.alignment _ _ c.hand_line.result.0.cells s x (half_dot (get_or c.loop-left.rows s 0) x) _ c.loop-left.left c.hand_line.result.1 c.in-Some.text c.hand_line.result.0.text.now _
-          (c.loop-left.invariant.joined s x l m) c.in-Some.is c.hand_line.ensures.text c.hand_line.ensures.lines (c.add_rows-drawn.ensures.added s x l m);
-      counted =
-          let less = less_left c.hand_line.result.0.cells c.in-Some.text.now c.hand_line.result.1 c.hand_line.ensures.less in
-          let left = ap pieces_left c.in-Some.is in
-          omega (arith, less, left, c.loop-left.invariant.counted, c.hand_line.ensures.counted, c.add_rows-drawn.ensures.most, c.saturating_add.ensures);
+      joined = λ s x l m. grind (arith, joined_more, c.loop-left.invariant.joined, c.hand_line.ensures.text);
+      counted = grind (arith, less_left, c.hand_line.ensures.less, c.in-Some.is, c.hand_line.ensures.counted);
       some = λ e. omega (arith, c.hand_line.ensures.counted, c.saturating_add.ensures);
     }
 
 pub returns : goal.returns
-returns g c =
-    let b = c.args.self.now in
-    rw (sym (to_z-of_z w64 c.args.at c.ranges.at)) (record {
-      rows = λ s x l m. joined_all b.sheet.now b.w b.h b.wide b.rows b.pitch b.alignment _ _ s x (half_dot (get_or c.loop-left.rows s 0) x) c.loop-left.left _ (c.loop-left.invariant.joined s x l m) c.in_default.is;
-      some = c.loop-left.invariant.some c.in_default.is;
-      most = omega (arith, c.loop-left.invariant.counted);
-    })
+returns g c = grind (arith, to_z-of_z, joined_all, c.in_default.is)

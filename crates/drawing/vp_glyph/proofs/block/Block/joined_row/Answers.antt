@@ -1,22 +1,16 @@
-use Rattle.std.proofs.Common.{ℕ, arith, ap, sym, ◌∙◌, take, w64, to_z, of_z}
+use Rattle.std.proofs.Common.{ℕ, arith, ◌∙◌, take, w64, to_z, of_z}
 use Rattle.std.proofs.lemmas.Int.{to_z-of_z}
 use Rattle.std.proofs.lemmas.List.{length-replicate}
 use Rattle.vp_dots.specs.Dots.{dot}
 use Rattle.vp_glyph.specs.Blocks.{pieces, first, line_dot}
 use Rattle.vp_glyph.specs.Layouts.{layout_of, sheet_rows}
-use Rattle.vp_glyph.proofs.Handed.{pieces_left, less_left}
+use Rattle.vp_glyph.proofs.Handed.{less_left}
 use Rattle.vp_glyph.proofs.Joining.{joined_more, joined_all}
 use Rattle.vp_glyph.proofs.Sheeted.{blackened, white_or}
 use Rattle.vp_glyph.proofs.block.Block.joined_row.Goals as goal
 
 pub loop-left-init : goal.loop-left-init
-loop-left-init g c = record {
-  count = length-replicate g.row.B 0;
-  joined = λ x l. white_or g.row.B x _;
-  counted = omega arith;
-  more = omega arith;
-  some = λ e. absurd (let f = e in cc);
-}
+loop-left-init g c = grind (arith, length-replicate, white_or)
 
 pub loop-left-preserved : goal.loop-left-preserved
 loop-left-preserved g c =
@@ -28,20 +22,10 @@ loop-left-preserved g c =
       count = p.length_is ∙ c.loop-left.invariant.count;
       joined = λ x l. joined_more b.sheet.now b.w b.h b.wide b.rows b.pitch b.alignment _ _ c.hand_line.result.0.cells c.args.s x (dot c.loop-left.row x) _ c.loop-left.left c.hand_line.result.1 c.in-Some.text c.hand_line.result.0.text.now _
           (c.loop-left.invariant.joined x l) c.in-Some.is c.hand_line.ensures.text c.hand_line.ensures.lines (blackened (to_z w64 (of_z w64 c.args.at)) ink c.loop-left.row _ x (omega (arith, c.loop-left.invariant.count)) p);
-      counted =
-          let less = less_left c.hand_line.result.0.cells c.in-Some.text.now c.hand_line.result.1 c.hand_line.ensures.less in
-          let left = ap pieces_left c.in-Some.is in
-          omega (arith, less, left, c.loop-left.invariant.counted, c.hand_line.ensures.counted, c.add_sheet_row-painted.ensures.most, c.saturating_add.ensures);
+      counted = grind (arith, less_left, c.hand_line.ensures.less, c.in-Some.is, c.hand_line.ensures.counted);
       more = omega (arith, c.loop-left.invariant.more, c.hand_line.ensures.more, c.saturating_add.ensures);
       some = λ e. omega (arith, c.hand_line.ensures.counted, c.saturating_add.ensures);
     }
 
 pub returns : goal.returns
-returns g c =
-    let b = c.args.self.now in
-    rw (sym (to_z-of_z w64 c.args.at c.ranges.at)) (record {
-      row = λ x l. joined_all b.sheet.now b.w b.h b.wide b.rows b.pitch b.alignment _ _ c.args.s x (dot c.loop-left.row x) c.loop-left.left _ (c.loop-left.invariant.joined x l) c.in_default.is;
-      counted = c.loop-left.invariant.more;
-      some = c.loop-left.invariant.some c.in_default.is;
-      most = omega (arith, c.loop-left.invariant.counted);
-    })
+returns g c = grind (arith, to_z-of_z, joined_all, c.loop-left.invariant.joined, c.loop-left.invariant.more)

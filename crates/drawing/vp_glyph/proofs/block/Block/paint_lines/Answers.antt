@@ -1,6 +1,6 @@
-use Rattle.std.proofs.Common.{ℕ, arith, sym, ap, w64, refl}
+use Rattle.std.proofs.Common.{ℕ, arith, sym, w64, refl}
 use Rattle.std.proofs.lemmas.Int.{to_z-of_z}
-use Rattle.vp_glyph.proofs.Handed.{pieces_left, less_left, seen_some, block_unseen}
+use Rattle.vp_glyph.proofs.Handed.{less_left, seen_some, block_unseen}
 use Rattle.vp_glyph.proofs.Stacks.{lines_below}
 use Rattle.vp_glyph.proofs.Overlaid.{overlaid_none, overlaid_more, overlaid_all}
 use Rattle.vp_glyph.proofs.block.Block.paint_lines.Goals as goal
@@ -13,10 +13,7 @@ loop-left-preserved g c = record {
   place_within = omega arith;
   overlaid = overlaid_more _ _ _ _ _ _ _ _ _ _ _ _ c.loop-left.place c.hand_line.result.0.cells _ c.loop-left.left c.hand_line.result.1 c.in-Some.text c.hand_line.result.0.text.now _ c.loop-left.row _ c.requires.op refl
       c.loop-left.invariant.overlaid c.in-Some.is c.hand_line.ensures.text c.hand_line.ensures.cells c.hand_line.ensures.most c.hand_line.ensures.lines c.paint_line-painted.ensures.painted (omega arith);
-  counted =
-      let less = less_left c.hand_line.result.0.cells c.in-Some.text.now c.hand_line.result.1 c.hand_line.ensures.less in
-      let left = ap pieces_left c.in-Some.is in
-      omega (arith, less, left, c.loop-left.invariant.counted, c.hand_line.ensures.counted, c.paint_line-painted.ensures.most, c.saturating_add-counter.ensures);
+  counted = grind (arith, less_left, c.hand_line.ensures.less, c.in-Some.is, c.hand_line.ensures.counted);
   none = λ e. absurd (omega (arith, e, c.hand_line.ensures.counted, c.saturating_add-counter.ensures));
 }
 

@@ -1,4 +1,4 @@
-use Rattle.std.proofs.Common.{inl, inr, ℕ, ◌<◌, ◌≡◌, ◌&&◌, arith, ◌∙◌, ◌+◌, ◌||◌, ap, sym, leb, get_or, w64, to_z, of_z}
+use Rattle.std.proofs.Common.{inl, inr, ℕ, ◌<◌, ◌≡◌, ◌&&◌, arith, ◌∙◌, ◌+◌, ◌||◌, ap, leb, get_or, w64, to_z, of_z}
 use Rattle.std.proofs.lemmas.Int.{to_z-of_z}
 use Rattle.vp_dots.specs.Dots.{shifted}
 use Rattle.vp_dots.specs.Words.{word_dot}
@@ -38,11 +38,7 @@ loop-s-preserved c =
     }
 
 pub returns-after-loop-s : goal.returns-after-loop-s
-returns-after-loop-s c = rw (sym (to_z-of_z w64 c.args.at c.ranges.at))
-    (λ r d l m. c.loop-s.invariant.added r d l m ∙ ap (λ t. half_dot (get_or c.args.rows.now r 0) d || t)
-    (wide_all (to_z w64 (of_z w64 c.args.at)) c.args.left c.args.self.now.width (word_dot (get_or c.args.cell.now r 0)) c.loop-s.s d (omega (arith, c.loop-s.invariant.begun))))
+returns-after-loop-s c = grind (arith, to_z-of_z, wide_all)
 
 pub returns-else-from-lt-HALF : goal.returns-else-from-lt-HALF
-returns-else-from-lt-HALF c = rw (sym (to_z-of_z w64 c.args.at c.ranges.at))
-    (λ r d l m. c.loop-s.invariant.added r d l m ∙ ap (λ t. half_dot (get_or c.args.rows.now r 0) d || t)
-    (wide_seen (to_z w64 (of_z w64 c.args.at)) c.args.left c.args.self.now.width (word_dot (get_or c.args.cell.now r 0)) c.loop-s.s c.loop-s.from d c.loop-s.invariant.begun (c.loop-s.invariant.from_is d m) (omega (arith, c.loop-s.invariant.within))))
+returns-else-from-lt-HALF c = grind (arith, to_z-of_z, wide_seen, c.loop-s.invariant.begun)

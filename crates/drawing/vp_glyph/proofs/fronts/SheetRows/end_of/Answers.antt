@@ -1,6 +1,6 @@
 use Rattle.std.proofs.Common.{arith}
 use Rattle.vp_glyph.proofs.Gathered.{alike_rows}
-use Rattle.vp_glyph.proofs.fronts.Shown.end_of.Goals as goal
+use Rattle.vp_glyph.proofs.fronts.SheetRows.end_of.Goals as goal
 
 pub returns-clause-alike : goal.returns-clause-alike
 returns-clause-alike c =
