@@ -1,17 +1,16 @@
 -- The text of an EAN-13 symbol is its digits.
-use Rattle.std.proofs.Common.{◌≡◌, ℕ, zero, suc, ◌+◌, ◌-◌, ◌<◌, ◌≤◌, Bool, true, false, cond, List, [], ◌∷◌, ◌++◌, length, take, replicate, get_or, refl, sym, ap, ◌∙◌, arith, Result, Ok, Err}
+use Rattle.std.proofs.lemmas.Bool.Decides.{nat_tests}
+use Rattle.std.proofs.Common.{◌≡◌, ℕ, zero, suc, ◌+◌, ◌-◌, ◌<◌, ◌≤◌, Bool, true, List, [], ◌∷◌, ◌++◌, length, take, replicate, get_or, refl, sym, ap, ◌∙◌, arith, Result, Ok}
 use Rattle.std.proofs.lemmas.Grind.{common_steps}
 use Rattle.std.specs.List.{list_all}
 use Rattle.std.specs.Char.{is_ascii_digit}
 use Rattle.std.proofs.lemmas.Bool.{and_parts, lt-ltb}
 use Rattle.std.proofs.lemmas.List.{length-map, take-map}
 use Rattle.vp_dots.specs.declared.fault.Fault.{Fault}
-use Rattle.vp_dots.specs.declared.fault.Fault.TheVariants.{Symbol}
-use Rattle.vp_dots.specs.declared.fault.Why.TheVariants.{Char}
 use Rattle.vp_bars.specs.declared.symbology.Symbology.TheVariants.{Ean13}
 use Rattle.vp_bars.specs.Symbols.{Linear}
 use Rattle.vp_bars.specs.Code39.{alphabet}
-use Rattle.vp_bars.specs.Ean13.{ean13_check, padded, with_check, is_count, ean13_symbol, digits_of, ean13_for, ean13_of}
+use Rattle.vp_bars.specs.Ean13.{ean13_check, padded, with_check, is_count, digits_of, ean13_for, ean13_of}
 use Rattle.vp_bars.specs.Symbologies.{text_of}
 use Rattle.vp_bars.specs.Texts.{character_of, characters}
 use Rattle.vp_bars.proofs.Digits.{digit_range, ean13_twelve, ean13_none}
@@ -19,17 +18,7 @@ use Rattle.vp_bars.proofs.PlainTexts.{within_ok}
 
 -- the first ten characters are the digits
 digit_shown : (d : ℕ) → d < 10 → get_or alphabet d 0 ≡ d + 48
-digit_shown zero l = refl
-digit_shown (suc zero) l = refl
-digit_shown (suc (suc zero)) l = refl
-digit_shown (suc (suc (suc zero))) l = refl
-digit_shown (suc (suc (suc (suc zero)))) l = refl
-digit_shown (suc (suc (suc (suc (suc zero))))) l = refl
-digit_shown (suc (suc (suc (suc (suc (suc zero)))))) l = refl
-digit_shown (suc (suc (suc (suc (suc (suc (suc zero))))))) l = refl
-digit_shown (suc (suc (suc (suc (suc (suc (suc (suc zero)))))))) l = refl
-digit_shown (suc (suc (suc (suc (suc (suc (suc (suc (suc zero))))))))) l = refl
-digit_shown (suc (suc (suc (suc (suc (suc (suc (suc (suc (suc d)))))))))) l = absurd (omega arith)
+digit_shown d h1 = grind (arith, common_steps, nat_tests)
 
 digit_character : (d : ℕ) → d < 10 → character_of d ≡ (d + 48) ∷ []
 digit_character d l = let small : d < 43 = omega arith in rw (lt-ltb d 43 small) (ap (λ n. n ∷ []) (digit_shown d l))
@@ -89,9 +78,7 @@ module _ (src : List ℕ) (pad : Bool) (bars : Linear) where
 
   made : (d c : Bool) → list_all is_ascii_digit src ≡ d → is_count (length src) pad ≡ c → ean13_for src pad ≡ Ok bars
       → text_of bars ≡ twelve src ++ (ean13_check (digits_of (twelve src)) + 48) ∷ []
-  made true true d c e = twelve_shown d (sym (ean13_twelve src pad d c) ∙ e)
-  made true false d c e = let none = sym (ean13_none src pad d c) ∙ e in cc
-  made false c d f e = let none : ◌≡◌ {A = Result Linear Fault} (Err (Symbol Char)) (Ok bars) = ap (λ b. cond b (ean13_symbol (padded pad (digits_of src))) (Err (Symbol Char))) (sym d) ∙ e in cc
+  made d c h1 h2 h3 = grind (arith, common_steps, nat_tests, twelve_shown, ean13_twelve, ean13_none)
 
   pub ean13_text : ean13_of src pad ≡ Ok bars → text_of bars ≡ twelve src ++ (ean13_check (digits_of (twelve src)) + 48) ∷ []
   ean13_text e = made (list_all is_ascii_digit src) (is_count (length src) pad) refl refl (within_ok src (ean13_for src pad) bars e)

@@ -1,4 +1,5 @@
 -- The halves of an EAN-13 symbol.
+use Rattle.std.proofs.lemmas.Grind.{common_steps}
 use Rattle.std.proofs.Common.{◌≡◌, ℕ, zero, suc, ◌+◌, ◌<◌, ◌≤◌, ◌*◌, min, List, [], ◌∷◌, ◌++◌, length, get_or, take, drop, map, refl, sym, ap, ◌∙◌, append_assoc, add-one, arith}
 use Rattle.std.proofs.lemmas.Bool.Decides.{nat_tests}
 use Rattle.std.specs.List.{flat_map}
@@ -87,19 +88,11 @@ module _ (s : Symbology) (narrow wide : ℕ) where
   all_widths ls rs = guard_widths ++ (ls ++ (centre_widths ++ (rs ++ guard_widths)))
 
   by_parts : (ls rs : List ℕ) → map size ((1 ∷ 1 ∷ 1 ∷ []) ++ (ls ++ ((1 ∷ 1 ∷ 1 ∷ 1 ∷ 1 ∷ []) ++ (rs ++ (1 ∷ 1 ∷ 1 ∷ []))))) ≡ all_widths (map size ls) (map size rs)
-  by_parts ls rs = ap (λ ws. guard_widths ++ ws) (
-      map_append size ls ((1 ∷ 1 ∷ 1 ∷ 1 ∷ 1 ∷ []) ++ (rs ++ (1 ∷ 1 ∷ 1 ∷ [])))
-      ∙ ap (λ ws. map size ls ++ (centre_widths ++ ws)) (map_append size rs (1 ∷ 1 ∷ 1 ∷ [])))
+  by_parts ls rs = grind (arith, common_steps, nat_tests, map_append)
 
   pub halves : (vs digits left right sets : List ℕ) (first m : ℕ) → s ≡ Ean13 → vs ≡ first ∷ digits → m ≡ min (length digits) 6 → left ≡ take m digits → right ≡ drop m digits → sets ≡ parity first
       → all_widths (sized s narrow wide (left_elements sets left)) (flat_map (next_widths s narrow wide) right) ≡ sized s narrow wide (ean13_elements vs)
-  halves vs digits left right sets first m e v n l r p =
-      ap (λ ws. all_widths (sized s narrow wide (left_elements sets left)) ws) (right_widths narrow wide s right e)
-      ∙ ap (λ ps. all_widths (sized s narrow wide (left_elements ps left)) (sized s narrow wide (flat_map set_a_elements right))) p
-      ∙ ap (λ ds. all_widths (sized s narrow wide (left_elements (parity first) ds)) (sized s narrow wide (flat_map set_a_elements right))) (l ∙ ap (λ k. take k digits) n ∙ first_six digits)
-      ∙ ap (λ ds. all_widths (sized s narrow wide (left_elements (parity first) (take 6 digits))) (sized s narrow wide (flat_map set_a_elements ds))) (r ∙ ap (λ k. drop k digits) n ∙ other_six digits)
-      ∙ sym (by_parts (left_elements (parity first) (take 6 digits)) (flat_map set_a_elements (drop 6 digits)))
-      ∙ ap (λ us. sized s narrow wide (ean13_elements us)) (sym v)
+  halves vs digits left right sets first m e v n l r p = grind (arith, common_steps, nat_tests, right_widths, first_six, other_six, by_parts)
 
   pub total-all : (ls rs : List ℕ) → total (all_widths ls rs) ≡ 8 * size 1 + total ls + total rs + 3 * size 1
   total-all ls rs = omega (arith, total-append ls (centre_widths ++ (rs ++ guard_widths)), total-append rs guard_widths)

@@ -1,4 +1,6 @@
 -- Regular characters: how wide they are together, and those that a row doesn't show.
+use Rattle.std.proofs.lemmas.Grind.{common_steps}
+use Rattle.std.proofs.lemmas.Bool.Decides.{nat_tests}
 use Rattle.std.proofs.Common.{inl, inr, ◌≡◌, ℕ, zero, suc, ◌+◌, ◌-◌, ◌*◌, ◌%◌, ◌<◌, ◌≤◌, Bool, true, false, not, cond, eqb, ltb, ◌&&◌, List, [], ◌∷◌, ◌++◌, length, take, drop, map, refl, sym, ap, ◌∙◌, subst, arith, ℤ, pos, ◌+ℤ◌}
 use Rattle.std.specs.List.{All, flat_map}
 use Rattle.std.proofs.lemmas.Bool.{cases_lt, and_parts, eqb-true, ltb-true, lt-ltb, le-ltb}
@@ -73,8 +75,7 @@ turned-append bar [] vs = refl
 turned-append bar (u ∷ us) vs = turned-append (not bar) us vs
 
 not_not : (b : Bool) → not (not b) ≡ b
-not_not true = refl
-not_not false = refl
+not_not b = grind (arith, common_steps, nat_tests)
 
 -- a bar comes behind one where a bar came before it
 turned_next : (s : Symbology) (n w v : ℕ) (bar : Bool) → IsRegular s v → turned bar (next_widths s n w v) ≡ bar

@@ -1,11 +1,12 @@
 -- Lines of text cell by cell.
+use Rattle.std.proofs.lemmas.Grind.{common_steps}
+use Rattle.std.proofs.lemmas.Bool.Decides.{nat_tests}
 use Rattle.std.proofs.Common.{inl, inr, ◌≡◌, ℕ, zero, suc, subst, pos, ◌+ℤ◌, ◌+◌, ◌-◌, ◌*◌, ◌/◌, ◌%◌, ◌<◌, ◌≤◌, Bool, true, false, ltb, leb, ◌&&◌, ℤ, List, ◌∷◌, length, get_or, drop, refl, sym, ap, ◌∙◌, arith}
 use Rattle.std.proofs.Math.Nat.{mul-le-mul_left}
 use Rattle.std.proofs.lemmas.Bool.{cases_lt, and_parts, leb-true, lt-ltb, le-ltb, lt-leb, le-leb, false_from_ne_true}
 use Rattle.std.proofs.lemmas.List.{drop_more}
 use Rattle.vp_glyph.specs.Sheets.{Sheets}
 use Rattle.vp_glyph.specs.declared.cell.Font.{Font}
-use Rattle.vp_glyph.specs.declared.cell.Font.TheVariants.{A, B}
 use Rattle.vp_glyph.specs.declared.cell.Style.{Style}
 use Rattle.vp_glyph.specs.Cells.{font_width, cell_width, cell_dot, cell_inside}
 use Rattle.vp_dots.specs.Dots.{shifted}
@@ -22,20 +23,16 @@ pub cell_past : (sheets : Sheets) (font : Font) (style : Style) (c x y : ℕ) �
 cell_past sheets font style c x y h = false_from_ne_true (cell_dot sheets font style c x y) (λ e. absurd (let k = (cell_inside sheets font style c x y e).0 in omega arith))
 
 place_here : (f : Font) (j : ℕ) → j < font_width f → (j / font_width f ≡ 0) × (j % font_width f ≡ j)
-place_here A j h = (omega arith, omega arith)
-place_here B j h = (omega arith, omega arith)
+place_here f j h1 = grind (arith, common_steps, nat_tests)
 
 place_after : (f : Font) (j : ℕ) → ((font_width f + j) / font_width f ≡ suc (j / font_width f)) × ((font_width f + j) % font_width f ≡ j % font_width f)
-place_after A j = (omega arith, omega arith)
-place_after B j = (omega arith, omega arith)
+place_after f j = grind (arith, common_steps, nat_tests)
 
 room : (f : Font) (n j : ℕ) → ltb (font_width f + j) (font_width f * suc n) ≡ ltb j (font_width f * n)
-room A n j = elim (cases_lt j (12 * n)) [ inl l ↦ rw (lt-ltb j (12 * n) l) (lt-ltb (12 + j) (12 * suc n) (omega arith)) | inr g ↦ rw (le-ltb j (12 * n) g) (le-ltb (12 + j) (12 * suc n) (omega arith)) ]
-room B n j = elim (cases_lt j (9 * n)) [ inl l ↦ rw (lt-ltb j (9 * n) l) (lt-ltb (9 + j) (9 * suc n) (omega arith)) | inr g ↦ rw (le-ltb j (9 * n) g) (le-ltb (9 + j) (9 * suc n) (omega arith)) ]
+room f n j = grind (arith, common_steps, nat_tests, cases_lt, lt-ltb, le-ltb)
 
 wide : (f : Font) (n j : ℕ) → j < font_width f → ltb j (font_width f * suc n) ≡ true
-wide A n j h = lt-ltb j (12 * suc n) (omega arith)
-wide B n j h = lt-ltb j (9 * suc n) (omega arith)
+wide f n j h1 = grind (arith, common_steps, nat_tests, lt-ltb)
 
 module _ (sheets : Sheets) (font : Font) (y : ℕ) where
   cons_here : (c : ℕ) (rest : List ℕ) (j : ℕ) → j < font_width font → line_dot sheets font (c ∷ rest) j y ≡ cell_dot sheets font plain_style c j y
@@ -90,8 +87,7 @@ module _ (op : Op) (at : ℤ) (sheets : Sheets) (font : Font) (text : List ℕ) 
   LeftFrom old row i = Drawn op at placed old row (left + font_width font * i) (λ j. line_dot sheets font (drop i text) j y)
 
   and_false : (b : Bool) → (b && false) ≡ false
-  and_false true = refl
-  and_false false = refl
+  and_false b = grind (arith, common_steps, nat_tests)
 
   -- the first cells can't be seen
   pub line_begun : (i : ℕ) (row : List ℕ) → i ≤ length text → ((x d : ℕ) → left ≤ x → x < left + font_width font * i → pos d ≡ at +ℤ pos x → d < 0)
