@@ -1,3 +1,5 @@
+use Rattle.std.proofs.lemmas.Grind.{common_steps}
+use Rattle.std.proofs.lemmas.Bool.Decides.{nat_tests}
 use Rattle.std.proofs.Common.{◌≡◌, ◌+◌, ◌*◌, ap, sym, ◌∙◌, arith, w64}
 use Rattle.std.specs.List.{flat_map}
 use Rattle.std.proofs.lemmas.Int.{to_z-of_z}
@@ -49,11 +51,4 @@ returns-clause-strokes c =
     draws_then _ _ _ _ _ _ _ _ _ _ c.draw_next-rights.ensures.strokes c.draw-three.ensures.strokes)))))
 
 pub returns-clause-pieces : goal.returns-clause-pieces
-returns-clause-pieces c =
-    let one = c.draw-one.auto.row in
-    let left = c.draw_left-lefts.auto.row ∙ one in
-    let two = c.draw-two.auto.row ∙ left in
-    let right = c.draw_next-rights.auto.row ∙ two in
-    rw (sym (to_z-of_z w64 c.args.at c.ranges.at)) (
-    handed_then _ _ _ right _ _ _ _ _ (handed_then _ _ _ two _ _ _ _ _ (handed_then _ _ _ left _ _ _ _ _ (handed_then _ _ _ one _ _ _ _ _
-    c.draw-one.ensures.pieces c.draw_left-lefts.ensures.pieces) c.draw-two.ensures.pieces) c.draw_next-rights.ensures.pieces) c.draw-three.ensures.pieces)
+returns-clause-pieces c = grind (arith, common_steps, nat_tests, to_z-of_z, handed_then)
