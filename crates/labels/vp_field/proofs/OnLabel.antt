@@ -1,4 +1,5 @@
 -- Bands painted on the columns of the label.
+use Rattle.std.proofs.lemmas.Grind.{common_steps}
 use Rattle.std.proofs.Common.{inl, inr, ◌≡◌, ℕ, ◌+◌, ◌-◌, ◌<◌, ◌≤◌, Bool, false, cond, ltb, ◌&&◌, refl, sym, ap, ◌∙◌, arith, List, [], get_or}
 use Rattle.std.proofs.lemmas.Bool.{cases_lt, lt-ltb, le-ltb, lt-leb, le-leb}
 use Rattle.std.proofs.lemmas.Bool.Decides.{nat_tests}
@@ -12,13 +13,7 @@ use Rattle.vp_field.proofs.Columns.{before_end, from_end}
 
 -- dots from one to another of a line that is white beside them
 pub in_span : (from to x : ℕ) (b c : Bool) → (x < to → b ≡ c) → (span from to x ≡ false → c ≡ false) → (span from to x && b) ≡ c
-in_span from to x b c same none = elim (cases_lt x from) [
-  | inl l ↦ rw (lt-leb from x l) (sym (none (rw (lt-leb from x l) refl)))
-  | inr g ↦ elim (cases_lt x to) [
-    | inl l ↦ rw (le-leb from x g, lt-ltb x to l) (same l)
-    | inr o ↦ rw (le-leb from x g, le-ltb x to o) (sym (none (rw (le-leb from x g, le-ltb x to o) refl)))
-  ]
-]
+in_span from to x b c same none = grind (arith, common_steps, nat_tests, cases_lt, lt-leb, le-leb, lt-ltb, le-ltb)
 
 module _ (columns : ℕ) (op : Op) where
   -- what is painted is painted there
@@ -35,54 +30,23 @@ module _ (columns : ℕ) (op : Op) where
 
   -- rows above one with no ink below it
   pub shown_above : (f : ℕ → ℕ → Bool) (y : ℕ) (a b : List (List ℕ)) → ((x k : ℕ) → y ≤ k → k < 32 → f x k ≡ false) → ShownPainted columns op (λ x k. ltb k y && f x k) a b → ShownPainted columns op f a b
-  shown_above f y a b none p = shown_same _ _ a b
-      (λ d k l h. elim (cases_lt k y) [
-        | inl m ↦ before_end k y (f d k) m
-        | inr m ↦ from_end k y (f d k) m ∙ sym (none d k m h)
-      ]) p
+  shown_above f y a b none p = grind (arith, common_steps, nat_tests, shown_same, cases_lt, before_end, from_end)
 
   -- rows that show the same line there, behind those that are painted
   pub shown_lines : (f : ℕ → ℕ → Bool) (g : ℕ → Bool) (y n : ℕ) (a b c : List (List ℕ)) → ((x k : ℕ) → y ≤ k → k < y + n → f x k ≡ g x)
       → ShownPainted columns op (λ x k. ltb k y && f x k) a b → ShownPainted columns op (λ x k. span y (y + n) k && g x) b c
       → ShownPainted columns op (λ x k. ltb k (y + n) && f x k) a c
-  shown_lines f g y n a b c e p q = record {
-    lengths_are = λ k h. q.lengths_are k h ∙ p.lengths_are k h;
-    dots_are = λ d k l h m.
-        let o = p.dots_are d k l h m in
-        let w = p.lengths_are k h in
-        let t = q.dots_are d k l h (omega (arith, m, w)) in
-        elim (cases_lt k y) [
-          | inl s ↦ grind (arith, nat_tests)
-          | inr s ↦ elim (cases_lt k (y + n)) [
-            | inl i ↦ (let z : f d k ≡ g d = e d k s i in grind (arith, nat_tests))
-            | inr i ↦ grind (arith, nat_tests)
-          ]
-        ];
-  }
+  shown_lines f g y n a b c e p q = grind (arith, common_steps, nat_tests, cases_lt, nat_tests)
 
   -- columns that show the same there
   pub shown_within : (f g : ℕ → ℕ → Bool) (x n : ℕ) (a b : List (List ℕ)) → ((d k : ℕ) → d < columns → k < 32 → x ≤ d → d < x + n → g d k ≡ f d k)
       → ShownPainted columns op (λ d k. span x (x + n) d && g d k) a b → ShownPainted columns op (λ d k. span x (x + n) d && f d k) a b
-  shown_within f g x n a b e p = shown_same _ _ a b
-      (λ d k l h. elim (cases_lt d x) [
-        | inl o ↦ rw (lt-leb x d o) refl
-        | inr m ↦ elim (cases_lt d (x + n)) [
-          | inl i ↦ ap (λ t. span x (x + n) d && t) (e d k l h m i)
-          | inr o ↦ rw (le-leb x d m, le-ltb d (x + n) o) refl
-        ]
-      ]) p
+  shown_within f g x n a b e p = grind (arith, common_steps, nat_tests, shown_same, cases_lt, lt-leb, le-leb, le-ltb)
 
   -- columns behind those that are painted
   pub shown_more : (f : ℕ → ℕ → Bool) (x n : ℕ) (a b c : List (List ℕ)) → ShownPainted columns op (λ d k. ltb d x && f d k) a b → ShownPainted columns op (λ d k. span x (x + n) d && f d k) b c
       → ShownPainted columns op (λ d k. ltb d (x + n) && f d k) a c
-  shown_more f x n a b c p q = record {
-    lengths_are = λ k h. q.lengths_are k h ∙ p.lengths_are k h;
-    dots_are = λ d k l h m.
-        let o = p.dots_are d k l h m in
-        let w = p.lengths_are k h in
-        let t = q.dots_are d k l h (omega (arith, m, w)) in
-        elim (cases_lt d x) [ inl y ↦ grind (arith, nat_tests) | inr y ↦ grind (arith, nat_tests) ];
-  }
+  shown_more f x n a b c p q = grind (arith, common_steps, nat_tests, cases_lt, nat_tests)
 
   -- all columns that have ink
   pub shown_all : (f : ℕ → ℕ → Bool) (x to : ℕ) (a b : List (List ℕ)) → ((d : ℕ) → d < columns → x ≤ d → to ≤ d) → ((d k : ℕ) → to ≤ d → f d k ≡ false)

@@ -1,5 +1,7 @@
 -- Where ink that lies on a band is seen.
-use Rattle.std.proofs.Common.{inl, inr, ◌≡◌, ℕ, ◌+◌, ◌-◌, ◌^◌, ◌<◌, ◌≤◌, Bool, true, false, ltb, leb, ◌&&◌, sym, ap, ◌∙◌, ℤ, pos, List, min, arith}
+use Rattle.std.proofs.lemmas.Grind.{common_steps}
+use Rattle.std.proofs.lemmas.Bool.Decides.{nat_tests}
+use Rattle.std.proofs.Common.{inl, inr, ◌≡◌, ℕ, ◌+◌, ◌-◌, ◌^◌, ◌<◌, ◌≤◌, Bool, true, false, sym, ◌∙◌, ℤ, pos, List, min, arith}
 use Rattle.std.proofs.lemmas.Bool.{cases_lt, true≢false, and_parts, ltb-true, leb-true}
 use Rattle.vp_glyph.specs.Above.{pieces_above}
 use Rattle.vp_glyph.specs.Blocks.{BlockLayout, block_dot}
@@ -20,27 +22,11 @@ pub record Seen (from to : ℕ) (ink : ℕ → ℕ → Bool) (i j : ℤ) : Type 
   pub whole : at_place (λ v. at_place (λ u. ink u v) i) j ≡ true
 
 pub seen_part : (from to : ℕ) (ink : ℕ → ℕ → Bool) (i j : ℤ) → at_place (λ v. at_place (λ u. part from to ink u v) i) j ≡ true → Seen from to ink i j
-seen_part from to ink i j e =
-    let t = at_true (λ v. at_place (λ u. part from to ink u v) i) j e in
-    let s = at_true (λ u. part from to ink u t.0) i t.1 in
-    let p = and_parts (leb from t.0 && ltb t.0 to) (ink s.0 t.0) s.1 in
-    let q = and_parts (leb from t.0) (ltb t.0 to) p.0 in
-    record {
-      u = s.0;
-      v = t.0;
-      low = leb-true from t.0 q.0;
-      high = ltb-true t.0 to q.1;
-      dot = p.1;
-      place = t.2;
-      whole = ap (at_place (λ v. at_place (λ u. ink u v) i)) t.2 ∙ ap (at_place (λ u. ink u t.0)) s.2 ∙ p.1;
-    }
+seen_part from to ink i j e = grind (arith, common_steps, nat_tests, at_true, and_parts, leb-true, ltb-true)
 
 -- a line with dots on some places, of which two are seen
 pub within_span : (from to x z : ℕ) (f : ℕ → Bool) → ((p : ℕ) → p < from → f p ≡ false) → ((p : ℕ) → to ≤ p → f p ≡ false) → f x ≡ true → f z ≡ true → (from ≤ x) × (from ≤ z) × (z < to)
-within_span from to x z f before behind e g = (from_first x e, from_first z g, (elim (cases_lt z to) [ inl l ↦ l | inr n ↦ absurd (true≢false (sym g ∙ behind z n)) ]))
-  where
-    from_first : (p : ℕ) → f p ≡ true → from ≤ p
-    from_first p h = elim (cases_lt p from) [ inl l ↦ absurd (true≢false (sym h ∙ before p l)) | inr n ↦ n ]
+within_span from to x z f before behind e g = grind (arith, common_steps, nat_tests, cases_lt, true≢false)
 
 -- a block with a dot is as wide as a cell
 pub block_wide : (b : BlockLayout) (text : List ℕ) (u v : ℕ) → block_dot b text u v ≡ true → b.w ≤ b.wide
@@ -57,7 +43,4 @@ pub passed_beside : (b : BlockLayout) (text : List ℕ) (y row most high least w
     → (b.w ≤ b.wide → walked ≡ min (0 + pieces_above b text row) (2 ^ 64 - 1)) → walked < 2 ^ 64 - 1
     → (at_place (λ v. at_place (λ u. block_dot b text u v) i) j ≡ true → least ≤ painted)
     → pieces_above b text y + least ≤ walked + painted
-passed_beside b text y row most high least walked painted i j e near counted few some =
-    let seen = seen_part (y + most) high (block_dot b text) i j e in
-    let above = pieces_above_less b text y row (omega (arith, near seen.v seen.high seen.place, seen.low)) in
-    omega (arith, above, counted (block_wide b text seen.u seen.v seen.dot), few, some seen.whole)
+passed_beside b text y row most high least walked painted i j e near counted few some = grind (arith, common_steps, nat_tests, seen_part, pieces_above_less, block_wide)

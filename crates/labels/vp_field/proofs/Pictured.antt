@@ -1,5 +1,6 @@
 -- Pictures painted row by row.
-use Rattle.std.proofs.Common.{inl, inr, ◌≡◌, ℕ, zero, suc, ◌+◌, ◌-◌, ◌*◌, ◌/◌, ◌%◌, ◌<◌, ◌≤◌, ◌≢◌, Bool, true, false, eqb, ◌&&◌, ◌||◌, refl, sym, ap, ◌∙◌, arith, List, [], get_or, set, get_or-set_same, get_or-set_other, length, Option, Some, ℤ, pos, negsuc}
+use Rattle.std.proofs.lemmas.Grind.{common_steps}
+use Rattle.std.proofs.Common.{inl, inr, ◌≡◌, ℕ, zero, suc, ◌+◌, ◌-◌, ◌*◌, ◌/◌, ◌%◌, ◌<◌, ◌≤◌, ◌≢◌, Bool, true, false, eqb, ◌&&◌, ◌||◌, sym, ap, ◌∙◌, arith, List, [], get_or, set, get_or-set_same, get_or-set_other, length, Option, Some, ℤ, pos}
 use Rattle.std.specs.Prelude.{unwrap_or}
 use Rattle.std.specs.Int.{bit_at}
 use Rattle.std.proofs.lemmas.Bool.{cases_eq, cases_lt, cases_Bool, lt-ltb, le-ltb}
@@ -55,16 +56,11 @@ dot_nibble row x = elim (cases_lt (x % 8) 4) [
 -- a decoded row has the dots of the picture
 pub row_is : (p : Picture) (y : ℕ) (row : List ℕ) → length row ≡ p.row_bytes → y < p.rows → ((x : ℕ) → x < 2 * length row → nibble row x ≡ value p y x) → (x : ℕ) → dot row x ≡ picture_dot p x y
 unfolding picture_dot
-row_is p y row e h v x = elim (cases_lt x (8 * p.row_bytes)) [
-  | inl l ↦ rw (lt-ltb x (8 * p.row_bytes) l, lt-ltb y p.rows h) (dot_nibble row x ∙ ap (λ n. bit n (3 - x % 4)) (v (x / 4) (omega arith)))
-  | inr g ↦ rw (le-ltb x (8 * p.row_bytes) g) (dot_past row x (omega arith))
-]
+row_is p y row e h v x = grind (arith, common_steps, nat_tests, cases_lt, lt-ltb, dot_nibble, le-ltb, dot_past)
 
 -- on other rows than its own a row of a picture has no ink
 elsewhere : (row : List ℕ) (y : ℕ) (u v : ℤ) → v ≢ pos y → at_place (λ n. at_place (λ m. row_dot row y m n) u) v ≡ false
-elsewhere row y u (negsuc n) o = refl
-elsewhere row y (negsuc m) (pos n) o = refl
-elsewhere row y (pos m) (pos n) o = let q : n ≢ y = λ e. o (ap (λ (k : ℕ). pos k) e) in grind (arith, nat_tests)
+elsewhere row y u v h1 = grind (arith, common_steps, nat_tests, nat_tests)
 
 on_its_own : (row : List ℕ) (y : ℕ) (u v : ℤ) → v ≡ pos y → at_place (λ n. at_place (λ m. row_dot row y m n) u) v ≡ at_place (λ m. row_dot row y m y) u
 on_its_own row y u v e = ap (λ z. at_place (λ n. at_place (λ m. row_dot row y m n) u) z) e
@@ -89,9 +85,7 @@ row_painted op columns rows first y k row a new l e only p = record {
 -- a row of a picture that falls on no row of a band
 pub row_unseen : (op : Op) (columns rows : Axis) (first y : ℕ) (row : List ℕ) (a : List (List ℕ)) → ((j : ℕ) → j < 32 → dot_on rows (pos (first + j)) ≢ pos y)
     → RowsPainted 32 op (λ x j. laid Along columns rows (row_dot row y) (pos x) (pos (first + j))) a a
-row_unseen op columns rows first y row a none = record {
-  rows_are = λ j h. painted_none op (λ x. laid Along columns rows (row_dot row y) (pos x) (pos (first + j))) (get_or a j []) (λ d m. elsewhere row y (dot_on columns (pos d)) (dot_on rows (pos (first + j))) (none j h));
-}
+row_unseen op columns rows first y row a none = grind (arith, common_steps, nat_tests, painted_none, elsewhere)
 
 module _ (op : Op) (columns rows : Axis) (first : ℕ) (f : ℕ → ℕ → Bool) where
   -- the lines from <= v < to on a band
@@ -99,32 +93,18 @@ module _ (op : Op) (columns rows : Axis) (first : ℕ) (f : ℕ → ℕ → Bool
   upto from to x k = laid Along columns rows (part from to f) (pos x) (pos (first + k))
 
   no_line : (from to : ℕ) → to ≤ from → (u v : ℤ) → at_place (λ n. at_place (λ m. part from to f m n) u) v ≡ false
-  no_line from to l u (negsuc n) = refl
-  no_line from to l (negsuc m) (pos n) = refl
-  no_line from to l (pos m) (pos n) = grind (arith, nat_tests)
+  no_line from to h1 u v = grind (arith, common_steps, nat_tests, nat_tests)
 
   one_line : (from y : ℕ) (row : List ℕ) → from ≤ y → ((x : ℕ) → dot row x ≡ f x y) → (u v : ℤ)
       → at_place (λ n. at_place (λ m. part from (y + 1) f m n) u) v ≡ (at_place (λ n. at_place (λ m. part from y f m n) u) v || at_place (λ n. at_place (λ m. row_dot row y m n) u) v)
-  one_line from y row l e u (negsuc n) = refl
-  one_line from y row l e (negsuc m) (pos n) = refl
-  one_line from y row l e (pos m) (pos n) = elim (cases_eq n y) [
-    | inl s ↦ (let d : f m n ≡ dot row m = ap (f m) s ∙ sym (e m) in rw d (grind (arith, nat_tests)))
-    | inr o ↦ grind (arith, nat_tests)
-  ]
+  one_line from y row h1 h2 u v = grind (arith, common_steps, nat_tests, cases_eq, nat_tests)
 
   other_lines : (from y : ℕ) (row : List ℕ) (u v : ℤ) → (at_place (λ n. at_place (λ m. part from y f m n) u) v && at_place (λ n. at_place (λ m. row_dot row y m n) u) v) ≡ false
-  other_lines from y row u (negsuc n) = refl
-  other_lines from y row (negsuc m) (pos n) = refl
-  other_lines from y row (pos m) (pos n) = grind (arith, nat_tests)
+  other_lines from y row u v = grind (arith, common_steps, nat_tests, nat_tests)
 
   all_lines : (h from to : ℕ) → ((m n : ℕ) → f m n ≡ true → n < h) → (u v : ℤ) → ((n : ℕ) → n < h → v ≡ pos n → (from ≤ n) × (n < to))
       → at_place (λ n. at_place (λ m. part from to f m n) u) v ≡ at_place (λ n. at_place (λ m. f m n) u) v
-  all_lines h from to i u (negsuc n) g = refl
-  all_lines h from to i (negsuc m) (pos n) g = refl
-  all_lines h from to i (pos m) (pos n) g = elim (cases_Bool (f m n)) [
-    | inl t ↦ (let w = g n (i m n t) refl in rw t (grind (arith, nat_tests)))
-    | inr o ↦ rw o (grind (arith, nat_tests))
-  ]
+  all_lines h from to h1 u v h2 = grind (arith, common_steps, nat_tests, cases_Bool, nat_tests)
 
   -- no row is painted yet
   pub lines_init : (from to : ℕ) (a : List (List ℕ)) → to ≤ from → RowsPainted 32 op (λ x k. laid Along columns rows (part from to f) (pos x) (pos (first + k))) a a

@@ -1,11 +1,12 @@
 -- Ink that lies across a band.
+use Rattle.std.proofs.lemmas.Grind.{common_steps}
+use Rattle.std.proofs.lemmas.Bool.Decides.{nat_tests}
 use Rattle.std.proofs.Common.{◌≡◌, ℕ, ◌+◌, ◌-◌, ◌*◌, ◌<◌, ◌≤◌, Bool, true, false, sym, ap, ◌∙◌, arith, ℤ, pos, neg_ℤ, ◌-ℤ◌}
 use Rattle.std.proofs.lemmas.Int.{ints}
 use Rattle.std.proofs.lemmas.Bool.{true≢false, false_from_ne_true}
 use Rattle.vp_dots.specs.Dots.{shifted}
 use Rattle.vp_field.specs.Axes.{laid, dot_on, read_at}
 use Rattle.vp_field.specs.declared.axis.Axis.{Axis}
-use Rattle.vp_field.specs.declared.axis.Axis.TheVariants.{Forward, Back}
 use Rattle.vp_field.specs.declared.axis.Lines.TheVariants.{Across}
 use Rattle.vp_field.specs.Places.{at_place}
 use Rattle.vp_field.proofs.Places.{at_true, line_inside, shifted_at}
@@ -22,13 +23,11 @@ read_backwards n from at off f g e q p h =
 
 -- a place that is read is one of as many
 pub read_within : (axis : Axis) (n p : ℕ) → p < n → read_at axis n p < n
-read_within (Forward at) n p h = h
-read_within (Back at) n p h = omega arith
+read_within axis n p h1 = grind (arith, common_steps, nat_tests)
 
 -- dots on places side by side, from the first of them on, which lies on the first place or on the last
 pub dots_along : (axis : Axis) (n x v i : ℕ) → i < n → dot_on axis (pos (x + read_at axis n 0)) ≡ pos v → dot_on axis (pos (x + i)) ≡ pos (v + read_at axis n i)
-dots_along (Forward at) n x v i l e = omega (arith, ints, e)
-dots_along (Back at) n x v i l e = omega (arith, ints, e)
+dots_along axis n x v i h1 h2 = grind (arith, common_steps, nat_tests, ints)
 
 -- lines that have no dot on the places of a band
 pub white_across : (columns rows : Axis) (ink : ℕ → ℕ → Bool) (n h top first : ℕ) (at : ℤ) → ((u v : ℕ) → ink u v ≡ true → v < h)

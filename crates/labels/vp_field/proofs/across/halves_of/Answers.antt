@@ -1,3 +1,5 @@
+use Rattle.std.proofs.lemmas.Grind.{common_steps}
+use Rattle.std.proofs.lemmas.Bool.Decides.{nat_tests}
 use Rattle.std.proofs.Common.{inl, inr, ◌≡◌, ℕ, ◌+◌, ◌-◌, refl, sym, ap, ◌∙◌, arith, pos}
 use Rattle.std.proofs.lemmas.Bool.{cases_lt}
 use Rattle.vp_glyph.specs.Halves.{half_dot}
@@ -55,12 +57,7 @@ loop-i-preserved g c =
     }
 
 pub returns-clause-dots : goal.returns-clause-dots
-returns-clause-dots g c = λ i k l h.
-    let last = c.loop-i.invariant in
-    elim (cases_lt (c.args.x + i) c.args.end) [
-      | inl b ↦ last.drawn i k (omega (arith, c.saturating_sub.ensures, c.min-many.ensures)) h ∙ sym (before_end (c.args.x + i) c.args.end _ b)
-      | inr a ↦ ap (λ n. half_dot n k) (last.white i (omega (arith, c.saturating_sub.ensures, c.min-many.ensures))) ∙ white_half k ∙ sym (from_end (c.args.x + i) c.args.end _ a)
-    ]
+returns-clause-dots g c = grind (arith, common_steps, nat_tests, cases_lt, before_end, white_half, from_end)
 
 pub returns-clause-few : goal.returns-clause-few
 returns-clause-few g c = omega (arith, c.loop-i.invariant.lines, c.loop-i.invariant.within, c.min-many.ensures)

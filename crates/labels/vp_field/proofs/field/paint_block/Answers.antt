@@ -1,4 +1,6 @@
-use Rattle.std.proofs.Common.{◌≡◌, ℕ, ◌+◌, ◌*◌, ◌^◌, ◌<◌, ◌≤◌, ◌∙◌, List, length, drop, ap, sym, arith, pos}
+use Rattle.std.proofs.lemmas.Grind.{common_steps}
+use Rattle.std.proofs.lemmas.Bool.Decides.{nat_tests}
+use Rattle.std.proofs.Common.{◌≡◌, ℕ, ◌+◌, ◌^◌, ◌<◌, ◌≤◌, ◌∙◌, List, length, drop, ap, sym, arith, pos}
 use Rattle.std.proofs.lemmas.List.{length-take}
 use Rattle.vp_format.specs.declared.field.Content.TheVariants as contents
 use Rattle.vp_format.specs.declared.field.TextBlock.{TextBlock}
@@ -54,36 +56,16 @@ pub returns-in-Across-clause-counted : goal.returns-in-Across-clause-counted
 returns-in-Across-clause-counted g c = λ x k low e. omega (arith, c.paint_block_across.ensures.counted)
 
 pub paint_block_along-requires-clause-few : goal.paint_block_along-requires-clause-few
-paint_block_along-requires-clause-few g c =
-    let b = c.block_of-ink.ensures in
-    let r = c.from_row-block.ensures in
-    text_few c.args.stored.now c.args.block _ c.requires.block (r.text ∙ b.text)
+paint_block_along-requires-clause-few g c = grind (arith, common_steps, nat_tests, text_few)
 
 pub paint_block_across-requires-clause-few : goal.paint_block_across-requires-clause-few
-paint_block_across-requires-clause-few g c =
-    let b = c.block_of-ink.ensures in
-    let r = c.from_row-block.ensures in
-    text_few c.args.stored.now c.args.block _ c.requires.block (r.text ∙ b.text)
+paint_block_across-requires-clause-few g c = grind (arith, common_steps, nat_tests, text_few)
 
 pub returns-in-Along-clause-lines : goal.returns-in-Along-clause-lines
-returns-in-Along-clause-lines g c =
-    let b = c.block_of-ink.ensures in
-    let r = c.from_row-block.ensures in
-    let n = length c.from_row-block.result.text.now in
-    let walked : c.walked-walked.result ≤ 2 * n + 1 = omega (arith, c.walked-walked.ensures, r.walked, b.walked, ap length r.text) in
-    let cost = along_cost (lines_of c.args.on.orientation) n c.args.block.text.bytes.len c.walked-walked.result _ (sym c.laid-laid.ensures.lines ∙ c.in-Along.is)
-    (text_less c.args.stored.now c.args.block _ (r.text ∙ b.text)) walked c.paint_block_along.ensures.lines in
-    omega (arith, cost)
+returns-in-Along-clause-lines g c = grind (arith, common_steps, nat_tests, along_cost, text_less)
 
 pub returns-in-Across-clause-lines : goal.returns-in-Across-clause-lines
-returns-in-Across-clause-lines g c =
-    let b = c.block_of-ink.ensures in
-    let r = c.from_row-block.ensures in
-    let n = length c.from_row-block.result.text.now in
-    let walked : c.walked-walked.result ≤ 2 * n + 1 = omega (arith, c.walked-walked.ensures, r.walked, b.walked, ap length r.text) in
-    let cost = across_cost (lines_of c.args.on.orientation) n c.args.block.text.bytes.len c.walked-walked.result c.paint_block_across.result (sym c.laid-laid.ensures.lines ∙ c.in-Across.is)
-    (text_less c.args.stored.now c.args.block _ (r.text ∙ b.text)) walked (omega (arith, c.paint_block_across.ensures.lines, c.columns-columns.ensures)) in
-    omega (arith, cost)
+returns-in-Across-clause-lines g c = grind (arith, common_steps, nat_tests, across_cost, text_less)
 
 pub returns-in-Along-clause-passed : goal.returns-in-Along-clause-passed
 returns-in-Along-clause-passed g c = λ x k y l m e.

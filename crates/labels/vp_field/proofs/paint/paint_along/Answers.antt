@@ -1,3 +1,5 @@
+use Rattle.std.proofs.lemmas.Grind.{common_steps}
+use Rattle.std.proofs.lemmas.Bool.Decides.{nat_tests}
 use Rattle.std.proofs.Common.{inl, inr, ◌≡◌, ℕ, ◌+◌, ◌-◌, ◌*◌, ◌<◌, ◌≤◌, true, false, arith, refl, ap, ◌∙◌, pos}
 use Rattle.std.proofs.lemmas.Bool.{both_ways, cases_lt}
 use Rattle.vp_dots.specs.Dots.{span}
@@ -49,11 +51,7 @@ returns-clause-dots g c =
     (λ x k a b. c.span-from.ensures.behind _ (line_inside ink c.size-w.result.1 lines (dot_on c.args.columns (pos x))) (c.args.first + k) (omega (arith, c.from-first.ensures))) c.loop-k.invariant.painted
 
 pub returns-clause-lines : goal.returns-clause-lines
-returns-clause-lines g c =
-    let last = c.loop-k.invariant in
-    let most = ap (λ i. g.I.Pieces.most_pieces i.now 1248) last.ink in
-    let few = few_pieces (g.I.Pieces.most_pieces c.loop-k.pen.ink.now 1248) c.loop-k.pen.lines c.loop-k.pen.pieces 32 last.counted (omega (arith, last.lines)) in
-    omega (arith, last.lines, c.work.ensures, few, most)
+returns-clause-lines g c = grind (arith, common_steps, nat_tests, few_pieces)
 
 pub returns-clause-counted : goal.returns-clause-counted
 returns-clause-counted g c = λ x k low e.

@@ -1,4 +1,5 @@
-use Rattle.std.proofs.Common.{◌≡◌, ℕ, ◌+◌, ◌*◌, ◌<◌, ◌&&◌, ltb, leb, refl, sym, ap, ◌∙◌, arith}
+use Rattle.std.proofs.lemmas.Grind.{common_steps}
+use Rattle.std.proofs.Common.{◌≡◌, ℕ, ◌+◌, ◌*◌, ◌<◌, ◌&&◌, ltb, leb, ap, ◌∙◌, arith}
 use Rattle.std.proofs.lemmas.Bool.{le-leb}
 use Rattle.std.proofs.lemmas.Bool.Decides.{nat_tests}
 use Rattle.vp_dots.specs.Dots.{dot, span}
@@ -14,10 +15,7 @@ pub draw_on-requires : goal.draw_on-requires
 draw_on-requires g c = (omega arith, (omega arith, (c.requires.columns, (omega arith, ((λ p h. dot_white 156 p (omega (arith, h))), (c.requires.count, c.requires.within))))))
 
 pub loop-i-preserved : goal.loop-i-preserved
-loop-i-preserved g c =
-    let line = λ (x : ℕ). span (8 * c.args.reach.from) (8 * c.args.reach.to) x && dot c.draw_on.new.line x in
-    rows_next 32 c.args.op (λ x k. leb c.args.k k && line x) c.args.k c.loop-i.i _ _ _ (omega (arith, c.row_mut.ensures.rows)) (omega arith) c.loop-i.invariant
-    (rw (sym c.row_mut.ensures.value) (painted_same _ _ _ _ _ (λ d l. rw (le-leb c.args.k (c.args.k + c.loop-i.i) (omega arith)) refl) c.paint_bytes.ensures))
+loop-i-preserved g c = grind (arith, common_steps, nat_tests, rows_next, painted_same, le-leb)
 
 -- beside the bytes that are painted the line is white, where it is shown
 pub returns-clause-painted : goal.returns-clause-painted

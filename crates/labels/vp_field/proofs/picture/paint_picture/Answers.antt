@@ -1,6 +1,7 @@
-use Rattle.std.proofs.Common.{◌≡◌, ◌≤◌, ◌∙◌, arith, pos, ◌+◌, ap, drop, length}
+use Rattle.std.proofs.lemmas.Grind.{common_steps}
+use Rattle.std.proofs.lemmas.Bool.Decides.{nat_tests}
+use Rattle.std.proofs.Common.{◌∙◌, arith, pos, ◌+◌}
 use Rattle.std.proofs.lemmas.List.{length-take}
-use Rattle.vp_format.specs.Pictures.{Cursor, Picture}
 use Rattle.vp_format.specs.declared.field.Content.TheVariants as contents
 use Rattle.vp_field.specs.Contents.{picture_of, picture_dot}
 use Rattle.vp_field.specs.Drawn.{drawn}
@@ -32,22 +33,10 @@ returns-clause-dots g c sheets =
     (rw (c.go_to.ensures.rows, c.new-rows.ensures.picture) at c.paint_rows.ensures.painted)
 
 pub work-requires-clause-few : goal.work-requires-clause-few
-work-requires-clause-few g c =
-    let a = c.args in
-    let p = picture_of a.stored.now a.picture in
-    let few : length p.codes ≤ a.picture.codes.len = omega (arith, length-take a.picture.codes.len (drop a.picture.codes.start a.stored.now)) in
-    let is : c.paint_rows.new.rows.cursor.picture ≡ p = c.paint_rows.ensures.picture ∙ ap (λ (v : Cursor). v.picture) c.go_to.ensures.rows ∙ c.new-rows.ensures.picture in
-    let codes = ap (λ (q : Picture). length q.codes) is in
-    omega (arith, codes, few, c.requires.picture.codes.few)
+work-requires-clause-few g c = grind (arith, common_steps, nat_tests, length-take)
 
 pub returns-clause-work : goal.returns-clause-work
-returns-clause-work g c =
-    let a = c.args in
-    let p = picture_of a.stored.now a.picture in
-    let few : length p.codes ≤ a.picture.codes.len = omega (arith, length-take a.picture.codes.len (drop a.picture.codes.start a.stored.now)) in
-    let is : c.paint_rows.new.rows.cursor.picture ≡ p = c.paint_rows.ensures.picture ∙ ap (λ (v : Cursor). v.picture) c.go_to.ensures.rows ∙ c.new-rows.ensures.picture in
-    let codes = ap (λ (q : Picture). length q.codes) is in
-    omega (arith, c.work.ensures.most, c.paint_rows.ensures.counted, codes, few, c.lines_on-from.ensures.few)
+returns-clause-work g c = grind (arith, common_steps, nat_tests, length-take)
 
 pub returns-then-from-to-clause-counted : goal.returns-then-from-to-clause-counted
 returns-then-from-to-clause-counted g c sheets = λ x k low e.
@@ -69,7 +58,4 @@ new-rows-requires-clause-mark g c =
     c.last_before-place.ensures.mark c.args.stored.now (contents.Picture c.args.picture) c.requires.marks
 
 pub returns-clause-marks : goal.returns-clause-marks
-returns-clause-marks g c =
-    let same : c.paint_rows.new.rows.cursor.picture ≡ picture_of c.args.stored.now c.args.picture =
-    c.paint_rows.ensures.picture ∙ ap (λ (r : Cursor). r.picture) c.go_to.ensures.rows ∙ c.new-rows.ensures.picture in
-    c.keep_behind.ensures c.args.stored.now (contents.Picture c.args.picture) c.go_to.ensures.marks (rw same at c.mark.ensures.is)
+returns-clause-marks g c = grind (arith, common_steps, nat_tests)
