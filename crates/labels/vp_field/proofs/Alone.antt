@@ -1,6 +1,4 @@
 -- Rows of a block that are alike.
-use Rattle.std.proofs.lemmas.Grind.{common_steps}
-use Rattle.std.proofs.lemmas.Bool.Decides.{nat_tests}
 use Rattle.std.proofs.Common.{inl, inr, ◌≡◌, ℕ, ◌+◌, ◌-◌, ◌*◌, ◌/◌, ◌%◌, ◌<◌, ◌≤◌, min, Bool, false, ltb, ◌&&◌, refl, ap, arith, List, [], ◌∷◌, length, Option}
 use Rattle.std.proofs.Math.Nat.{mul-le-mul_right}
 use Rattle.std.proofs.lemmas.Bool.{cases_lt, le-ltb, lt-ltb, le-leb, lt-leb}
@@ -14,11 +12,11 @@ use Rattle.vp_glyph.proofs.Gathered.{text_alike}
 
 -- lines that all begin at the top
 pub alone_at_top : (h b s : ℕ) → b - 1 ≡ 0 → IsAlone h b s 0
-alone_at_top h b s e = grind (arith, common_steps, nat_tests)
+alone_at_top h b s e = grind arith
 
 -- lines that are moved by no row
 pub alone_together : (h b s : ℕ) → s ≡ 0 → IsAlone h b s 0
-alone_together h b s e = grind (arith, common_steps, nat_tests)
+alone_together h b s e = grind arith
 
 -- lines that stand apart
 pub alone_apart : (h b s q : ℕ) → h ≤ s → q ≤ b - 1 → IsAlone h b s (q * s)
@@ -34,13 +32,13 @@ alone_apart h b s q a n = record {
 }
 
 and_none : (a b c : Bool) → (a && ((b && false) && c)) ≡ false
-and_none a b c = grind (arith, common_steps, nat_tests)
+and_none a b c = grind arith
 
 and_false : (b : Bool) → (b && false) ≡ false
-and_false b = grind (arith, common_steps, nat_tests)
+and_false b = grind arith
 
 and_first : (b c : Bool) → ((b && false) && c) ≡ false
-and_first b c = grind (arith, common_steps, nat_tests)
+and_first b c = grind arith
 
 -- a text shows nothing from its height on
 text_below : (sheet : Option Glyphs) (text : List ℕ) (w h x y : ℕ) → h ≤ y → text_dot sheet text w h x y ≡ false
@@ -49,7 +47,7 @@ text_below sheet text w h x y l = rw (le-ltb y h l) (and_none (ltb x (w * length
 
 module _ (sheet : Option Glyphs) (w h a b s y v top : ℕ) (d : Alignment) (alone : IsAlone h b s top) (begun : top ≤ y) (here : y < top + h) (low : top ≤ v) (high : v < top + h) (same : (v - top) * 24 / h ≡ (y - top) * 24 / h) where
   line_alike : (p : ℕ) → p ≤ b - 1 → (line : List ℕ) (x : ℕ) → line_dot (layout sheet w h a b s d) p line x v ≡ line_dot (layout sheet w h a b s d) p line x y
-  line_alike p l line x = grind (arith, common_steps, nat_tests, le-leb, text_alike, text_below, and_false, lt-leb, and_first)
+  line_alike p l line x = grind (arith, le-leb, text_alike, text_below, and_false, lt-leb, and_first)
 
   pub lines_alike : (place : ℕ) → place ≤ b - 1 → (lines : List (List ℕ)) (x : ℕ) → lines_dot (layout sheet w h a b s d) place lines x v ≡ lines_dot (layout sheet w h a b s d) place lines x y
   lines_alike place l [] x = refl

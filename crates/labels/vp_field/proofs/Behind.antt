@@ -1,6 +1,5 @@
 -- Bytes stored behind those that a field names.
 use Rattle.std.proofs.lemmas.Grind.{common_steps}
-use Rattle.std.proofs.lemmas.Bool.Decides.{nat_tests}
 use Rattle.std.proofs.Common.{◌≡◌, ℕ, ◌*◌, refl, ap, ◌∙◌, arith, List, ◌++◌, length, length-append, ℤ, Bool}
 use Rattle.std.proofs.lemmas.List.{drop-append-le, take-append-le, length-drop}
 use Rattle.vp_dots.specs.declared.Op.{Op}
@@ -24,10 +23,10 @@ lies_in : (stored more : List ℕ) (s : Span) → LiesIn stored s → LiesIn (st
 lies_in stored more s l = record { inside = (let n = length-append stored more in let h = l.inside in omega arith); few = l.few }
 
 bytes_behind : (stored more : List ℕ) (s : Span) → LiesIn stored s → bytes_of (stored ++ more) s ≡ bytes_of stored s
-bytes_behind stored more s l = grind (arith, common_steps, nat_tests, drop-append-le, take-append-le, length-drop)
+bytes_behind stored more s l = grind (arith, drop-append-le, take-append-le, length-drop)
 
 is_stored : (stored more : List ℕ) (c : Content) → IsStored stored c → IsStored (stored ++ more) c
-is_stored stored more c h1 = grind (arith, common_steps, nat_tests, lies_in, bytes_behind)
+is_stored stored more c h1 = grind (arith, common_steps, lies_in, bytes_behind)
 
 abbrev ink : Sheets → ℤ → ℤ → Orientation → Content → List ℕ → ℤ → ℤ → Bool
 ink sheets left top o c stored =
@@ -56,7 +55,7 @@ rows sheets o c stored =
     turned_height (orientation_of o c) (content_width sheets stored c) (content_height sheets stored c)
 
 rows_behind : (sheets : Sheets) (o : Orientation) (c : Content) (stored more : List ℕ) → IsStored stored c → rows sheets o c stored ≡ rows sheets o c (stored ++ more)
-rows_behind sheets o c stored more h1 = grind (arith, common_steps, nat_tests, bytes_behind)
+rows_behind sheets o c stored more h1 = grind (arith, bytes_behind)
 
 pub stored_behind : StoredBehind
 stored_behind = record {

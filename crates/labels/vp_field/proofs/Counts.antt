@@ -1,6 +1,4 @@
 -- Lines that were handed out, and pieces of them.
-use Rattle.std.proofs.lemmas.Grind.{common_steps}
-use Rattle.std.proofs.lemmas.Bool.Decides.{nat_tests}
 use Rattle.std.proofs.Common.{◌≡◌, ℕ, ◌+◌, ◌*◌, ◌≤◌, arith}
 use Rattle.std.proofs.lemmas.Nat.{mul-le}
 use Rattle.vp_bars.specs.Boxes.{box_pieces}
@@ -15,7 +13,7 @@ few_pieces most lines pieces n are h = let times = mul-le lines most n most h (o
 
 -- lines of fewer pieces cost no more
 pub fewer_cost : (lines : Lines) (few most : ℕ → ℕ) → ((d : ℕ) → few d ≤ most d) → lines_cost lines few ≤ lines_cost lines most
-fewer_cost lines few most h1 = grind (arith, common_steps, nat_tests)
+fewer_cost lines few most h1 = grind arith
 
 -- what a block costs, of whose text so many bytes are kept
 pub along_cost : (lines : Lines) (n bytes walked took : ℕ) → lines ≡ Along → n ≤ bytes → walked ≤ 2 * n + 1 → took ≤ 66 * (2 * n + 1) + lines_cost lines (λ d. 2 * (2 * n + 1))
@@ -31,4 +29,4 @@ pub bars_along : (lines : Lines) → lines ≡ Along → lines_cost lines box_pi
 bars_along lines e = rw e (omega arith)
 
 pub bars_cost : (lines : Lines) → lines_cost lines box_pieces ≤ 43960
-bars_cost lines = grind (arith, common_steps, nat_tests)
+bars_cost lines = grind arith

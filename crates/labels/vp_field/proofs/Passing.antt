@@ -1,6 +1,4 @@
 -- Where ink that lies on a band is seen.
-use Rattle.std.proofs.lemmas.Grind.{common_steps}
-use Rattle.std.proofs.lemmas.Bool.Decides.{nat_tests}
 use Rattle.std.proofs.Common.{inl, inr, ◌≡◌, ℕ, ◌+◌, ◌-◌, ◌^◌, ◌<◌, ◌≤◌, Bool, true, false, sym, ◌∙◌, ℤ, pos, List, min, arith}
 use Rattle.std.proofs.lemmas.Bool.{cases_lt, true≢false, and_parts, ltb-true, leb-true}
 use Rattle.vp_glyph.specs.Above.{pieces_above}
@@ -22,11 +20,11 @@ pub record Seen (from to : ℕ) (ink : ℕ → ℕ → Bool) (i j : ℤ) : Type 
   pub whole : at_place (λ v. at_place (λ u. ink u v) i) j ≡ true
 
 pub seen_part : (from to : ℕ) (ink : ℕ → ℕ → Bool) (i j : ℤ) → at_place (λ v. at_place (λ u. part from to ink u v) i) j ≡ true → Seen from to ink i j
-seen_part from to ink i j e = grind (arith, common_steps, nat_tests, at_true, and_parts, leb-true, ltb-true)
+seen_part from to ink i j e = grind (arith, at_true, and_parts, leb-true, ltb-true)
 
 -- a line with dots on some places, of which two are seen
 pub within_span : (from to x z : ℕ) (f : ℕ → Bool) → ((p : ℕ) → p < from → f p ≡ false) → ((p : ℕ) → to ≤ p → f p ≡ false) → f x ≡ true → f z ≡ true → (from ≤ x) × (from ≤ z) × (z < to)
-within_span from to x z f before behind e g = grind (arith, common_steps, nat_tests, cases_lt, true≢false)
+within_span from to x z f before behind e g = grind (arith, cases_lt, true≢false)
 
 -- a block with a dot is as wide as a cell
 pub block_wide : (b : BlockLayout) (text : List ℕ) (u v : ℕ) → block_dot b text u v ≡ true → b.w ≤ b.wide
@@ -43,4 +41,4 @@ pub passed_beside : (b : BlockLayout) (text : List ℕ) (y row most high least w
     → (b.w ≤ b.wide → walked ≡ min (0 + pieces_above b text row) (2 ^ 64 - 1)) → walked < 2 ^ 64 - 1
     → (at_place (λ v. at_place (λ u. block_dot b text u v) i) j ≡ true → least ≤ painted)
     → pieces_above b text y + least ≤ walked + painted
-passed_beside b text y row most high least walked painted i j e near counted few some = grind (arith, common_steps, nat_tests, seen_part, pieces_above_less, block_wide)
+passed_beside b text y row most high least walked painted i j e near counted few some = grind (arith, seen_part, pieces_above_less, block_wide)

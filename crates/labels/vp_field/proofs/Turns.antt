@@ -1,6 +1,4 @@
 -- Boxes turned and turned back.
-use Rattle.std.proofs.lemmas.Grind.{common_steps}
-use Rattle.std.proofs.lemmas.Bool.Decides.{nat_tests}
 use Rattle.std.proofs.Common.{◌≡◌, ℕ, Bool, refl, arith, ℤ, pos, ◌+ℤ◌, ◌-ℤ◌}
 use Rattle.std.proofs.lemmas.Int.{ints}
 use Rattle.vp_zpl.specs.declared.item.Orientation.{Orientation}
@@ -61,4 +59,4 @@ bottom_up w h left top l t p q ink x y =
 -- lines on other places
 pub laid_by : (lines : Lines) (c c' r r' : Axis) (x x' y y' : ℤ) → dot_on c x ≡ dot_on c' x' → dot_on r y ≡ dot_on r' y' → (ink : ℕ → ℕ → Bool)
     → laid lines c r ink x y ≡ laid lines c' r' ink x' y'
-laid_by lines c c' r r' x x' y y' h1 h2 ink = grind (arith, common_steps, nat_tests)
+laid_by lines c c' r r' x x' y y' h1 h2 ink = grind arith

@@ -1,5 +1,3 @@
-use Rattle.std.proofs.lemmas.Grind.{common_steps}
-use Rattle.std.proofs.lemmas.Bool.Decides.{nat_tests}
 use Rattle.std.proofs.Common.{inl, inr, ◌≡◌, ℕ, ◌+◌, ◌-◌, refl, sym, ap, ◌∙◌, arith, pos}
 use Rattle.std.proofs.lemmas.Bool.{cases_lt}
 use Rattle.vp_glyph.specs.Halves.{half_dot}
@@ -57,7 +55,7 @@ loop-i-preserved g c =
     }
 
 pub returns-clause-dots : goal.returns-clause-dots
-returns-clause-dots g c = grind (arith, common_steps, nat_tests, cases_lt, before_end, white_half, from_end)
+returns-clause-dots g c = grind (arith, cases_lt, before_end, white_half, from_end)
 
 pub returns-clause-few : goal.returns-clause-few
 returns-clause-few g c = omega (arith, c.loop-i.invariant.lines, c.loop-i.invariant.within, c.min-many.ensures)

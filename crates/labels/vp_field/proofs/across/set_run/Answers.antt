@@ -1,8 +1,6 @@
-use Rattle.std.proofs.lemmas.Grind.{common_steps}
-use Rattle.std.proofs.lemmas.Bool.Decides.{nat_tests}
 use Rattle.std.proofs.Common.{arith, length-set, get_or-set_same, get_or-set_other}
 use Rattle.std.proofs.lemmas.Bool.{cases_eq}
 use Rattle.vp_field.proofs.across.set_run.Goals as goal
 
 pub loop-i-preserved : goal.loop-i-preserved
-loop-i-preserved c = grind (arith, common_steps, nat_tests, length-set, get_or-set_other, cases_eq, get_or-set_same)
+loop-i-preserved c = grind (arith, length-set, get_or-set_other, cases_eq, get_or-set_same)

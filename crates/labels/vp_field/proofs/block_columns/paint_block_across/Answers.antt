@@ -7,6 +7,7 @@ use Rattle.vp_glyph.specs.Blocks.{block_height, block_dot, block_inside}
 use Rattle.vp_glyph.specs.Layouts.{layout_of}
 use Rattle.vp_glyph.proofs.Handed.{seen_some}
 use Rattle.vp_glyph.proofs.Overlaid.{zero_at}
+use Rattle.vp_label_size.specs.declared.TheConstants.{WIDEST}
 use Rattle.vp_field.specs.Axes.{laid}
 use Rattle.vp_field.specs.declared.axis.Lines.TheVariants.{Across}
 use Rattle.vp_field.proofs.OnLabel.{shown_none}
@@ -14,7 +15,7 @@ use Rattle.vp_field.proofs.Windowed.{white_across}
 use Rattle.vp_field.proofs.block_columns.paint_block_across.Goals as goal
 
 pub draw_fronts-walked-requires : goal.draw_fronts-walked-requires
-draw_fronts-walked-requires g c = (omega arith, (omega arith, (omega (arith, c.requires.most), λ i. zero_at 1248 i)))
+draw_fronts-walked-requires g c = (omega arith, (omega arith, (omega (arith, c.requires.most), λ i. zero_at WIDEST i)))
 
 pub returns-then-are_white-clause-dots : goal.returns-then-are_white-clause-dots
 returns-then-are_white-clause-dots g c =

@@ -1,5 +1,4 @@
 use Rattle.std.proofs.lemmas.Grind.{common_steps}
-use Rattle.std.proofs.lemmas.Bool.Decides.{nat_tests}
 use Rattle.std.proofs.Common.{arith}
 use Rattle.std.proofs.Common.{◌≡◌, ℕ, List}
 use Rattle.vp_format.specs.declared.field.QrSymbol.{QrSymbol}
@@ -14,10 +13,10 @@ use Rattle.vp_field.proofs.field.drawn_symbol.Goals as goal
 -- the symbol of the data, scaled
 is_drawn : (stored : List ℕ) (q : QrSymbol) (read : List ℕ) (qr : Symbol) (s : ScaledSymbol) → IsSymbol stored q → read ≡ bytes_of stored q.bytes → Encodes q.level q.mode read qr
     → s.scale ≡ q.module → s.size ≡ size qr.version → s.rows ≡ qr.rows → IsDrawn stored q s
-is_drawn stored q read qr s kept is e scale wide rows = grind (arith, common_steps, nat_tests, qr_same)
+is_drawn stored q read qr s kept is e scale wide rows = grind (arith, common_steps, qr_same)
 
 pub returns-clause-drawn : goal.returns-clause-drawn
-returns-clause-drawn c = grind (arith, common_steps, nat_tests, is_drawn)
+returns-clause-drawn c = grind (arith, common_steps, is_drawn)
 
 pub returns-clause-marks : goal.returns-clause-marks
-returns-clause-marks c = grind (arith, common_steps, nat_tests, is_drawn)
+returns-clause-marks c = grind (arith, common_steps, is_drawn)

@@ -1,5 +1,3 @@
-use Rattle.std.proofs.lemmas.Grind.{common_steps}
-use Rattle.std.proofs.lemmas.Bool.Decides.{nat_tests}
 use Rattle.std.proofs.lemmas.Bool.{both_ways}
 use Rattle.std.proofs.Common.{◌≡◌, ℕ, ◌+◌, sym, subst, Bool, false, is_ok, pos, arith, List, Result}
 use Rattle.vp_dots.specs.declared.fault.Fault.{Fault}
@@ -26,14 +24,14 @@ ink sheets b on first r x k =
 
 -- what is left of data without a symbol is none
 none_left : (stored : List ℕ) (b : BarSymbol) (m : Marks) → ((s : Linear) → m ≡ Bars s → ⊥) → IsEncoded stored b m → is_ok (symbol_of b.code (bytes_of stored b.bytes)) ≡ false
-none_left stored b m h1 h2 = grind (arith, common_steps, nat_tests)
+none_left stored b m h1 h2 = grind arith
 
 -- and has no ink
 no_ink : (sheets : Sheets) (b : BarSymbol) (on : Standing) (first : ℕ) (r : Result Linear Fault) → is_ok r ≡ false → (x k : ℕ) → ink sheets b on first r x k ≡ false
-no_ink sheets b on first r h1 x k = grind (arith, common_steps, nat_tests, both_ways, standing_none)
+no_ink sheets b on first r h1 x k = grind (arith, both_ways, standing_none)
 
 pub returns-in_default : goal.returns-in_default
-returns-in_default g c = grind (arith, common_steps, nat_tests, no_ink, none_left, shown_none, both_ways)
+returns-in_default g c = grind (arith, no_ink, none_left, shown_none, both_ways)
 
 pub returns-clause-dots : goal.returns-clause-dots
 returns-clause-dots g c =

@@ -1,5 +1,3 @@
-use Rattle.std.proofs.lemmas.Grind.{common_steps}
-use Rattle.std.proofs.lemmas.Bool.Decides.{nat_tests}
 use Rattle.std.proofs.Common.{◌≡◌, ℕ, ◌+◌, ◌^◌, ◌<◌, ◌≤◌, ◌∙◌, List, length, drop, ap, sym, arith, pos}
 use Rattle.std.proofs.lemmas.List.{length-take}
 use Rattle.vp_format.specs.declared.field.Content.TheVariants as contents
@@ -56,16 +54,16 @@ pub returns-in-Across-clause-counted : goal.returns-in-Across-clause-counted
 returns-in-Across-clause-counted g c = λ x k low e. omega (arith, c.paint_block_across.ensures.counted)
 
 pub paint_block_along-requires-clause-few : goal.paint_block_along-requires-clause-few
-paint_block_along-requires-clause-few g c = grind (arith, common_steps, nat_tests, text_few)
+paint_block_along-requires-clause-few g c = grind (arith, text_few)
 
 pub paint_block_across-requires-clause-few : goal.paint_block_across-requires-clause-few
-paint_block_across-requires-clause-few g c = grind (arith, common_steps, nat_tests, text_few)
+paint_block_across-requires-clause-few g c = grind (arith, text_few)
 
 pub returns-in-Along-clause-lines : goal.returns-in-Along-clause-lines
-returns-in-Along-clause-lines g c = grind (arith, common_steps, nat_tests, along_cost, text_less)
+returns-in-Along-clause-lines g c = grind (arith, along_cost, text_less)
 
 pub returns-in-Across-clause-lines : goal.returns-in-Across-clause-lines
-returns-in-Across-clause-lines g c = grind (arith, common_steps, nat_tests, across_cost, text_less)
+returns-in-Across-clause-lines g c = grind (arith, across_cost, text_less)
 
 pub returns-in-Along-clause-passed : goal.returns-in-Along-clause-passed
 returns-in-Along-clause-passed g c = λ x k y l m e.

@@ -4,6 +4,7 @@ use Rattle.std.proofs.lemmas.Int.{to_z-of_z}
 use Rattle.vp_dots.specs.Dots.{shifted}
 use Rattle.vp_glyph.specs.Blocks.{block_dot, block_height, block_inside}
 use Rattle.vp_glyph.specs.Layouts.{layout_of}
+use Rattle.vp_label_size.specs.declared.TheConstants.{WIDEST}
 use Rattle.vp_field.specs.Axes.{laid, dot_on, read_at}
 use Rattle.vp_field.specs.Places.{at_place}
 use Rattle.vp_field.specs.declared.axis.Lines.TheVariants.{Along}
@@ -36,8 +37,8 @@ returns-clause-drawn g c = λ x k l m e.
     let high = f.near along k v m (omega (arith, inside, c.size-height.ensures.height)) t.2 in
     let row : c.first_line-top.result + (v - c.first_line-top.result) ≡ v = omega (arith, low) in
     let fits : SFits w64 c.drawn_at.result = search rules in
-    let place = read_at y.columns 1248 x in
-    let near = read_within y.columns 1248 x l in
+    let place = read_at y.columns WIDEST x in
+    let near = read_within y.columns WIDEST x l in
     let begun : 0 + x ≡ x = omega arith in
     let black : shifted c.drawn_at.result (λ u. ink u v) place ≡ true = sym (c.drawn_at.ensures.dots (λ u. ink u v) (shifted c.drawn_at.result (λ u. ink u v)) (λ d l. refl) x l) ∙ ap (λ n. at_place (λ u. ink u v) (dot_on y.columns (pos n))) begun ∙ t.1 in
     let drew = (rw (to_z-of_z w64 c.drawn_at.result fits) at c.new-drawn.ensures.some) (v - c.first_line-top.result) place (omega (arith, high, low)) (omega (arith, near)) (omega (arith, row, inside)) (ap (λ n. shifted c.drawn_at.result (λ u. ink u n) place) row ∙ black) in

@@ -1,5 +1,3 @@
-use Rattle.std.proofs.lemmas.Grind.{common_steps}
-use Rattle.std.proofs.lemmas.Bool.Decides.{nat_tests}
 use Rattle.std.proofs.Common.{arith}
 use Rattle.std.proofs.Common.{◌+◌, pos}
 use Rattle.vp_qr.specs.Inks.{side, ink_of}
@@ -20,4 +18,4 @@ returns-clause-dots g c sheets =
     (seen_x a.on.view (pos x)) (seen_y a.on.view (pos (a.first + k)))) c.paint_standing.ensures.dots
 
 pub returns-clause-counted : goal.returns-clause-counted
-returns-clause-counted g c sheets = grind (arith, common_steps, nat_tests, qr_standing)
+returns-clause-counted g c sheets = grind (arith, qr_standing)

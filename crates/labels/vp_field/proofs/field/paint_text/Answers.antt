@@ -1,5 +1,3 @@
-use Rattle.std.proofs.lemmas.Grind.{common_steps}
-use Rattle.std.proofs.lemmas.Bool.Decides.{nat_tests}
 use Rattle.std.proofs.Common.{ℕ, ◌^◌, ◌≤◌, List, length, drop, arith}
 use Rattle.std.proofs.lemmas.List.{length-take}
 use Rattle.vp_format.specs.declared.field.Text.{Text}
@@ -26,7 +24,7 @@ returns-clause-counted g c =
     rw (t.sheet, t.text, t.w, t.h) at c.paint_standing.ensures.counted
 
 pub paint_standing-requires-clause-few : goal.paint_standing-requires-clause-few
-paint_standing-requires-clause-few g c = grind (arith, common_steps, nat_tests, cells_few)
+paint_standing-requires-clause-few g c = grind (arith, cells_few)
 
 pub returns-clause-lines : goal.returns-clause-lines
-returns-clause-lines g c = grind (arith, common_steps, nat_tests, fewer_cost, cells_less)
+returns-clause-lines g c = grind (arith, fewer_cost, cells_less)

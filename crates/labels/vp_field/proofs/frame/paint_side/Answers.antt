@@ -1,4 +1,3 @@
-use Rattle.std.proofs.lemmas.Grind.{common_steps}
 use Rattle.std.proofs.lemmas.Bool.Decides.{nat_tests}
 use Rattle.std.proofs.Common.{arith}
 use Rattle.std.proofs.lemmas.Int.{to_z-of_z}
@@ -6,4 +5,4 @@ use Rattle.vp_field.proofs.Framed.{side_painted}
 use Rattle.vp_field.proofs.frame.paint_side.Goals as goal
 
 pub returns : goal.returns
-returns c = grind (arith, common_steps, nat_tests, to_z-of_z, side_painted)
+returns c = grind (arith, nat_tests, to_z-of_z, side_painted)

@@ -1,5 +1,3 @@
-use Rattle.std.proofs.lemmas.Grind.{common_steps}
-use Rattle.std.proofs.lemmas.Bool.Decides.{nat_tests}
 use Rattle.std.proofs.Common.{arith}
 use Rattle.std.proofs.lemmas.Int.{to_z-of_z}
 use Rattle.std.proofs.lemmas.List.{length-replicate}
@@ -7,7 +5,7 @@ use Rattle.vp_field.proofs.OnWhite.{on_zeros, turned}
 use Rattle.vp_field.proofs.line.draw_reversed.Goals as goal
 
 pub returns-clause-dots : goal.returns-clause-dots
-returns-clause-dots g c = grind (arith, common_steps, nat_tests, turned, length-replicate, on_zeros, to_z-of_z)
+returns-clause-dots g c = grind (arith, turned, length-replicate, on_zeros, to_z-of_z)
 
 pub returns-clause-some : goal.returns-clause-some
-returns-clause-some g c = grind (arith, common_steps, nat_tests, on_zeros, turned, length-replicate)
+returns-clause-some g c = grind (arith, on_zeros, turned, length-replicate)

@@ -1,5 +1,3 @@
-use Rattle.std.proofs.lemmas.Grind.{common_steps}
-use Rattle.std.proofs.lemmas.Bool.Decides.{nat_tests}
 use Rattle.std.proofs.Common.{arith}
 use Rattle.std.proofs.Common.{◌*◌, rules, ap, ◌∙◌, w64, to_z, of_z, pos, neg_ℤ, ◌-ℤ◌}
 use mir.Val.{SFits}
@@ -8,7 +6,7 @@ use Rattle.vp_field.proofs.Windowed.{read_forwards, read_backwards}
 use Rattle.vp_field.proofs.line.drawn_at.Goals as goal
 
 pub returns-in-Forward-clause-dots : goal.returns-in-Forward-clause-dots
-returns-in-Forward-clause-dots c = grind (arith, common_steps, nat_tests, read_forwards, to_z-of_z)
+returns-in-Forward-clause-dots c = grind (arith, read_forwards, to_z-of_z)
 
 pub returns-in-Back-clause-dots : goal.returns-in-Back-clause-dots
 returns-in-Back-clause-dots c = λ line dots n p l.

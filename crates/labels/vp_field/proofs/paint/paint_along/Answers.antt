@@ -1,9 +1,8 @@
-use Rattle.std.proofs.lemmas.Grind.{common_steps}
-use Rattle.std.proofs.lemmas.Bool.Decides.{nat_tests}
 use Rattle.std.proofs.Common.{inl, inr, ◌≡◌, ℕ, ◌+◌, ◌-◌, ◌*◌, ◌<◌, ◌≤◌, true, false, arith, refl, ap, ◌∙◌, pos}
 use Rattle.std.proofs.lemmas.Bool.{both_ways, cases_lt}
 use Rattle.vp_dots.specs.Dots.{span}
 use Rattle.vp_dots.proofs.Placing.{rows_init}
+use Rattle.vp_label_size.specs.declared.TheConstants.{BAND_ROWS}
 use Rattle.vp_field.specs.Places.{at_place}
 use Rattle.vp_field.specs.Axes.{dot_on, laid, shown_dot}
 use Rattle.vp_field.specs.declared.axis.Lines.TheVariants.{Along}
@@ -18,7 +17,7 @@ loop-k-init g c =
     let lines : (u v : ℕ) → ink u v ≡ true → v < c.size-w.result.1 = λ u v e. rw c.size-w.ensures.height (g.met.I.Ink.outside c.args.ink.ink.now u v e).1 in
     record {
       ink = refl;
-      painted = shown_rows c.args.seen c.args.op _ _ _ (rows_init 32 c.args.op (λ x k. laid Along c.args.columns c.args.rows ink (pos x) (pos (c.args.first + k))) _ _
+      painted = shown_rows c.args.seen c.args.op _ _ _ (rows_init BAND_ROWS c.args.op (λ x k. laid Along c.args.columns c.args.rows ink (pos x) (pos (c.args.first + k))) _ _
           (λ x k l. c.span-from.ensures.before _ (line_inside ink c.size-w.result.1 lines (dot_on c.args.columns (pos x))) (c.args.first + k) (omega (arith, c.from-first.ensures, c.saturating_sub-k.ensures))));
       lines = omega (arith, c.min-end.ensures, c.requires.fresh);
       counted = record { few = c.requires.few; within = omega (arith, c.requires.whole) };
@@ -51,7 +50,7 @@ returns-clause-dots g c =
     (λ x k a b. c.span-from.ensures.behind _ (line_inside ink c.size-w.result.1 lines (dot_on c.args.columns (pos x))) (c.args.first + k) (omega (arith, c.from-first.ensures))) c.loop-k.invariant.painted
 
 pub returns-clause-lines : goal.returns-clause-lines
-returns-clause-lines g c = grind (arith, common_steps, nat_tests, few_pieces)
+returns-clause-lines g c = grind (arith, few_pieces)
 
 pub returns-clause-counted : goal.returns-clause-counted
 returns-clause-counted g c = λ x k low e.

@@ -2,6 +2,7 @@ use Rattle.std.proofs.Common.{◌≡◌, ℕ, ◌+◌, ◌<◌, ◌≤◌, true,
 use mir.Val.{SFits}
 use Rattle.std.proofs.lemmas.Bool.{cases_Bool, cases_lt}
 use Rattle.std.proofs.lemmas.Int.{ints, to_z-of_z}
+use Rattle.vp_label_size.specs.declared.TheConstants.{BAND_ROWS}
 use Rattle.vp_field.proofs.picture.lines_on.Goals as goal
 
 pub returns-clause-from : goal.returns-clause-from
@@ -20,16 +21,16 @@ returns-clause-to c k v l m e =
 above : (n : ℕ) (z : ℤ) → int_lt (pos n) z ≡ true → pos n <ℤ z
 above n z e = grind (arith, ints)
 
-none_above : (n : ℕ) (z : ℤ) → int_lt (pos n) z ≡ false → (z +ℤ pos 32) ≤ℤ pos (n + 32)
+none_above : (n : ℕ) (z : ℤ) → int_lt (pos n) z ≡ false → (z +ℤ pos 32) ≤ℤ pos (n + BAND_ROWS)
 none_above n z e = grind (arith, ints)
 
 -- the nearest lines to two that are 32 apart are no farther apart
-few_lines : (z : ℤ) (height one two : ℕ) → ((v : ℕ) → v < height → pos v <ℤ z → v < one) → ((v : ℕ) → (z +ℤ pos 32) ≤ℤ pos v → two ≤ v) → two ≤ height → two ≤ one + 32
+few_lines : (z : ℤ) (height one two : ℕ) → ((v : ℕ) → v < height → pos v <ℤ z → v < one) → ((v : ℕ) → (z +ℤ pos 32) ≤ℤ pos v → two ≤ v) → two ≤ height → two ≤ one + BAND_ROWS
 few_lines z height one two below from most = elim (cases_lt one height) [
   | inr past ↦ omega arith
   | inl within ↦ elim (cases_Bool (int_lt (pos one) z)) [
     | inl more ↦ absurd (let no = below one within (above one z more) in omega (arith, no))
-    | inr none ↦ from (one + 32) (none_above one z none)
+    | inr none ↦ from (one + BAND_ROWS) (none_above one z none)
   ]
 ]
 

@@ -1,5 +1,4 @@
 use Rattle.std.proofs.lemmas.Grind.{common_steps}
-use Rattle.std.proofs.lemmas.Bool.Decides.{nat_tests}
 use Rattle.std.proofs.Common.{◌∙◌, arith, pos, ◌+◌}
 use Rattle.std.proofs.lemmas.List.{length-take}
 use Rattle.vp_format.specs.declared.field.Content.TheVariants as contents
@@ -33,10 +32,10 @@ returns-clause-dots g c sheets =
     (rw (c.go_to.ensures.rows, c.new-rows.ensures.picture) at c.paint_rows.ensures.painted)
 
 pub work-requires-clause-few : goal.work-requires-clause-few
-work-requires-clause-few g c = grind (arith, common_steps, nat_tests, length-take)
+work-requires-clause-few g c = grind (arith, length-take)
 
 pub returns-clause-work : goal.returns-clause-work
-returns-clause-work g c = grind (arith, common_steps, nat_tests, length-take)
+returns-clause-work g c = grind (arith, length-take)
 
 pub returns-then-from-to-clause-counted : goal.returns-then-from-to-clause-counted
 returns-then-from-to-clause-counted g c sheets = λ x k low e.
@@ -58,4 +57,4 @@ new-rows-requires-clause-mark g c =
     c.last_before-place.ensures.mark c.args.stored.now (contents.Picture c.args.picture) c.requires.marks
 
 pub returns-clause-marks : goal.returns-clause-marks
-returns-clause-marks g c = grind (arith, common_steps, nat_tests)
+returns-clause-marks g c = grind (arith, common_steps)

@@ -1,5 +1,3 @@
-use Rattle.std.proofs.lemmas.Grind.{common_steps}
-use Rattle.std.proofs.lemmas.Bool.Decides.{nat_tests}
 use Rattle.std.proofs.Common.{◌∙◌, sym, arith}
 use Rattle.std.proofs.lemmas.Option.{none-some}
 use Rattle.vp_field.proofs.Pictured.{row_painted, row_unseen}
@@ -13,4 +11,4 @@ returns-in-Some g c =
     (rw c.row_mut.ensures.value at c.paint_line-one.ensures.painted)
 
 pub returns-in_default : goal.returns-in_default
-returns-in_default g c = grind (arith, common_steps, nat_tests, row_unseen, none-some)
+returns-in_default g c = grind (arith, row_unseen, none-some)

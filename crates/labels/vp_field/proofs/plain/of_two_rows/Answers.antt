@@ -1,12 +1,10 @@
-use Rattle.std.proofs.lemmas.Grind.{common_steps}
-use Rattle.std.proofs.lemmas.Bool.Decides.{nat_tests}
 use Rattle.std.proofs.Common.{refl, arith, length-set, get_or-set_same, get_or-set_other}
 use Rattle.std.proofs.lemmas.List.{get_or-replicate}
 use Rattle.std.proofs.lemmas.Bool.{cases_eq}
 use Rattle.vp_field.proofs.plain.of_two_rows.Goals as goal
 
 pub loop-y-preserved : goal.loop-y-preserved
-loop-y-preserved c = grind (arith, common_steps, nat_tests, length-set, get_or-set_other, cases_eq, get_or-set_same)
+loop-y-preserved c = grind (arith, length-set, get_or-set_other, cases_eq, get_or-set_same)
 
 pub loop-y-init : goal.loop-y-init
 loop-y-init c = record {

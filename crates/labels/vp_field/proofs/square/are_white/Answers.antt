@@ -1,5 +1,3 @@
-use Rattle.std.proofs.lemmas.Grind.{common_steps}
-use Rattle.std.proofs.lemmas.Bool.Decides.{nat_tests}
 use Rattle.std.proofs.Common.{ℕ, false, sym, ◌∙◌, ◌+◌, ◌-◌, ◌≡◌, ap, arith, inl, inr, eqb}
 use Rattle.std.proofs.lemmas.Bool.{cases_eq, cases_lt}
 use Rattle.std.proofs.lemmas.Nat.Bits.{bit_at-zero}
@@ -24,7 +22,7 @@ loop-i-preserved g c = record {
 }
 
 pub loop-i-2-preserved : goal.loop-i-2-preserved
-loop-i-2-preserved g c = grind (arith, common_steps, nat_tests, cases_eq)
+loop-i-2-preserved g c = grind (arith, cases_eq)
 
 pub returns : goal.returns
 returns g c = λ e i x l. ap (λ v. half_dot v x) (c.loop-i-2.invariant.white i (omega arith)) ∙ white_half x

@@ -1,6 +1,7 @@
 use Rattle.std.proofs.Common.{◌≡◌, ℕ, ◌+◌, ◌<◌, true, arith, pos}
 use Rattle.vp_glyph.specs.Blocks.{block_dot, block_inside}
 use Rattle.vp_glyph.specs.Layouts.{layout_of}
+use Rattle.vp_label_size.specs.declared.TheConstants.{BAND_ROWS}
 use Rattle.vp_field.specs.Axes.{dot_on, laid, read_at}
 use Rattle.vp_field.specs.declared.axis.Lines.TheVariants.{Across}
 use Rattle.vp_field.proofs.Columns.{columns_init}
@@ -18,7 +19,7 @@ loop-x-init g c =
     let inside = λ (k : ℕ). line_inside ink c.size-height.result.1 lines (dot_on s.rows (pos (s.first + k))) in
     let shown = λ (x k : ℕ). laid Across s.columns s.rows ink (pos x) (pos (s.first + k)) in
     record {
-      painted = shown_rows s.seen c.args.op _ _ _ (columns_init 32 c.args.op shown c.span-from.result.0 _ (λ x k l. c.span-from.ensures.before _ (inside k) x (omega (arith, l))));
+      painted = shown_rows s.seen c.args.op _ _ _ (columns_init BAND_ROWS c.args.op shown c.span-from.result.0 _ (λ x k l. c.span-from.ensures.before _ (inside k) x (omega (arith, l))));
       laid = omega (arith, c.min-end.ensures);
       counted = omega (arith, c.if-from-end.false);
     }
@@ -54,7 +55,7 @@ returns-then-from-end-clause-dots g c =
     let inside = λ (k : ℕ). line_inside ink c.size-height.result.1 lines (dot_on s.rows (pos (s.first + k))) in
     let shown = λ (x k : ℕ). laid Across s.columns s.rows ink (pos x) (pos (s.first + k)) in
     shown_all s.seen c.args.op shown c.span-from.result.0 c.span-from.result.1 _ _ (λ d l m. omega (arith, l, m, c.min-end.ensures, c.if-from-end.true)) (λ d k l. c.span-from.ensures.behind _ (inside k) d l)
-    (shown_rows s.seen c.args.op _ _ _ (columns_init 32 c.args.op shown c.span-from.result.0 _ (λ x k l. c.span-from.ensures.before _ (inside k) x (omega (arith, l)))))
+    (shown_rows s.seen c.args.op _ _ _ (columns_init BAND_ROWS c.args.op shown c.span-from.result.0 _ (λ x k l. c.span-from.ensures.before _ (inside k) x (omega (arith, l)))))
 
 -- all columns were laid at once
 pub returns-in-Some-clause-dots : goal.returns-in-Some-clause-dots
@@ -67,7 +68,7 @@ returns-in-Some-clause-dots g c =
     let shown = λ (x k : ℕ). laid Across s.columns s.rows ink (pos x) (pos (s.first + k)) in
     shown_all s.seen c.args.op shown _ c.span-from.result.1 _ _ (λ d l m. omega (arith, l, m, c.min-end.ensures, c.if-from-end.false)) (λ d k l. c.span-from.ensures.behind _ (inside k) d l)
     (shown_more s.seen c.args.op shown c.span-from.result.0 _ _ _ _
-    (shown_rows s.seen c.args.op _ _ _ (columns_init 32 c.args.op shown c.span-from.result.0 _ (λ x k l. c.span-from.ensures.before _ (inside k) x (omega (arith, l)))))
+    (shown_rows s.seen c.args.op _ _ _ (columns_init BAND_ROWS c.args.op shown c.span-from.result.0 _ (λ x k l. c.span-from.ensures.before _ (inside k) x (omega (arith, l)))))
     c.paint_plain.ensures)
 
 -- of columns with ink none is left out between two

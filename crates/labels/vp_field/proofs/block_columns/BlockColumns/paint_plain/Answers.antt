@@ -3,6 +3,7 @@ use Rattle.vp_dots.specs.Dots.{dot}
 use Rattle.vp_dots.proofs.Heights.{rows_same}
 use Rattle.vp_glyph.specs.Blocks.{block_dot}
 use Rattle.vp_glyph.specs.Layouts.{layout_of}
+use Rattle.vp_label_size.specs.declared.TheConstants.{BAND_ROWS}
 use Rattle.vp_field.specs.Axes.{laid}
 use Rattle.vp_field.specs.declared.axis.Lines.TheVariants.{Across}
 use Rattle.vp_field.proofs.AsWhole.{front_span}
@@ -20,4 +21,4 @@ returns g c =
     (λ d k w h l m.
     let same : x + (d - x) ≡ d = omega (arith, l) in
     c.requires.row (d - x) k (omega (arith, l, m)) (rw same w) h ∙ ap (λ n. shown n k) same)
-    (shown_rows s.seen c.args.op _ _ _ (rows_same 32 c.args.op _ _ _ _ (λ d k h. front_span c.args.words row x d) c.paint_rows_alike.ensures))
+    (shown_rows s.seen c.args.op _ _ _ (rows_same BAND_ROWS c.args.op _ _ _ _ (λ d k h. front_span c.args.words row x d) c.paint_rows_alike.ensures))

@@ -1,4 +1,5 @@
 use Rattle.std.proofs.Common.{inl, inr, ◌≡◌, ◌+◌, ◌-◌, rules, arith, ap, ◌∙◌, w64, pos}
+use Rattle.vp_label_size.specs.declared.TheConstants.{BAND_ROWS}
 use Rattle.vp_field.specs.Axes.{dot_on}
 use mir.Val.{SFits}
 use Rattle.std.proofs.lemmas.Int.{ints, to_z-of_z}
@@ -37,5 +38,5 @@ returns-in-Along-clause-near c o k v l m e =
     let before = line.ensures.to k v l e in
     elim (cases_lt v 32) [
       | inl k ↦ omega arith
-      | inr k ↦ (let n = c.clamped.ensures.below (v - 32) (omega arith) (rw (to_z-of_z w64 line.result fits) (omega (arith, ints, before))) in omega arith)
+      | inr k ↦ (let n = c.clamped.ensures.below (v - BAND_ROWS) (omega arith) (rw (to_z-of_z w64 line.result fits) (omega (arith, ints, before))) in omega arith)
     ]

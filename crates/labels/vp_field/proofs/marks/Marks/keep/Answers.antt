@@ -1,9 +1,7 @@
-use Rattle.std.proofs.lemmas.Grind.{common_steps}
-use Rattle.std.proofs.lemmas.Bool.Decides.{nat_tests}
 use Rattle.std.proofs.Common.{arith}
 use Rattle.std.proofs.Common.{get_or-set_same, get_or-set_other}
 use Rattle.std.proofs.lemmas.Bool.{cases_eq}
 use Rattle.vp_field.proofs.marks.Marks.keep.Goals as goal
 
 pub returns : goal.returns
-returns c = grind (arith, common_steps, nat_tests, cases_eq, get_or-set_same, get_or-set_other)
+returns c = grind (arith, cases_eq, get_or-set_same, get_or-set_other)

@@ -1,12 +1,10 @@
-use Rattle.std.proofs.lemmas.Grind.{common_steps}
-use Rattle.std.proofs.lemmas.Bool.Decides.{nat_tests}
 use Rattle.std.proofs.Common.{arith}
 use Rattle.std.proofs.Common.{sym, ◌∙◌}
 use Rattle.std.proofs.lemmas.Bool.{true≢false}
 use Rattle.vp_field.proofs.pen.Pen.draw_on.Goals as goal
 
 pub returns-in_default-clause-dots : goal.returns-in_default-clause-dots
-returns-in_default-clause-dots g c = grind (arith, common_steps, nat_tests)
+returns-in_default-clause-dots g c = grind arith
 
 pub returns-in_default-clause-some : goal.returns-in_default-clause-some
 returns-in_default-clause-some g c = λ p h e. absurd (true≢false (sym e ∙ c.requires.white p h))
