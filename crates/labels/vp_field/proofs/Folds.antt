@@ -22,8 +22,7 @@ list_any-push p xs x = grind (arith, list_any-append)
 
 last_where-push : {X : Type 0} (p : X → Bool) (xs : List X) (x : X) → last_where p (xs ++ x ∷ []) ≡ (if p x then Some x else last_where p xs)
 last_where-push p [] x = refl
-last_where-push p (y ∷ xs) x =
-    rw (list_any-push p xs x) (pick (list_any p xs) (p x) _ (Some x) (last_where p xs) _ _ (last_where-push p xs x) (λ e. refl))
+last_where-push p (y ∷ xs) x = rw (list_any-push p xs x) (pick (list_any p xs) (p x) _ (Some x) (last_where p xs) _ _ (last_where-push p xs x) (λ e. refl))
 
 cond-append : {X : Type 0} (b : Bool) (us vs zs : List X) → cond b us vs ++ zs ≡ cond b (us ++ zs) (vs ++ zs)
 cond-append b us vs zs = grind arith

@@ -42,5 +42,4 @@ white_across columns rows ink n h top first at inside from to seen white x k l m
     let low : top ≤ v = from x v l within t.2 in
     let high : v < top + n = to x v l within t.2 in
     let same : top + (v - top) ≡ v = omega arith in
-    let none = seen (λ u. ink u v) (λ d o. ap (λ n. shifted at (λ u. ink u n) d) (sym same) ∙ white (v - top) d (omega arith) (omega arith) (omega arith)) k m in
-    absurd (true≢false (sym t.1 ∙ none)))
+    absurd (true≢false (sym t.1 ∙ (seen (λ u. ink u v) (λ d o. ap (λ n. shifted at (λ u. ink u n) d) (sym same) ∙ white (v - top) d (omega arith) (omega arith) (omega arith)) k m))))

@@ -41,20 +41,17 @@ pub returns-then-from-to-clause-counted : goal.returns-then-from-to-clause-count
 returns-then-from-to-clause-counted g c sheets = λ x k low e.
     let a = c.args in
     let p = picture_of a.stored.now a.picture in
-    let at = c.lying-at in
-    let on = c.lines_on-from in
-    let across = dot_on at.result.columns (pos x) in
-    let seen = rw c.requires.normal (at.ensures.ink (picture_dot p) (pos x) (pos (a.first + k))) ∙ e in
-    let line = at_true (λ v. at_place (λ u. picture_dot p u v) across) (dot_on at.result.rows (pos (a.first + k))) seen in
+    let across = dot_on c.lying-at.result.columns (pos x) in
+    let seen = rw c.requires.normal (c.lying-at.ensures.ink (picture_dot p) (pos x) (pos (a.first + k))) ∙ e in
+    let line = at_true (λ v. at_place (λ u. picture_dot p u v) across) (dot_on c.lying-at.result.rows (pos (a.first + k))) seen in
     let inside = line_inside (picture_dot p) a.picture.rows (λ m n e. (picture_inside p m n e).1) across line.0 line.1 in
-    absurd (omega (arith, on.ensures.from k line.0 low inside line.2, on.ensures.to k line.0 low inside line.2))
+    absurd (omega (arith, c.lines_on-from.ensures.from k line.0 low inside line.2, c.lines_on-from.ensures.to k line.0 low inside line.2))
 
 pub returns-clause-counted : goal.returns-clause-counted
 returns-clause-counted g c sheets = λ x k low e. omega (arith, c.work.ensures.shown, c.paint_rows.ensures.counted)
 
 pub new-rows-requires-clause-mark : goal.new-rows-requires-clause-mark
-new-rows-requires-clause-mark g c =
-    c.last_before-place.ensures.mark c.args.stored.now (contents.Picture c.args.picture) c.requires.marks
+new-rows-requires-clause-mark g c = c.last_before-place.ensures.mark c.args.stored.now (contents.Picture c.args.picture) c.requires.marks
 
 pub returns-clause-marks : goal.returns-clause-marks
 returns-clause-marks g c = grind (arith, common_steps)

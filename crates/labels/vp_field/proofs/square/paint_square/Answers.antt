@@ -24,5 +24,4 @@ returns g c = λ ink e f.
     ap (λ n. word_dot (get_or c.turned_halves-square.result n 0) i) (let z : 0 + at ≡ at = omega arith in z) ∙ c.turned_halves-square.ensures.upper i at l (read_within c.args.rows BAND_ROWS k h) ∙ e i k l h m) in
     columns_both c.args.op ink c.args.x 64 _ _ _ left
     (c.paint_rows-2.ensures ink (λ i k l h m.
-    let long = (left.rows_are k h).length_is in
-    c.turned_halves-square.ensures.lower i (read_at c.args.rows BAND_ROWS k) l (read_within c.args.rows BAND_ROWS k h) ∙ f i k l h (omega (arith, m, long))))
+    c.turned_halves-square.ensures.lower i (read_at c.args.rows BAND_ROWS k) l (read_within c.args.rows BAND_ROWS k h) ∙ f i k l h (omega (arith, m, ((left.rows_are k h).length_is)))))

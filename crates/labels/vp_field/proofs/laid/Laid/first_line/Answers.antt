@@ -10,8 +10,7 @@ pub returns-in-Along-clause-along : goal.returns-in-Along-clause-along
 returns-in-Along-clause-along c o k v l m e =
     let line = c.first_line in
     let fits : SFits w64 line.result = search (rules, line.ensures.low, line.ensures.high) in
-    let low = c.clamped.ensures.above v (rw (to_z-of_z w64 line.result fits) (line.ensures.from k v l e)) in
-    omega (arith, low)
+    omega (arith, c.clamped.ensures.above v (rw (to_z-of_z w64 line.result fits) (line.ensures.from k v l e)))
 
 pub returns-in-Across-clause-across : goal.returns-in-Across-clause-across
 returns-in-Across-clause-across c o x v l m e =
