@@ -65,7 +65,7 @@ columns_words op f x left words a b there e p = columns_within op f (λ d k. wor
     here : (d k : ℕ) → k < BAND_ROWS → words_dot words left 0 BAND_ROWS d k ≡ (span x (x + 64) d && word_dot (get_or words k 0) (d - x))
     here d k h =
         let e : k - 0 ≡ k = omega arith in
-        rw (there, le-leb 0 k (omega arith), e, lt-ltb k 32 h) (elim (cases_lt d x) [
+        rw (there, le-leb 0 k (omega arith), e, lt-ltb k BAND_ROWS h) (elim (cases_lt d x) [
           | inl o ↦ rw (lt-leb x d o) refl
           | inr g ↦ elim (cases_lt d (x + 64)) [
             | inl i ↦ rw (le-leb x d g, lt-ltb (d - x) 64 (omega arith), lt-ltb d (x + 64) i) refl

@@ -1,7 +1,6 @@
 -- Lines that were handed out, and pieces of them.
 use Rattle.std.proofs.Common.{◌≡◌, ℕ, ◌+◌, ◌*◌, ◌≤◌, arith}
 use Rattle.std.proofs.lemmas.Nat.{mul-le}
-use Rattle.vp_bars.specs.Boxes.{box_pieces}
 use Rattle.vp_field.specs.Contents.{lines_cost, block_cost}
 use Rattle.vp_field.specs.Counts.{ArePieces}
 use Rattle.vp_field.specs.declared.axis.Lines.{Lines}
@@ -23,10 +22,3 @@ along_cost lines n bytes walked took e few w t = let least = rw e at t in rw e (
 pub across_cost : (lines : Lines) (n bytes walked took : ℕ) → lines ≡ Across → n ≤ bytes → walked ≤ 2 * n + 1 → took ≤ 2 * (2 * n + 1) + 2504
     → walked + took ≤ block_cost lines (2 * bytes + 1)
 across_cost lines n bytes walked took e few w t = rw e (omega (arith, few, w, t))
-
--- what a bar code costs
-pub bars_along : (lines : Lines) → lines ≡ Along → lines_cost lines box_pieces ≤ 16416
-bars_along lines e = rw e (omega arith)
-
-pub bars_cost : (lines : Lines) → lines_cost lines box_pieces ≤ 43960
-bars_cost lines = grind arith

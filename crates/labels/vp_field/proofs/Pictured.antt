@@ -87,10 +87,6 @@ pub row_unseen : (op : Op) (columns rows : Axis) (first y : ℕ) (row : List ℕ
 row_unseen op columns rows first y row a none = grind (arith, painted_none, elsewhere)
 
 module _ (op : Op) (columns rows : Axis) (first : ℕ) (f : ℕ → ℕ → Bool) where
-  -- the lines from <= v < to on a band
-  upto : ℕ → ℕ → ℕ → ℕ → Bool
-  upto from to x k = laid Along columns rows (part from to f) (pos x) (pos (first + k))
-
   no_line : (from to : ℕ) → to ≤ from → (u v : ℤ) → at_place (λ n. at_place (λ m. part from to f m n) u) v ≡ false
   no_line from to h1 u v = grind arith
 

@@ -1,6 +1,5 @@
 use Rattle.std.proofs.lemmas.Grind.{common_steps}
-use Rattle.std.proofs.Common.{arith}
-use Rattle.std.proofs.Common.{◌≡◌, ℕ, List}
+use Rattle.std.proofs.Common.{◌≡◌, ℕ, List, arith}
 use Rattle.vp_format.specs.declared.field.QrSymbol.{QrSymbol}
 use Rattle.vp_qr.specs.Encoding.{Encodes, QrSymbol as Symbol}
 use Rattle.vp_qr.specs.Inks.{ScaledSymbol}

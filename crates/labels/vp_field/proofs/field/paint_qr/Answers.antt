@@ -1,5 +1,4 @@
-use Rattle.std.proofs.Common.{arith}
-use Rattle.std.proofs.Common.{◌+◌, pos}
+use Rattle.std.proofs.Common.{◌+◌, pos, arith}
 use Rattle.vp_qr.specs.Inks.{side, ink_of}
 use Rattle.vp_field.specs.Contents.{bytes_of, qr_side, qr_dot}
 use Rattle.vp_field.specs.Views.{seen_x, seen_y}

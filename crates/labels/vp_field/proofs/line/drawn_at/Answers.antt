@@ -1,5 +1,4 @@
-use Rattle.std.proofs.Common.{arith}
-use Rattle.std.proofs.Common.{◌*◌, rules, ap, ◌∙◌, w64, to_z, of_z, pos, neg_ℤ, ◌-ℤ◌}
+use Rattle.std.proofs.Common.{◌*◌, rules, ap, ◌∙◌, w64, to_z, of_z, pos, neg_ℤ, ◌-ℤ◌, arith}
 use mir.Val.{SFits}
 use Rattle.std.proofs.lemmas.Int.{to_z-of_z}
 use Rattle.vp_field.proofs.Windowed.{read_forwards, read_backwards}

@@ -35,7 +35,7 @@ returns-in-Along-clause-near c o k v l m e =
     let line = c.first_line in
     let fits : SFits w64 line.result = search (rules, line.ensures.low, line.ensures.high) in
     let before = line.ensures.to k v l e in
-    elim (cases_lt v 32) [
+    elim (cases_lt v BAND_ROWS) [
       | inl k ↦ omega arith
       | inr k ↦ (let n = c.clamped.ensures.below (v - BAND_ROWS) (omega arith) (rw (to_z-of_z w64 line.result fits) (omega (arith, ints, before))) in omega arith)
     ]
