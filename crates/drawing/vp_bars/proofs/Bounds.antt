@@ -1,7 +1,5 @@
 -- How wide symbols can be, and how many bytes have one.
-use Rattle.std.proofs.lemmas.Grind.{common_steps}
-use Rattle.std.proofs.lemmas.Bool.Decides.{nat_tests}
-use Rattle.std.proofs.Common.{◌⊎◌, ◌≡◌, ℕ, ◌+◌, ◌*◌, ◌^◌, ◌<◌, ◌≤◌, Bool, true, false, cond, eqb, leb, List, [], ◌∷◌, ◌++◌, length, take, map, reverse, Result, Err, refl, sym, ap, ◌∙◌, arith}
+use Rattle.std.proofs.Common.{◌⊎◌, ◌≡◌, ℕ, ◌+◌, ◌*◌, ◌^◌, ◌<◌, ◌≤◌, true, eqb, leb, List, [], ◌∷◌, ◌++◌, length, take, map, reverse, Result, Err, refl, sym, ap, ◌∙◌, arith}
 use Rattle.std.specs.List.{flat_map}
 use Rattle.std.proofs.Math.Nat.{mul-le-mul_left}
 use Rattle.std.proofs.lemmas.Bool.{leb-true, eqb-true, lt-ltb}
@@ -14,7 +12,7 @@ use Rattle.vp_dots.specs.declared.fault.Why.TheVariants.{Empty}
 use Rattle.vp_bar_code.specs.declared.BarCode.{BarCode}
 use Rattle.vp_bars.specs.Symbols.{Linear, within_length}
 use Rattle.vp_bars.specs.Patterns.{code39_table, code128_table}
-use Rattle.vp_bars.specs.Elements.{set_a_widths, set_a_elements, set_b_elements, left_elements_of, left_elements, ean13_elements}
+use Rattle.vp_bars.specs.Elements.{set_a_widths, set_a_elements, set_b_elements, left_elements, ean13_elements}
 use Rattle.vp_bars.specs.Symbologies.{symbol_of, size_of, pattern_of}
 use Rattle.vp_bars.specs.Widths.{sized, next_widths, widths_of, bar_widths, width_of, black_of, in_bar, total}
 use Rattle.vp_bars.proofs.Draws.{total-append}
@@ -41,22 +39,18 @@ mass_set_b d = small _ (each_row (λ es. leb (total (reverse es) + length (rever
 mass_left : (sets ds : List ℕ) → mass (left_elements sets ds) ≤ 20 * length ds
 mass_left [] ds = omega arith
 mass_left (s ∷ sets) [] = omega arith
-mass_left (s ∷ sets) (d ∷ ds) = omega (arith, mass-append (left_elements_of s d) (left_elements sets ds), mass_left sets ds, by_set (eqb s 0))
-  where
-    by_set : (b : Bool) → mass (cond b (set_a_elements d) (set_b_elements d)) ≤ 20
-    by_set true = mass_set_a d
-    by_set false = mass_set_b d
+mass_left (s ∷ sets) (d ∷ ds) = grind (arith, mass-append, mass_set_a, mass_set_b, mass_left sets ds)
 
 mass_right : (ds : List ℕ) → mass (flat_map set_a_elements ds) ≤ 20 * length ds
 mass_right [] = omega arith
 mass_right (d ∷ ds) = omega (arith, mass-append (set_a_elements d) (flat_map set_a_elements ds), mass_set_a d, mass_right ds)
 
 mass_digits : (vs : List ℕ) → length vs ≤ 258 → mass (ean13_elements vs) ≤ 10400
-mass_digits vs h1 = grind (arith, common_steps, nat_tests, mass-append, mass_left, mass_right, length-take, length-drop)
+mass_digits vs h1 = grind (arith, mass-append, mass_left, mass_right, length-take, length-drop)
 
 module _ (n w : ℕ) (n_fits : n ≤ 65535) (w_fits : w ≤ 65535) where
   one : (s : Symbology) (e : ℕ) → size_of s n w e ≤ (e + 1) * 65535
-  one s e = grind (arith, common_steps, nat_tests, mul-le-mul_left)
+  one s e = grind (arith, mul-le-mul_left)
 
   -- elements are no wider than so many modules
   weigh : (s : Symbology) (es : List ℕ) → total (sized s n w es) ≤ (total es + length es) * 65535
@@ -72,14 +66,14 @@ module _ (n w : ℕ) (n_fits : n ≤ 65535) (w_fits : w ≤ 65535) where
   pattern_light Code128 v = light _ Code128 (each_row (λ es. leb (total es + length es) 20) code128_table v refl refl)
 
   next_light : (s : Symbology) (v : ℕ) → total (next_widths s n w v) ≤ 21 * 65535
-  next_light s v = grind (arith, common_steps, nat_tests, total-append, pattern_light)
+  next_light s v = grind (arith, total-append, pattern_light)
 
   flat_light : (g : ℕ → List ℕ) → ((v : ℕ) → total (g v) ≤ 21 * 65535) → (vs : List ℕ) → total (flat_map g vs) ≤ length vs * (21 * 65535)
   flat_light g h [] = omega arith
   flat_light g h (v ∷ vs) = omega (arith, total-append (g v) (flat_map g vs), h v, flat_light g h vs)
 
   characters_light : (s : Symbology) (vs : List ℕ) → total (widths_of s n w vs) ≤ length vs * (21 * 65535)
-  characters_light s vs = grind (arith, common_steps, nat_tests, total-append, pattern_light, flat_light, next_light)
+  characters_light s vs = grind (arith, total-append, pattern_light, flat_light, next_light)
 
   digits_light : (vs : List ℕ) → length vs ≤ 258 → total (sized Ean13 n w (ean13_elements vs)) < 2 ^ 30
   digits_light vs h = omega (arith, weigh Ean13 (ean13_elements vs), mass_digits vs h)
@@ -103,23 +97,23 @@ pub eleven_modules : (n w v : ℕ) → v < 106 → total (sized Code128 n w (pat
 eleven_modules n w v h = by_modules n (pattern_of Code128 v) ∙ ap (λ k. k * n) (eleven v h)
 
 pub width_is : (s : Symbology) (n w : ℕ) (vs : List ℕ) → width_of s n w vs ≡ total (bar_widths s n w vs)
-width_is s n w vs = grind (arith, common_steps, nat_tests, ean13_width)
+width_is s n w vs = grind (arith, ean13_width)
 
 pub black_is : (s : Symbology) (n w : ℕ) (vs : List ℕ) (x : ℕ) → black_of s n w vs x ≡ in_bar true (bar_widths s n w vs) x
-black_is s n w vs x = grind (arith, common_steps, nat_tests, ean13_bars)
+black_is s n w vs x = grind (arith, ean13_bars)
 
 -- the bars of the symbologies of characters
 pub characters_are : (s : Symbology) (n w : ℕ) (vs : List ℕ) → (s ≡ Code39) ⊎ (s ≡ Code128) → bar_widths s n w vs ≡ widths_of s n w vs
-characters_are s n w vs h1 = grind (arith, common_steps, nat_tests)
+characters_are s n w vs h1 = grind arith
 
 none-within : (symbol : Result Linear Fault) (bytes : List ℕ) → length bytes ≡ 0 → within_length bytes symbol ≡ Err (Symbol Empty)
-none-within symbol bytes h1 = grind (arith, common_steps, nat_tests)
+none-within symbol bytes h1 = grind arith
 
 many-within : (symbol : Result Linear Fault) (bytes : List ℕ) → 255 < length bytes → within_length bytes symbol ≡ Err SymbolTooLong
-many-within symbol bytes h1 = grind (arith, common_steps, nat_tests, lt-ltb)
+many-within symbol bytes h1 = grind (arith, lt-ltb)
 
 pub none_drawn : (code : BarCode) (bytes : List ℕ) → length bytes ≡ 0 → symbol_of code bytes ≡ Err (Symbol Empty)
-none_drawn code bytes h1 = grind (arith, common_steps, nat_tests, none-within)
+none_drawn code bytes h1 = grind (arith, none-within)
 
 pub many_drawn : (code : BarCode) (bytes : List ℕ) → 255 < length bytes → symbol_of code bytes ≡ Err SymbolTooLong
-many_drawn code bytes h1 = grind (arith, common_steps, nat_tests, many-within)
+many_drawn code bytes h1 = grind (arith, many-within)

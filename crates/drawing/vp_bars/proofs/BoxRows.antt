@@ -1,8 +1,7 @@
 -- The rows of a box.
-use Rattle.std.proofs.lemmas.Grind.{common_steps}
-use Rattle.std.proofs.Common.{inl, inr, ◌≡◌, ℕ, ◌+◌, ◌-◌, ◌*◌, ◌/◌, ◌<◌, ◌≤◌, Bool, true, false, not, cond, ltb, leb, ◌&&◌, List, [], ◌∷◌, ◌++◌, ℤ, refl, sym, ap, ◌∙◌, arith}
+use Rattle.std.proofs.Common.{◌≡◌, ℕ, ◌+◌, ◌-◌, ◌*◌, ◌/◌, ◌<◌, ◌≤◌, Bool, true, false, not, cond, ltb, leb, ◌&&◌, List, [], ◌∷◌, ◌++◌, ℤ, refl, sym, ap, ◌∙◌, arith}
 use Rattle.std.proofs.lemmas.Bool.Decides.{nat_tests}
-use Rattle.std.proofs.lemmas.Bool.{cases_lt, and_parts, ltb-true, leb-true, le-ltb}
+use Rattle.std.proofs.lemmas.Bool.{and_parts, ltb-true, leb-true}
 use Rattle.vp_bar_code.specs.declared.HriPosition.{HriPosition}
 use Rattle.vp_glyph.specs.declared.cell.Font.{Font}
 use Rattle.vp_bars.specs.Symbols.{Linear}
@@ -23,10 +22,7 @@ use Rattle.vp_bars.proofs.Pieces.{reached}
 
 in_bar_inside : (bar : Bool) (ws : List ℕ) (x : ℕ) → in_bar bar ws x ≡ true → x < total ws
 in_bar_inside bar [] x e = cc
-in_bar_inside bar (w ∷ ws) x e = elim (cases_lt x w) [
-  | inl l ↦ omega arith
-  | inr g ↦ (let d : in_bar (not bar) ws (x - w) ≡ true = sym (rw (le-ltb x w g) refl) ∙ e in omega (arith, in_bar_inside (not bar) ws (x - w) d))
-]
+in_bar_inside bar (w ∷ ws) x e = grind (arith, nat_tests, in_bar_inside (not bar) ws (x - w))
 
 pub black_widths : (bars : Linear) (n w x : ℕ) → is_black bars n w x ≡ in_bar true (bar_widths bars.symbology n w bars.values) x
 unfolding is_black
@@ -60,16 +56,16 @@ module _ (w h t high x y : ℕ) (above bars below : Bool) where
   past k = grind (arith, nat_tests)
 
 has_above : (p : HriPosition) (k y : ℕ) → y < texts_above p * k → 0 < texts_above p + texts_below p
-has_above p k y h1 = grind (arith, common_steps, nat_tests)
+has_above p k y h1 = grind arith
 
 has_below : (p : HriPosition) (k t y : ℕ) → t ≤ y → y < t + texts_below p * k → 0 < texts_above p + texts_below p
-has_below p k t y h1 h2 = grind (arith, common_steps, nat_tests)
+has_below p k t y h1 h2 = grind arith
 
 pub text_fits : (f : Font) (p : HriPosition) → 0 < texts_above p + texts_below p → (t : List ℕ) → text_width f p t ≡ line_width f t
-text_fits f p h1 t = grind (arith, common_steps, nat_tests)
+text_fits f p h1 t = grind arith
 
 pub text_stands : (p : HriPosition) → 0 < texts_above p + texts_below p → (t : List ℕ) → text_at p t ≡ t
-text_stands p h1 t = grind (arith, common_steps, nat_tests)
+text_stands p h1 t = grind arith
 
 -- a dot of the text in its place
 pub text_shown : (at : ℤ) (b : Boxed) (y left d : ℕ) (t : List ℕ) → t ≡ text_of b.bars → left ≡ (box_width b - line_width b.font (text_of b.bars)) / 2
@@ -78,22 +74,22 @@ text_shown at b y left d t e l h = rw (e, l) h
 
 module _ (b : Boxed) (y x : ℕ) where
   text_inside : (v : ℕ) → 0 < texts_above b.place + texts_below b.place → text_row b v x ≡ true → x < box_width b
-  text_inside v h e = grind (arith, common_steps, nat_tests, centred_inside, text_fits, line_inside)
+  text_inside v h e = grind (arith, centred_inside, text_fits, line_inside)
 
   bars_inside : bars_row b x ≡ true → x < box_width b
   bars_inside e = centred_inside (box_width b) (bars_width b.bars b.narrow b.wide) (is_black b.bars b.narrow b.wide) x (omega arith) (λ u. black_inside b.bars b.narrow b.wide u) e
 
   pub row_top : y < box_top b → text_row b y x ≡ box_dot b x y
   unfolding box_dot
-  row_top h = grind (arith, common_steps, nat_tests, in_top, text_inside, has_above)
+  row_top h = grind (arith, in_top, text_inside, has_above)
 
   pub row_bars : box_top b ≤ y → y < box_top b + b.height → bars_row b x ≡ box_dot b x y
   unfolding box_dot
-  row_bars h k = grind (arith, common_steps, nat_tests, in_bars, bars_inside)
+  row_bars h k = grind (arith, in_bars, bars_inside)
 
   pub row_below : box_top b + b.height ≤ y → y < box_height b → text_row b (y - box_top b - b.height) x ≡ box_dot b x y
   unfolding box_dot
-  row_below h k = grind (arith, common_steps, nat_tests, in_below, text_inside, has_below)
+  row_below h k = grind (arith, in_below, text_inside, has_below)
 
   pub row_none : box_height b ≤ y → box_dot b x y ≡ false
   unfolding box_dot
@@ -117,7 +113,7 @@ bars_painted op at b row new s vs x next e v l d =
 pub bars_seen : (at : ℤ) (b : Boxed) (row : List ℕ) (s : Symbology) (vs : List ℕ) (x y n d : ℕ)
     → s ≡ b.bars.symbology → vs ≡ b.bars.values → x ≡ (box_width b - bars_width b.bars b.narrow b.wide) / 2 → y ≡ x + total (bar_widths s b.narrow b.wide vs)
     → HandedOut at (dots row) x y n → d < dots row → shifted at (bars_row b) d ≡ true → 0 < n
-bars_seen at b row s vs x y n d e v l m h k t = grind (arith, common_steps, nat_tests, met, and_parts, width_is, reached, leb-true, black_inside)
+bars_seen at b row s vs x y n d e v l m h k t = grind (arith, met, and_parts, width_is, reached, leb-true, black_inside)
 
 -- rows of bars are alike
 pub bars_alike : (b : Boxed) (y x v : ℕ) → box_top b ≤ y → y < box_top b + b.height → box_top b ≤ v → v < box_top b + b.height → box_dot b x v ≡ box_dot b x y

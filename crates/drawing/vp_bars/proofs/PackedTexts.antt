@@ -39,7 +39,7 @@ run_shown : (a b c d : ℕ) (rest vs : List ℕ) (r : Result (List ℕ) Why) →
 run_shown a b c d rest vs r p q h e = grind (arith, nat_tests)
 
 pub no_values : (set : CodeSet) (vs : List ℕ) → ◌≡◌ {A = Result (List ℕ) Why} (Ok []) (Ok vs) → shown_from set set vs ≡ []
-no_values set vs h1 = grind (arith, common_steps, nat_tests)
+no_values set vs h1 = grind arith
 
 not_c : B ≢ C
 not_c e = cc
@@ -70,7 +70,7 @@ mutual
   ]
 
 shown_packed : (set : CodeSet) (src vs : List ℕ) → (set ≡ B) ⊎ (set ≡ C) → packed set src ≡ Ok vs → shown_from set set vs ≡ src
-shown_packed set src vs h1 h2 = grind (arith, common_steps, nat_tests, shown_b, shown_c)
+shown_packed set src vs h1 h2 = grind (arith, shown_b, shown_c)
 
 first_is : (src : List ℕ) → (first_set src ≡ B) ⊎ (first_set src ≡ C)
 first_is src = grind (arith, nat_tests)
@@ -80,7 +80,7 @@ data_is : (start : ℕ) (vs : List ℕ) → data_of (values_with start vs) ≡ v
 data_is start vs = grind (arith, common_steps)
 
 shown_symbol : (set : CodeSet) (vs : List ℕ) → shown_by (values_with (start_of set) vs) ≡ shown_from set set vs
-shown_symbol set vs = grind (arith, common_steps, nat_tests, data_is)
+shown_symbol set vs = grind (arith, data_is)
 
 pub symbol_text : (set : CodeSet) (src : List ℕ) (r : Result (List ℕ) Why) (bars : Linear) → Shows set r src → symbol_from set r ≡ Ok bars → text_of bars ≡ src
 unfolding text_of

@@ -1,5 +1,4 @@
 -- Pieces that are handed out between two places of a row.
-use Rattle.std.proofs.lemmas.Grind.{common_steps}
 use Rattle.std.proofs.Common.{inl, inr, ◌≡◌, ℕ, ◌+◌, ◌-◌, ◌<◌, ◌≤◌, true, false, ltb, max, arith, sym, ◌∙◌, List, length, ℤ, pos, negsuc, ◌+ℤ◌}
 use Rattle.std.proofs.lemmas.Bool.Decides.{nat_tests}
 use Rattle.std.proofs.lemmas.Int.{ints}
@@ -9,18 +8,18 @@ use Rattle.vp_bars.specs.Drawing.{reach, HandedOut}
 
 -- farther on are no fewer dots
 pub reach_more : (at : ℤ) (d x y : ℕ) → x ≤ y → reach at d x ≤ reach at d y
-reach_more at d x y h1 = grind (arith, common_steps, nat_tests)
+reach_more at d x y h1 = grind arith
 
 -- a dot between two places
 pub reached : (at : ℤ) (d x y u e : ℕ) → x ≤ u → u < y → pos e ≡ at +ℤ pos u → e < d → reach at d x < reach at d y
-reached at d x y u e h1 h2 h3 h4 = grind (arith, common_steps, nat_tests, ints)
+reached at d x y u e h1 h2 h3 h4 = grind (arith, ints)
 
 pub not_reached : (at : ℤ) (d x y : ℕ) → ltb (reach at d x) (reach at d y) ≡ false → (u e : ℕ) → x ≤ u → u < y → pos e ≡ at +ℤ pos u → e < d → ⊥
 not_reached at d x y f u e h k q l = let z : true ≡ false = sym (lt-ltb (reach at d x) (reach at d y) (reached at d x y u e h k q l)) ∙ f in cc
 
 -- places before the row, and behind it
 pub none_before : (at : ℤ) (d x y : ℕ) → ((u e : ℕ) → x ≤ u → u < y → pos e ≡ at +ℤ pos u → e < 0) → reach at d y ≤ reach at d x
-none_before at d x y h1 = grind (arith, common_steps, nat_tests, cases_lt, ints, reach_more)
+none_before at d x y h1 = grind (arith, cases_lt, ints, reach_more)
 
 pub none_behind : (at : ℤ) (d x y : ℕ) → ((u e : ℕ) → x ≤ u → u < y → pos e ≡ at +ℤ pos u → d ≤ e) → reach at d y ≤ reach at d x
 none_behind (pos a) d x y h = elim (cases_lt x y) [
@@ -39,7 +38,7 @@ none_behind (negsuc a) d x y h = elim (cases_lt x y) [
 ]
 
 reach_few : (at : ℤ) (d x : ℕ) → reach at d x ≤ d
-reach_few at d x = grind (arith, common_steps, nat_tests)
+reach_few at d x = grind arith
 
 module _ (at : ℤ) (d : ℕ) where
   -- no more than the row has dots
@@ -59,7 +58,7 @@ module _ (at : ℤ) (d : ℕ) where
   -- between places that are farther apart, where the row has no more dots between them
   pub handed_within : (x from to y n : ℕ) → x ≤ from → to ≤ y → reach at d from ≤ reach at d x → reach at d y ≤ reach at d to → HandedOut at d from to n
       → HandedOut at d x y n
-  handed_within x from to y n h k b e p = grind (arith, common_steps, nat_tests, reach_more)
+  handed_within x from to y n h k b e p = grind (arith, reach_more)
 
 module _ (at : ℤ) (a b : List ℕ) (same : length b ≡ length a) where
   -- pieces behind others

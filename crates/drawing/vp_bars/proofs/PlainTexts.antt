@@ -1,7 +1,5 @@
 -- The texts of symbols whose data stand for themselves.
-use Rattle.std.proofs.lemmas.Grind.{common_steps}
-use Rattle.std.proofs.lemmas.Bool.Decides.{nat_tests}
-use Rattle.std.proofs.Common.{◌≡◌, ℕ, ◌<◌, ◌||◌, Bool, true, false, eqb, List, [], ◌∷◌, ◌++◌, get_or, refl, sym, ap, ◌∙◌, arith, Option, Some, None, Result, Ok}
+use Rattle.std.proofs.Common.{◌≡◌, ℕ, ◌<◌, Bool, true, false, eqb, List, [], ◌∷◌, ◌++◌, get_or, refl, sym, ap, ◌∙◌, arith, Option, Some, None, Result, Ok}
 use Rattle.std.specs.Prelude.{map}
 use Rattle.std.specs.List.{list_any}
 use Rattle.std.proofs.lemmas.Bool.{cases_Bool, eqb-true, lt-ltb}
@@ -23,7 +21,7 @@ use Rattle.vp_bars.proofs.PackedTexts.{Shows, byte_shown, no_values, symbol_text
 
 -- what isn't refused for its length
 pub within_ok : (src : List ℕ) (r : Result Linear Fault) (bars : Linear) → within_length src r ≡ Ok bars → r ≡ Ok bars
-within_ok src r bars h1 = grind (arith, common_steps, nat_tests, cases_Bool)
+within_ok src r bars h1 = grind (arith, cases_Bool)
 
 -- a value of Code 39 is its character's
 value_shown : (c v : ℕ) → value_of c ≡ Some v → (v < 43) × (get_or alphabet v 0 ≡ c)
@@ -34,11 +32,7 @@ shown_value c v vs e = let p = value_shown c v e in rw (lt-ltb v 43 p.0) (ap (λ
 
 values_before : (c : ℕ) (cs vs : List ℕ) (o : Option ℕ) (r : Option (List ℕ)) → value_of c ≡ o
     → ((ws : List ℕ) → r ≡ Some ws → characters ws ≡ cs) → with_value o r ≡ Some vs → characters vs ≡ c ∷ cs
-values_before c cs vs None r a f h = cc
-values_before c cs vs (Some v) None a f h = cc
-values_before c cs vs (Some v) (Some ws) a f h =
-    let is : v ∷ ws ≡ vs = cc in
-    ap characters (sym is) ∙ shown_value c v ws a ∙ ap (λ (t : List ℕ). c ∷ t) (f ws refl)
+values_before c cs vs o r h1 h2 h3 = grind (arith, shown_value)
 
 values_shown : (cs vs : List ℕ) → values_of cs ≡ Some vs → characters vs ≡ cs
 values_shown [] [] e = refl
@@ -51,7 +45,7 @@ between_stars vs = flat_map-append character_of vs (star ∷ []) ∙ append-nil 
 
 symbol_shown : (check : Bool) (chars vs : List ℕ) (bars : Linear) → symbol_for check chars ≡ Ok bars → values_of chars ≡ Some vs → text_of bars ≡ characters (checked check vs)
 unfolding text_of
-symbol_shown check chars vs bars h1 h2 = grind (arith, common_steps, nat_tests, between_stars)
+symbol_shown check chars vs bars h1 h2 = grind (arith, between_stars)
 
 has_values : (check : Bool) (chars : List ℕ) (bars : Linear) → symbol_for check chars ≡ Ok bars → (vs : List ℕ) × (values_of chars ≡ Some vs)
 has_values check [] bars e = cc
@@ -81,18 +75,8 @@ code39_checked src vs bars e f =
 -- data without the lead of codes are bytes alone
 alone : (lead : ℕ) (src : List ℕ) → list_any (λ b. eqb b lead) src ≡ false → tokens lead src ≡ map (λ b. Byte b) src
 alone lead [] e = refl
-alone lead (b ∷ []) e = by_byte (eqb b lead) refl e
-  where
-    by_byte : (x : Bool) → eqb b lead ≡ x → (x || false) ≡ false → tokens lead (b ∷ []) ≡ Byte b ∷ []
-    by_byte true a h = cc
-    by_byte false a h = rw a refl
-alone lead (b ∷ c ∷ bytes) e = by_byte (eqb b lead) refl e (λ f. alone lead (c ∷ bytes) f)
-  where
-    by_byte : (x : Bool) → eqb b lead ≡ x → (x || list_any (λ a. eqb a lead) (c ∷ bytes)) ≡ false
-        → (list_any (λ a. eqb a lead) (c ∷ bytes) ≡ false → tokens lead (c ∷ bytes) ≡ map (λ a. Byte a) (c ∷ bytes))
-        → tokens lead (b ∷ c ∷ bytes) ≡ map (λ a. Byte a) (b ∷ c ∷ bytes)
-    by_byte true a h f = cc
-    by_byte false a h f = rw a (ap (λ ts. Byte b ∷ ts) (f h))
+alone lead (b ∷ []) e = grind arith
+alone lead (b ∷ c ∷ bytes) e = grind (arith, alone lead (c ∷ bytes))
 
 bytes_escaped : (src : List ℕ) → Shows B (escaped B (map (λ b. Byte b) src)) src
 bytes_escaped [] vs e = no_values B vs e
@@ -107,7 +91,7 @@ invoked_text src bars n e =
     symbol_text B src (invoked B (tokens greater src)) bars (rw (alone greater src n) (bytes_invoked src)) e
 
 pub label_text : (src : List ℕ) (bars : Linear) → list_any (λ b. eqb b greater) src ≡ false → code128_zpl_of src false ≡ Ok bars → text_of bars ≡ src
-label_text src bars h1 h2 = grind (arith, common_steps, nat_tests, invoked_text, within_ok)
+label_text src bars h1 h2 = grind (arith, invoked_text, within_ok)
 
 pub receipt_text : (src : List ℕ) (bars : Linear) → list_any (λ b. eqb b brace) src ≡ false → code128_esc_of (brace ∷ 66 ∷ src) ≡ Ok bars → text_of bars ≡ src
 receipt_text src bars n e =

@@ -1,5 +1,3 @@
-use Rattle.std.proofs.lemmas.Grind.{common_steps}
-use Rattle.std.proofs.lemmas.Bool.Decides.{nat_tests}
 use Rattle.std.proofs.Common.{arith}
 use Rattle.std.proofs.lemmas.Int.{to_z-of_z}
 use Rattle.vp_bars.proofs.Paints.{drawn_all}
@@ -7,4 +5,4 @@ use Rattle.vp_bars.proofs.TextLines.{cell_past}
 use Rattle.vp_bars.proofs.bar_box.paint_cell_dots.Goals as goal
 
 pub returns : goal.returns
-returns g c = grind (arith, common_steps, nat_tests, to_z-of_z, drawn_all, cell_past)
+returns g c = grind (arith, to_z-of_z, drawn_all, cell_past)

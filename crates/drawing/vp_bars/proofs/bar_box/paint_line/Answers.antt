@@ -1,5 +1,3 @@
-use Rattle.std.proofs.lemmas.Grind.{common_steps}
-use Rattle.std.proofs.lemmas.Bool.Decides.{nat_tests}
 use Rattle.std.proofs.Common.{◌≡◌, ◌+◌, ◌*◌, ap, sym, arith, w64}
 use Rattle.std.proofs.lemmas.Int.{to_z-of_z}
 use Rattle.vp_glyph.specs.Cells.{font_width}
@@ -29,7 +27,7 @@ returns-clause-painted g c = rw (sym (to_z-of_z w64 c.args.at c.ranges.at))
     (rw c.width-width.ensures at c.seen-from.ensures.behind) c.loop-k.invariant.0)
 
 pub returns-clause-most : goal.returns-clause-most
-returns-clause-most g c = grind (arith, common_steps, nat_tests)
+returns-clause-most g c = grind arith
 
 pub returns-clause-some : goal.returns-clause-some
 returns-clause-some g c = rw (sym (to_z-of_z w64 c.args.at c.ranges.at)) (λ d l e.

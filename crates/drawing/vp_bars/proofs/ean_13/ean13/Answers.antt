@@ -1,7 +1,4 @@
-use Rattle.std.proofs.lemmas.Grind.{common_steps}
-use Rattle.std.proofs.lemmas.Bool.Decides.{nat_tests}
-use Rattle.std.proofs.Common.{arith}
-use Rattle.std.proofs.Common.{◌≡◌, ℕ, List, [], ◌∷◌, ◌++◌, ap, ◌∙◌}
+use Rattle.std.proofs.Common.{◌≡◌, ℕ, List, [], ◌∷◌, ◌++◌, ap, ◌∙◌, arith}
 use Rattle.vp_bars.specs.Ean13.{ean13_check, with_check}
 use Rattle.vp_bars.proofs.Digits.{ean13_twelve}
 use Rattle.vp_bars.proofs.ean_13.ean13.Goals as goal
@@ -10,4 +7,4 @@ checked : (ds items slice all : List ℕ) (check : ℕ) → items ≡ ds → sli
 checked ds items slice all check p q r e = e ∙ ap (λ c. items ++ c ∷ []) (r ∙ ap ean13_check q) ∙ ap with_check p
 
 pub returns : goal.returns
-returns c = grind (arith, common_steps, nat_tests, checked, ean13_twelve)
+returns c = grind (arith, checked, ean13_twelve)

@@ -1,11 +1,9 @@
-use Rattle.std.proofs.lemmas.Grind.{common_steps}
-use Rattle.std.proofs.lemmas.Bool.Decides.{nat_tests}
 use Rattle.std.proofs.Common.{arith}
 use Rattle.vp_bars.proofs.Packed.{packed_pair, packed_change}
 use Rattle.vp_bars.proofs.packing.read_in_c.Goals as goal
 
 pub returns-then-begins_pair-clause-value : goal.returns-then-begins_pair-clause-value
-returns-then-begins_pair-clause-value c = grind (arith, common_steps, nat_tests, packed_pair)
+returns-then-begins_pair-clause-value c = grind (arith, packed_pair)
 
 pub returns-clause-value : goal.returns-clause-value
-returns-clause-value c = grind (arith, common_steps, nat_tests, packed_change)
+returns-clause-value c = grind (arith, packed_change)

@@ -1,5 +1,3 @@
-use Rattle.std.proofs.lemmas.Grind.{common_steps}
-use Rattle.std.proofs.lemmas.Bool.Decides.{nat_tests}
 use Rattle.std.proofs.Common.{◌≡◌, ◌≤◌, ◌<◌, ◌+◌, ◌-◌, ◌*◌, ap, ◌∙◌, sym, arith, w64}
 use Rattle.std.proofs.lemmas.Int.{to_z-of_z}
 use Rattle.vp_glyph.specs.Cells.{font_height}
@@ -18,7 +16,7 @@ returns-then-y-top-clause-painted g c =
     rw (sym (to_z-of_z w64 c.args.at c.ranges.at)) (moved_same _ _ (text_row b c.args.y) (λ x. box_dot b x c.args.y) _ _ (λ u. row_top b c.args.y u inside) c.paint_text.ensures.painted)
 
 pub returns-then-y-bottom-clause-painted : goal.returns-then-y-bottom-clause-painted
-returns-then-y-bottom-clause-painted g c = grind (arith, common_steps, nat_tests, to_z-of_z, moved_same, row_bars)
+returns-then-y-bottom-clause-painted g c = grind (arith, to_z-of_z, moved_same, row_bars)
 
 pub returns-then-y-bottom-2-clause-painted : goal.returns-then-y-bottom-2-clause-painted
 returns-then-y-bottom-2-clause-painted g c =
@@ -32,7 +30,7 @@ returns-then-y-bottom-2-clause-painted g c =
     (λ u. ap (λ v. text_row b v u) row ∙ row_below b c.args.y u under over) c.paint_text-then-y-bottom-2.ensures.painted)
 
 pub returns-clause-painted : goal.returns-clause-painted
-returns-clause-painted g c = grind (arith, common_steps, nat_tests, moved_none, row_none)
+returns-clause-painted g c = grind (arith, moved_none, row_none)
 
 pub returns-then-y-top-clause-some : goal.returns-then-y-top-clause-some
 returns-then-y-top-clause-some g c =
@@ -63,4 +61,4 @@ returns-then-y-bottom-2-clause-some g c =
     (λ u q. ap (λ v. text_row b v u) row ∙ row_below b c.args.y u under over) ∙ e))
 
 pub returns-clause-some : goal.returns-clause-some
-returns-clause-some g c = grind (arith, common_steps, nat_tests, to_z-of_z, shifted_none, row_none)
+returns-clause-some g c = grind (arith, to_z-of_z, shifted_none, row_none)

@@ -1,5 +1,3 @@
-use Rattle.std.proofs.lemmas.Grind.{common_steps}
-use Rattle.std.proofs.lemmas.Bool.Decides.{nat_tests}
 use Rattle.std.proofs.Common.{◌≡◌, ap, arith}
 use Rattle.vp_bars.specs.Widths.{bar_widths, widths_of, total}
 use Rattle.vp_bars.specs.Symbols.{Linear}
@@ -7,7 +5,7 @@ use Rattle.vp_bars.proofs.Bounds.{narrow_bars, width_is, characters_are}
 use Rattle.vp_bars.proofs.bars.Bars.width.Goals as goal
 
 pub draw_bars-requires : goal.draw_bars-requires
-draw_bars-requires c = grind (arith, common_steps, nat_tests, narrow_bars)
+draw_bars-requires c = grind (arith, narrow_bars)
 
 pub characters_width-requires : goal.characters_width-requires
 characters_width-requires c =
@@ -19,10 +17,10 @@ characters_width-requires c =
     rw (c.strokes-strokes.ensures.symbology, c.strokes-strokes.ensures.narrow, c.strokes-strokes.ensures.wide, c.strokes-strokes.ensures.values) (omega (arith, few, all))
 
 pub returns-in-Ean13-clause-width : goal.returns-in-Ean13-clause-width
-returns-in-Ean13-clause-width c = grind (arith, common_steps, nat_tests, width_is)
+returns-in-Ean13-clause-width c = grind (arith, width_is)
 
 pub returns-in-Ean13-clause-small : goal.returns-in-Ean13-clause-small
-returns-in-Ean13-clause-small c = grind (arith, common_steps, nat_tests, narrow_bars)
+returns-in-Ean13-clause-small c = grind (arith, narrow_bars)
 
 pub returns-in-Code39 : goal.returns-in-Code39
 returns-in-Code39 c =

@@ -1,8 +1,6 @@
-use Rattle.std.proofs.lemmas.Grind.{common_steps}
-use Rattle.std.proofs.lemmas.Bool.Decides.{nat_tests}
 use Rattle.std.proofs.Common.{arith}
 use Rattle.vp_bars.proofs.WordBars.{turned_by}
 use Rattle.vp_bars.proofs.strokes.Strokes.behind.Goals as goal
 
 pub returns-clause-bar : goal.returns-clause-bar
-returns-clause-bar c = grind (arith, common_steps, nat_tests, turned_by)
+returns-clause-bar c = grind (arith, turned_by)

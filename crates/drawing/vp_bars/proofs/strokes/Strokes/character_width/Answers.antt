@@ -1,8 +1,6 @@
-use Rattle.std.proofs.lemmas.Grind.{common_steps}
-use Rattle.std.proofs.lemmas.Bool.Decides.{nat_tests}
 use Rattle.std.proofs.Common.{arith}
 use Rattle.vp_bars.proofs.Regular.{regular_one}
 use Rattle.vp_bars.proofs.strokes.Strokes.character_width.Goals as goal
 
 pub returns-then-is_regular : goal.returns-then-is_regular
-returns-then-is_regular c = grind (arith, common_steps, nat_tests, regular_one)
+returns-then-is_regular c = grind (arith, regular_one)

@@ -1,5 +1,4 @@
 use Rattle.std.proofs.lemmas.Grind.{common_steps}
-use Rattle.std.proofs.lemmas.Bool.Decides.{nat_tests}
 use Rattle.std.proofs.Common.{◌*◌, ap, arith, length}
 use Rattle.vp_bars.proofs.Regular.{Parts, parts_of}
 use Rattle.vp_bars.proofs.strokes.Strokes.characters_width.Goals as goal
@@ -8,7 +7,7 @@ use Rattle.vp_bars.proofs.strokes.Strokes.characters_width.Goals.{After-split_at
 -- the first character, the regular ones behind it, and the last ones
 parts : (c : After-split_at) → let s = c.args.self.now in
     Parts s.symbology s.narrow s.wide s.values.now c.in-Some.first.now c.split_at.result.0.now c.split_at.result.1.now
-parts c = grind (arith, common_steps, nat_tests, parts_of)
+parts c = grind (arith, common_steps, parts_of)
 
 pub character_width-requires : goal.character_width-requires
 character_width-requires c =
@@ -16,10 +15,10 @@ character_width-requires c =
     omega (arith, p.total_is, c.requires)
 
 pub overflow_cast-result : goal.overflow_cast-result
-overflow_cast-result c = grind (arith, common_steps, nat_tests)
+overflow_cast-result c = grind arith
 
 pub overflow_mul-result : goal.overflow_mul-result
-overflow_mul-result c = grind (arith, common_steps, nat_tests, parts)
+overflow_mul-result c = grind (arith, parts)
 
 pub overflow_add-result : goal.overflow_add-result
 overflow_add-result c =

@@ -1,5 +1,3 @@
-use Rattle.std.proofs.lemmas.Grind.{common_steps}
-use Rattle.std.proofs.lemmas.Bool.Decides.{nat_tests}
 use Rattle.std.proofs.Common.{arith}
 use Rattle.vp_bars.proofs.Draws.{draws_none, draws_same}
 use Rattle.vp_bars.proofs.WordBars.{empty_of}
@@ -7,7 +5,7 @@ use Rattle.vp_bars.proofs.Pieces.{handed_none}
 use Rattle.vp_bars.proofs.strokes.Strokes.draw.Goals as goal
 
 pub returns-then-is_empty-clause-strokes : goal.returns-then-is_empty-clause-strokes
-returns-then-is_empty-clause-strokes c = grind (arith, common_steps, nat_tests, draws_same, empty_of, draws_none)
+returns-then-is_empty-clause-strokes c = grind (arith, draws_same, empty_of, draws_none)
 
 pub returns-then-is_empty-clause-pieces : goal.returns-then-is_empty-clause-pieces
 returns-then-is_empty-clause-pieces c = handed_none _ _ c.args.pen.x

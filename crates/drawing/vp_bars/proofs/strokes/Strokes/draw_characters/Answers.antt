@@ -1,5 +1,4 @@
 use Rattle.std.proofs.lemmas.Grind.{common_steps}
-use Rattle.std.proofs.lemmas.Bool.Decides.{nat_tests}
 use Rattle.std.proofs.Common.{◌++◌, ap, ◌∙◌, sym, arith, w64}
 use Rattle.std.proofs.lemmas.Int.{to_z-of_z}
 use Rattle.std.specs.List.{flat_map}
@@ -13,7 +12,7 @@ use Rattle.vp_bars.proofs.strokes.Strokes.draw_characters.Goals.{After-split_at}
 -- the first character, the regular ones behind it, and the last ones
 parts : (c : After-split_at) → let s = c.args.self.now in
     Parts s.symbology s.narrow s.wide s.values.now c.in-Some.first.now c.split_at.result.0.now c.split_at.result.1.now
-parts c = grind (arith, common_steps, nat_tests, parts_of)
+parts c = grind (arith, common_steps, parts_of)
 
 pub draw-one-requires : goal.draw-one-requires
 draw-one-requires c =
@@ -49,4 +48,4 @@ returns-clause-strokes c =
     (draws_then _ _ _ _ _ _ _ _ _ _ c.draw-one.ensures.strokes (draws_then _ _ _ _ _ _ _ _ _ _ c.draw_regular-more.ensures.strokes c.draw_next-rest.ensures.strokes)))
 
 pub returns-clause-pieces : goal.returns-clause-pieces
-returns-clause-pieces c = grind (arith, common_steps, nat_tests, to_z-of_z, handed_then)
+returns-clause-pieces c = grind (arith, to_z-of_z, handed_then)

@@ -1,5 +1,3 @@
-use Rattle.std.proofs.lemmas.Grind.{common_steps}
-use Rattle.std.proofs.lemmas.Bool.Decides.{nat_tests}
 use Rattle.std.proofs.Common.{◌≡◌, ◌+◌, ◌*◌, ap, sym, ◌∙◌, arith, w64}
 use Rattle.std.specs.List.{flat_map}
 use Rattle.std.proofs.lemmas.Int.{to_z-of_z}
@@ -16,9 +14,7 @@ use Rattle.vp_bars.proofs.strokes.Strokes.draw_digits.Goals.{After-parity}
 whole : (c : After-parity) → let s = c.args.self.now in
     all_widths s.symbology s.narrow s.wide (sized s.symbology s.narrow s.wide (left_elements c.parity.result.now c.split_at.result.0.now)) (flat_map (next_widths s.symbology s.narrow s.wide) c.split_at.result.1.now)
     ≡ sized s.symbology s.narrow s.wide (ean13_elements s.values.now)
-whole c =
-    let s = c.args.self.now in
-    halves s.symbology s.narrow s.wide _ _ _ _ _ _ _ c.requires.digits c.in-Some.ensures.cases.0 c.min.ensures c.split_at.ensures.front c.split_at.ensures.back c.parity.ensures
+whole c = grind (arith, halves)
 
 -- how wide they are together
 sum : (c : After-parity) → let s = c.args.self.now in
@@ -51,4 +47,4 @@ returns-clause-strokes c =
     draws_then _ _ _ _ _ _ _ _ _ _ c.draw_next-rights.ensures.strokes c.draw-three.ensures.strokes)))))
 
 pub returns-clause-pieces : goal.returns-clause-pieces
-returns-clause-pieces c = grind (arith, common_steps, nat_tests, to_z-of_z, handed_then)
+returns-clause-pieces c = grind (arith, to_z-of_z, handed_then)

@@ -1,5 +1,3 @@
-use Rattle.std.proofs.lemmas.Grind.{common_steps}
-use Rattle.std.proofs.lemmas.Bool.Decides.{nat_tests}
 use Rattle.std.proofs.Common.{arith}
 use Rattle.std.proofs.lemmas.Int.{to_z-of_z}
 use Rattle.std.proofs.lemmas.List.{take_all}
@@ -8,7 +6,7 @@ use Rattle.vp_bars.proofs.Draws.{draws_same, draws_then, map_more, map_room}
 use Rattle.vp_bars.proofs.strokes.Strokes.draw_each.Goals as goal
 
 pub draw-pen-requires : goal.draw-pen-requires
-draw-pen-requires c = grind (arith, common_steps, nat_tests, map_room)
+draw-pen-requires c = grind (arith, map_room)
 
 pub loop-e-preserved : goal.loop-e-preserved
 loop-e-preserved c =
@@ -17,4 +15,4 @@ loop-e-preserved c =
     (draws_then _ _ _ _ _ _ _ _ _ _ c.loop-e.invariant c.draw-pen.ensures)
 
 pub returns : goal.returns
-returns c = grind (arith, common_steps, nat_tests, take_all, to_z-of_z)
+returns c = grind (arith, take_all, to_z-of_z)

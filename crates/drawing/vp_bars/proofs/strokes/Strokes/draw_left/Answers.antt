@@ -1,5 +1,3 @@
-use Rattle.std.proofs.lemmas.Grind.{common_steps}
-use Rattle.std.proofs.lemmas.Bool.Decides.{nat_tests}
 use Rattle.std.proofs.Common.{◌∙◌, ◌++◌, ap, sym, take, get_or, arith, w64}
 use Rattle.std.proofs.lemmas.Int.{to_z-of_z}
 use Rattle.vp_bars.specs.Elements.{left_elements, left_elements_of}
@@ -11,7 +9,7 @@ use Rattle.vp_bars.proofs.Pieces.{handed_none, handed_then}
 use Rattle.vp_bars.proofs.strokes.Strokes.draw_left.Goals as goal
 
 pub draw-digit-requires : goal.draw-digit-requires
-draw-digit-requires c = grind (arith, common_steps, nat_tests, left_room)
+draw-digit-requires c = grind (arith, left_room)
 
 pub loop-i-init : goal.loop-i-init
 loop-i-init c = (draws_none _ _ _ _, handed_none _ _ _, omega arith)
@@ -30,7 +28,7 @@ loop-i-preserved c =
     )
 
 pub returns-clause-strokes : goal.returns-clause-strokes
-returns-clause-strokes c = grind (arith, common_steps, nat_tests, left_all, to_z-of_z)
+returns-clause-strokes c = grind (arith, left_all, to_z-of_z)
 
 pub returns-clause-pieces : goal.returns-clause-pieces
 returns-clause-pieces c = rw (sym (to_z-of_z w64 c.args.at c.ranges.at)) c.loop-i.invariant.1

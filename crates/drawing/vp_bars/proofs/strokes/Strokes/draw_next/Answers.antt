@@ -1,5 +1,3 @@
-use Rattle.std.proofs.lemmas.Grind.{common_steps}
-use Rattle.std.proofs.lemmas.Bool.Decides.{nat_tests}
 use Rattle.std.proofs.Common.{◌≡◌, ℕ, ◌++◌, List, ap, ◌∙◌, sym, get_or, arith, w64}
 use Rattle.std.proofs.lemmas.Int.{to_z-of_z}
 use Rattle.std.proofs.lemmas.List.{take_all}
@@ -10,13 +8,13 @@ use Rattle.vp_bars.proofs.Pieces.{handed_none, handed_then, handed_with}
 use Rattle.vp_bars.proofs.strokes.Strokes.draw_next.Goals as goal
 
 pub draw-gap-requires : goal.draw-gap-requires
-draw-gap-requires c = grind (arith, common_steps, nat_tests, flat_room, total-append)
+draw-gap-requires c = grind (arith, flat_room, total-append)
 
 pub character_width-width-requires : goal.character_width-width-requires
-character_width-width-requires c = grind (arith, common_steps, nat_tests, flat_room, total-append)
+character_width-width-requires c = grind (arith, flat_room, total-append)
 
 pub draw_some-character-requires : goal.draw_some-character-requires
-draw_some-character-requires c = grind (arith, common_steps, nat_tests, flat_room, total-append)
+draw_some-character-requires c = grind (arith, flat_room, total-append)
 
 pub loop-v-init : goal.loop-v-init
 loop-v-init c = (draws_none _ _ _ _, handed_none _ _ _, omega arith)
@@ -35,7 +33,7 @@ loop-v-preserved c =
     )
 
 pub returns-clause-strokes : goal.returns-clause-strokes
-returns-clause-strokes c = grind (arith, common_steps, nat_tests, take_all, to_z-of_z)
+returns-clause-strokes c = grind (arith, take_all, to_z-of_z)
 
 pub returns-clause-pieces : goal.returns-clause-pieces
 returns-clause-pieces c = rw (sym (to_z-of_z w64 c.args.at c.ranges.at)) c.loop-v.invariant.1

@@ -1,5 +1,3 @@
-use Rattle.std.proofs.lemmas.Grind.{common_steps}
-use Rattle.std.proofs.lemmas.Bool.Decides.{nat_tests}
 use Rattle.std.proofs.Common.{arith, sym, ◌∙◌, rules, w64, to_z, of_z}
 use mir.Val.{SFits}
 use Rattle.std.proofs.lemmas.Int.{to_z-of_z}
@@ -15,10 +13,10 @@ returns-then-not-is_shown-clause-strokes c =
     (not_reached _ _ _ _ (sym c.is_shown.ensures ∙ c.if-not-is_shown.true)))
 
 pub returns-then-not-is_shown-clause-pieces : goal.returns-then-not-is_shown-clause-pieces
-returns-then-not-is_shown-clause-pieces c = grind (arith, common_steps, nat_tests, to_z-of_z, handed_not)
+returns-then-not-is_shown-clause-pieces c = grind (arith, to_z-of_z, handed_not)
 
 pub returns-then-width-ge64-clause-pieces : goal.returns-then-width-ge64-clause-pieces
-returns-then-width-ge64-clause-pieces c = grind (arith, common_steps, nat_tests, to_z-of_z, handed_shown)
+returns-then-width-ge64-clause-pieces c = grind (arith, to_z-of_z, handed_shown)
 
 pub returns-clause-strokes : goal.returns-clause-strokes
 returns-clause-strokes c =
@@ -28,4 +26,4 @@ returns-clause-strokes c =
     (moved_same _ _ _ _ _ _ c.word.ensures c.paint_word.ensures)
 
 pub returns-clause-pieces : goal.returns-clause-pieces
-returns-clause-pieces c = grind (arith, common_steps, nat_tests, to_z-of_z, handed_shown)
+returns-clause-pieces c = grind (arith, to_z-of_z, handed_shown)

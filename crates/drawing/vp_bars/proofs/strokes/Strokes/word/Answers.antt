@@ -1,5 +1,3 @@
-use Rattle.std.proofs.lemmas.Grind.{common_steps}
-use Rattle.std.proofs.lemmas.Bool.Decides.{nat_tests}
 use Rattle.std.proofs.Common.{arith}
 use Rattle.std.proofs.lemmas.List.{take_all}
 use Rattle.vp_bars.specs.Symbologies.{size_of}
@@ -11,10 +9,10 @@ pub loop-e-init : goal.loop-e-init
 loop-e-init c = marked_none c.args.bar
 
 pub marked-word-requires : goal.marked-word-requires
-marked-word-requires c = grind (arith, common_steps, nat_tests, map_room)
+marked-word-requires c = grind (arith, map_room)
 
 pub moved-pen-requires : goal.moved-pen-requires
-moved-pen-requires c = grind (arith, common_steps, nat_tests, map_room)
+moved-pen-requires c = grind (arith, map_room)
 
 pub loop-e-preserved : goal.loop-e-preserved
 loop-e-preserved c =
@@ -24,4 +22,4 @@ loop-e-preserved c =
     (marked_more c.args.bar _ c.loop-e.word c.loop-e.pen.x c.loop-e.pen.bar c.size-width.result c.marked-word.result c.loop-e.invariant c.marked-word.ensures)
 
 pub returns : goal.returns
-returns c = grind (arith, common_steps, nat_tests, take_all)
+returns c = grind (arith, take_all)
