@@ -1,5 +1,5 @@
 -- How wide symbols can be, and how many bytes have one.
-use Rattle.std.proofs.Common.{inl, inr, ◌⊎◌, ◌≡◌, ℕ, ◌+◌, ◌*◌, ◌^◌, ◌<◌, ◌≤◌, Bool, true, false, cond, eqb, leb, List, [], ◌∷◌, ◌++◌, length, take, drop, map, reverse, Result, Err, refl, sym, ap, ◌∙◌, arith}
+use Rattle.std.proofs.Common.{◌⊎◌, ◌≡◌, ℕ, ◌+◌, ◌*◌, ◌^◌, ◌<◌, ◌≤◌, true, eqb, leb, List, [], ◌∷◌, ◌++◌, length, take, map, reverse, Result, Err, refl, sym, ap, ◌∙◌, arith}
 use Rattle.std.specs.List.{flat_map}
 use Rattle.std.proofs.Math.Nat.{mul-le-mul_left}
 use Rattle.std.proofs.lemmas.Bool.{leb-true, eqb-true, lt-ltb}
@@ -10,11 +10,9 @@ use Rattle.vp_dots.specs.declared.fault.Fault.{Fault}
 use Rattle.vp_dots.specs.declared.fault.Fault.TheVariants.{Symbol, SymbolTooLong}
 use Rattle.vp_dots.specs.declared.fault.Why.TheVariants.{Empty}
 use Rattle.vp_bar_code.specs.declared.BarCode.{BarCode}
-use Rattle.vp_bar_code.specs.declared.BarCode.TheVariants as codes
-use Rattle.vp_bar_code.specs.declared.Code128Data.TheVariants.{Escapes, Invocations, Packed}
 use Rattle.vp_bars.specs.Symbols.{Linear, within_length}
-use Rattle.vp_bars.specs.Patterns.{code39_table, code128_table, parity}
-use Rattle.vp_bars.specs.Elements.{set_a_widths, set_a_elements, set_b_elements, left_elements_of, left_elements, ean13_elements}
+use Rattle.vp_bars.specs.Patterns.{code39_table, code128_table}
+use Rattle.vp_bars.specs.Elements.{set_a_widths, set_a_elements, set_b_elements, left_elements, ean13_elements}
 use Rattle.vp_bars.specs.Symbologies.{symbol_of, size_of, pattern_of}
 use Rattle.vp_bars.specs.Widths.{sized, next_widths, widths_of, bar_widths, width_of, black_of, in_bar, total}
 use Rattle.vp_bars.proofs.Draws.{total-append}
@@ -41,33 +39,18 @@ mass_set_b d = small _ (each_row (λ es. leb (total (reverse es) + length (rever
 mass_left : (sets ds : List ℕ) → mass (left_elements sets ds) ≤ 20 * length ds
 mass_left [] ds = omega arith
 mass_left (s ∷ sets) [] = omega arith
-mass_left (s ∷ sets) (d ∷ ds) = omega (arith, mass-append (left_elements_of s d) (left_elements sets ds), mass_left sets ds, by_set (eqb s 0))
-  where
-    by_set : (b : Bool) → mass (cond b (set_a_elements d) (set_b_elements d)) ≤ 20
-    by_set true = mass_set_a d
-    by_set false = mass_set_b d
+mass_left (s ∷ sets) (d ∷ ds) = grind (arith, mass-append, mass_set_a, mass_set_b, mass_left sets ds)
 
 mass_right : (ds : List ℕ) → mass (flat_map set_a_elements ds) ≤ 20 * length ds
 mass_right [] = omega arith
 mass_right (d ∷ ds) = omega (arith, mass-append (set_a_elements d) (flat_map set_a_elements ds), mass_set_a d, mass_right ds)
 
 mass_digits : (vs : List ℕ) → length vs ≤ 258 → mass (ean13_elements vs) ≤ 10400
-mass_digits [] h = omega arith
-mass_digits (first ∷ ds) h =
-    let guard : List ℕ = 1 ∷ 1 ∷ 1 ∷ [] in
-    let left = left_elements (parity first) (take 6 ds) in
-    let right = flat_map set_a_elements (drop 6 ds) in
-    omega (arith, mass-append left ((1 ∷ 1 ∷ 1 ∷ 1 ∷ 1 ∷ []) ++ (right ++ guard)), mass-append right guard, mass_left (parity first) (take 6 ds), mass_right (drop 6 ds), length-take 6 ds, length-drop 6 ds)
+mass_digits vs h1 = grind (arith, mass-append, mass_left, mass_right, length-take, length-drop)
 
 module _ (n w : ℕ) (n_fits : n ≤ 65535) (w_fits : w ≤ 65535) where
   one : (s : Symbology) (e : ℕ) → size_of s n w e ≤ (e + 1) * 65535
-  one Code39 e = by_width (eqb e 1)
-    where
-      by_width : (b : Bool) → cond b w n ≤ (e + 1) * 65535
-      by_width true = omega arith
-      by_width false = omega arith
-  one Ean13 e = omega (arith, mul-le-mul_left e n_fits)
-  one Code128 e = omega (arith, mul-le-mul_left e n_fits)
+  one s e = grind (arith, mul-le-mul_left)
 
   -- elements are no wider than so many modules
   weigh : (s : Symbology) (es : List ℕ) → total (sized s n w es) ≤ (total es + length es) * 65535
@@ -83,18 +66,14 @@ module _ (n w : ℕ) (n_fits : n ≤ 65535) (w_fits : w ≤ 65535) where
   pattern_light Code128 v = light _ Code128 (each_row (λ es. leb (total es + length es) 20) code128_table v refl refl)
 
   next_light : (s : Symbology) (v : ℕ) → total (next_widths s n w v) ≤ 21 * 65535
-  next_light Code39 v = omega (arith, total-append (sized Code39 n w (0 ∷ [])) (sized Code39 n w (pattern_of Code39 v)), pattern_light Code39 v)
-  next_light Ean13 v = omega (arith, pattern_light Ean13 v)
-  next_light Code128 v = omega (arith, pattern_light Code128 v)
+  next_light s v = grind (arith, total-append, pattern_light)
 
   flat_light : (g : ℕ → List ℕ) → ((v : ℕ) → total (g v) ≤ 21 * 65535) → (vs : List ℕ) → total (flat_map g vs) ≤ length vs * (21 * 65535)
   flat_light g h [] = omega arith
   flat_light g h (v ∷ vs) = omega (arith, total-append (g v) (flat_map g vs), h v, flat_light g h vs)
 
   characters_light : (s : Symbology) (vs : List ℕ) → total (widths_of s n w vs) ≤ length vs * (21 * 65535)
-  characters_light s [] = omega arith
-  characters_light s (v ∷ vs) =
-      omega (arith, total-append (sized s n w (pattern_of s v)) (flat_map (next_widths s n w) vs), pattern_light s v, flat_light (next_widths s n w) (next_light s) vs)
+  characters_light s vs = grind (arith, total-append, pattern_light, flat_light, next_light)
 
   digits_light : (vs : List ℕ) → length vs ≤ 258 → total (sized Ean13 n w (ean13_elements vs)) < 2 ^ 30
   digits_light vs h = omega (arith, weigh Ean13 (ean13_elements vs), mass_digits vs h)
@@ -118,38 +97,23 @@ pub eleven_modules : (n w v : ℕ) → v < 106 → total (sized Code128 n w (pat
 eleven_modules n w v h = by_modules n (pattern_of Code128 v) ∙ ap (λ k. k * n) (eleven v h)
 
 pub width_is : (s : Symbology) (n w : ℕ) (vs : List ℕ) → width_of s n w vs ≡ total (bar_widths s n w vs)
-width_is Code39 n w vs = refl
-width_is Ean13 n w vs = ean13_width n vs
-width_is Code128 n w vs = refl
+width_is s n w vs = grind (arith, ean13_width)
 
 pub black_is : (s : Symbology) (n w : ℕ) (vs : List ℕ) (x : ℕ) → black_of s n w vs x ≡ in_bar true (bar_widths s n w vs) x
-black_is Code39 n w vs x = refl
-black_is Ean13 n w vs x = ean13_bars n vs x
-black_is Code128 n w vs x = refl
+black_is s n w vs x = grind (arith, ean13_bars)
 
 -- the bars of the symbologies of characters
 pub characters_are : (s : Symbology) (n w : ℕ) (vs : List ℕ) → (s ≡ Code39) ⊎ (s ≡ Code128) → bar_widths s n w vs ≡ widths_of s n w vs
-characters_are s n w vs (inl e) = rw e refl
-characters_are s n w vs (inr e) = rw e refl
+characters_are s n w vs h1 = grind arith
 
 none-within : (symbol : Result Linear Fault) (bytes : List ℕ) → length bytes ≡ 0 → within_length bytes symbol ≡ Err (Symbol Empty)
-none-within symbol [] none = refl
-none-within symbol (b ∷ bytes) none = absurd (omega arith)
+none-within symbol bytes h1 = grind arith
 
 many-within : (symbol : Result Linear Fault) (bytes : List ℕ) → 255 < length bytes → within_length bytes symbol ≡ Err SymbolTooLong
-many-within symbol [] many = absurd (omega arith)
-many-within symbol (b ∷ bytes) many = rw (lt-ltb 255 (length (b ∷ bytes)) many) refl
+many-within symbol bytes h1 = grind (arith, lt-ltb)
 
 pub none_drawn : (code : BarCode) (bytes : List ℕ) → length bytes ≡ 0 → symbol_of code bytes ≡ Err (Symbol Empty)
-none_drawn (codes.Code39 check) bytes none = none-within _ bytes none
-none_drawn (codes.Ean13 padded) bytes none = none-within _ bytes none
-none_drawn (codes.Code128 Escapes) bytes none = none-within _ bytes none
-none_drawn (codes.Code128 Invocations) bytes none = none-within _ bytes none
-none_drawn (codes.Code128 Packed) bytes none = none-within _ bytes none
+none_drawn code bytes h1 = grind (arith, none-within)
 
 pub many_drawn : (code : BarCode) (bytes : List ℕ) → 255 < length bytes → symbol_of code bytes ≡ Err SymbolTooLong
-many_drawn (codes.Code39 check) bytes many = many-within _ bytes many
-many_drawn (codes.Ean13 padded) bytes many = many-within _ bytes many
-many_drawn (codes.Code128 Escapes) bytes many = many-within _ bytes many
-many_drawn (codes.Code128 Invocations) bytes many = many-within _ bytes many
-many_drawn (codes.Code128 Packed) bytes many = many-within _ bytes many
+many_drawn code bytes h1 = grind (arith, many-within)

@@ -1,10 +1,8 @@
 -- The rows of a box.
-use Rattle.std.proofs.Common.{inl, inr, ◌≡◌, ℕ, ◌+◌, ◌-◌, ◌*◌, ◌/◌, ◌<◌, ◌≤◌, Bool, true, false, not, cond, ltb, leb, ◌&&◌, List, [], ◌∷◌, ◌++◌, ℤ, refl, sym, ap, ◌∙◌, arith}
+use Rattle.std.proofs.Common.{◌≡◌, ℕ, ◌+◌, ◌-◌, ◌*◌, ◌/◌, ◌<◌, ◌≤◌, Bool, true, false, not, cond, ltb, leb, ◌&&◌, List, [], ◌∷◌, ◌++◌, ℤ, refl, sym, ap, ◌∙◌, arith}
 use Rattle.std.proofs.lemmas.Bool.Decides.{nat_tests}
-use Rattle.std.proofs.lemmas.Bool.{cases_lt, and_parts, ltb-true, leb-true, le-ltb}
+use Rattle.std.proofs.lemmas.Bool.{and_parts, ltb-true, leb-true}
 use Rattle.vp_bar_code.specs.declared.HriPosition.{HriPosition}
-use Rattle.vp_bar_code.specs.declared.HriPosition.TheVariants.{None, Above, Below, Both}
-use Rattle.vp_glyph.specs.Cells.{font_height}
 use Rattle.vp_glyph.specs.declared.cell.Font.{Font}
 use Rattle.vp_bars.specs.Symbols.{Linear}
 use Rattle.vp_bars.specs.Symbologies.{text_of}
@@ -24,10 +22,7 @@ use Rattle.vp_bars.proofs.Pieces.{reached}
 
 in_bar_inside : (bar : Bool) (ws : List ℕ) (x : ℕ) → in_bar bar ws x ≡ true → x < total ws
 in_bar_inside bar [] x e = cc
-in_bar_inside bar (w ∷ ws) x e = elim (cases_lt x w) [
-  | inl l ↦ omega arith
-  | inr g ↦ (let d : in_bar (not bar) ws (x - w) ≡ true = sym (rw (le-ltb x w g) refl) ∙ e in omega (arith, in_bar_inside (not bar) ws (x - w) d))
-]
+in_bar_inside bar (w ∷ ws) x e = grind (arith, nat_tests, in_bar_inside (not bar) ws (x - w))
 
 pub black_widths : (bars : Linear) (n w x : ℕ) → is_black bars n w x ≡ in_bar true (bar_widths bars.symbology n w bars.values) x
 unfolding is_black
@@ -61,24 +56,16 @@ module _ (w h t high x y : ℕ) (above bars below : Bool) where
   past k = grind (arith, nat_tests)
 
 has_above : (p : HriPosition) (k y : ℕ) → y < texts_above p * k → 0 < texts_above p + texts_below p
-has_above None k y h = absurd (omega arith)
-has_above Above k y h = omega arith
-has_above Below k y h = absurd (omega arith)
-has_above Both k y h = omega arith
+has_above p k y h1 = grind arith
 
 has_below : (p : HriPosition) (k t y : ℕ) → t ≤ y → y < t + texts_below p * k → 0 < texts_above p + texts_below p
-has_below None k t y h l = absurd (omega arith)
-has_below Above k t y h l = absurd (omega arith)
-has_below Below k t y h l = omega arith
-has_below Both k t y h l = omega arith
+has_below p k t y h1 h2 = grind arith
 
 pub text_fits : (f : Font) (p : HriPosition) → 0 < texts_above p + texts_below p → (t : List ℕ) → text_width f p t ≡ line_width f t
-text_fits f None h t = absurd (omega arith)
-text_fits f _ h t = refl
+text_fits f p h1 t = grind arith
 
 pub text_stands : (p : HriPosition) → 0 < texts_above p + texts_below p → (t : List ℕ) → text_at p t ≡ t
-text_stands None h t = absurd (omega arith)
-text_stands _ h t = refl
+text_stands p h1 t = grind arith
 
 -- a dot of the text in its place
 pub text_shown : (at : ℤ) (b : Boxed) (y left d : ℕ) (t : List ℕ) → t ≡ text_of b.bars → left ≡ (box_width b - line_width b.font (text_of b.bars)) / 2
@@ -87,26 +74,22 @@ text_shown at b y left d t e l h = rw (e, l) h
 
 module _ (b : Boxed) (y x : ℕ) where
   text_inside : (v : ℕ) → 0 < texts_above b.place + texts_below b.place → text_row b v x ≡ true → x < box_width b
-  text_inside v h e = centred_inside (box_width b) (line_width b.font (text_of b.bars)) (λ u. line_dot b.sheets b.font (text_of b.bars) u v) x
-      (omega (arith, text_fits b.font b.place h (text_of b.bars))) (λ u. line_inside b u v) e
+  text_inside v h e = grind (arith, centred_inside, text_fits, line_inside)
 
   bars_inside : bars_row b x ≡ true → x < box_width b
   bars_inside e = centred_inside (box_width b) (bars_width b.bars b.narrow b.wide) (is_black b.bars b.narrow b.wide) x (omega arith) (λ u. black_inside b.bars b.narrow b.wide u) e
 
   pub row_top : y < box_top b → text_row b y x ≡ box_dot b x y
   unfolding box_dot
-  row_top h = in_top (box_width b) (box_height b) (box_top b) b.height x y (text_row b y x) (bars_row b x) (text_row b (y - box_top b - b.height) x)
-      h (omega arith) (text_inside y (has_above b.place (font_height b.font) y h))
+  row_top h = grind (arith, in_top, text_inside, has_above)
 
   pub row_bars : box_top b ≤ y → y < box_top b + b.height → bars_row b x ≡ box_dot b x y
   unfolding box_dot
-  row_bars h k = in_bars (box_width b) (box_height b) (box_top b) b.height x y (text_row b y x) (bars_row b x) (text_row b (y - box_top b - b.height) x)
-      h k (omega arith) bars_inside
+  row_bars h k = grind (arith, in_bars, bars_inside)
 
   pub row_below : box_top b + b.height ≤ y → y < box_height b → text_row b (y - box_top b - b.height) x ≡ box_dot b x y
   unfolding box_dot
-  row_below h k = in_below (box_width b) (box_height b) (box_top b) b.height x y (text_row b y x) (bars_row b x) (text_row b (y - box_top b - b.height) x)
-      h k (text_inside (y - box_top b - b.height) (has_below b.place (font_height b.font) (box_top b + b.height) y h k))
+  row_below h k = grind (arith, in_below, text_inside, has_below)
 
   pub row_none : box_height b ≤ y → box_dot b x y ≡ false
   unfolding box_dot
@@ -130,15 +113,7 @@ bars_painted op at b row new s vs x next e v l d =
 pub bars_seen : (at : ℤ) (b : Boxed) (row : List ℕ) (s : Symbology) (vs : List ℕ) (x y n d : ℕ)
     → s ≡ b.bars.symbology → vs ≡ b.bars.values → x ≡ (box_width b - bars_width b.bars b.narrow b.wide) / 2 → y ≡ x + total (bar_widths s b.narrow b.wide vs)
     → HandedOut at (dots row) x y n → d < dots row → shifted at (bars_row b) d ≡ true → 0 < n
-bars_seen at b row s vs x y n d e v l m h k t = elim (met at d) [
-  | inl p ↦ (
-      let left = (box_width b - bars_width b.bars b.narrow b.wide) / 2 in
-      let q : (leb left p.0 ≡ true) × (is_black b.bars b.narrow b.wide (p.0 - left) ≡ true) = and_parts _ _ (sym (p.2 (bars_row b)) ∙ t) in
-      let wide : bars_width b.bars b.narrow b.wide ≡ total (bar_widths s b.narrow b.wide vs) = width_is b.bars.symbology b.narrow b.wide b.bars.values ∙ rw (e, v) refl in
-      h.some (reached at (dots row) x y p.0 d (omega (arith, l, leb-true left p.0 q.0))
-      (omega (arith, l, m, wide, leb-true left p.0 q.0, black_inside b.bars b.narrow b.wide (p.0 - left) q.1)) p.1 k))
-  | inr n ↦ (let z : false ≡ true = sym (n.1 (bars_row b)) ∙ t in cc)
-]
+bars_seen at b row s vs x y n d e v l m h k t = grind (arith, met, and_parts, width_is, reached, leb-true, black_inside)
 
 -- rows of bars are alike
 pub bars_alike : (b : Boxed) (y x v : ℕ) → box_top b ≤ y → y < box_top b + b.height → box_top b ≤ v → v < box_top b + b.height → box_dot b x v ≡ box_dot b x y

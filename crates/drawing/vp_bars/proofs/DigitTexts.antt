@@ -1,17 +1,15 @@
 -- The text of an EAN-13 symbol is its digits.
-use Rattle.std.proofs.Common.{◌≡◌, ℕ, zero, suc, ◌+◌, ◌-◌, ◌<◌, ◌≤◌, Bool, true, false, cond, List, [], ◌∷◌, ◌++◌, length, take, replicate, get_or, refl, sym, ap, ◌∙◌, arith, Result, Ok, Err}
+use Rattle.std.proofs.Common.{◌≡◌, ℕ, zero, suc, ◌+◌, ◌-◌, ◌<◌, Bool, true, List, [], ◌∷◌, ◌++◌, length, take, replicate, get_or, refl, sym, ap, ◌∙◌, arith, Result, Ok}
 use Rattle.std.proofs.lemmas.Grind.{common_steps}
 use Rattle.std.specs.List.{list_all}
 use Rattle.std.specs.Char.{is_ascii_digit}
 use Rattle.std.proofs.lemmas.Bool.{and_parts, lt-ltb}
 use Rattle.std.proofs.lemmas.List.{length-map, take-map}
 use Rattle.vp_dots.specs.declared.fault.Fault.{Fault}
-use Rattle.vp_dots.specs.declared.fault.Fault.TheVariants.{Symbol}
-use Rattle.vp_dots.specs.declared.fault.Why.TheVariants.{Char}
 use Rattle.vp_bars.specs.declared.symbology.Symbology.TheVariants.{Ean13}
 use Rattle.vp_bars.specs.Symbols.{Linear}
 use Rattle.vp_bars.specs.Code39.{alphabet}
-use Rattle.vp_bars.specs.Ean13.{ean13_check, padded, with_check, is_count, ean13_symbol, digits_of, ean13_for, ean13_of}
+use Rattle.vp_bars.specs.Ean13.{ean13_check, padded, with_check, is_count, digits_of, ean13_for, ean13_of}
 use Rattle.vp_bars.specs.Symbologies.{text_of}
 use Rattle.vp_bars.specs.Texts.{character_of, characters}
 use Rattle.vp_bars.proofs.Digits.{digit_range, ean13_twelve, ean13_none}
@@ -19,39 +17,19 @@ use Rattle.vp_bars.proofs.PlainTexts.{within_ok}
 
 -- the first ten characters are the digits
 digit_shown : (d : ℕ) → d < 10 → get_or alphabet d 0 ≡ d + 48
-digit_shown zero l = refl
-digit_shown (suc zero) l = refl
-digit_shown (suc (suc zero)) l = refl
-digit_shown (suc (suc (suc zero))) l = refl
-digit_shown (suc (suc (suc (suc zero)))) l = refl
-digit_shown (suc (suc (suc (suc (suc zero))))) l = refl
-digit_shown (suc (suc (suc (suc (suc (suc zero)))))) l = refl
-digit_shown (suc (suc (suc (suc (suc (suc (suc zero))))))) l = refl
-digit_shown (suc (suc (suc (suc (suc (suc (suc (suc zero)))))))) l = refl
-digit_shown (suc (suc (suc (suc (suc (suc (suc (suc (suc zero))))))))) l = refl
-digit_shown (suc (suc (suc (suc (suc (suc (suc (suc (suc (suc d)))))))))) l = absurd (omega arith)
+digit_shown d h1 = grind arith
 
 digit_character : (d : ℕ) → d < 10 → character_of d ≡ (d + 48) ∷ []
 digit_character d l = let small : d < 43 = omega arith in rw (lt-ltb d 43 small) (ap (λ n. n ∷ []) (digit_shown d l))
 
 digits_shown : (src : List ℕ) → list_all is_ascii_digit src ≡ true → characters (digits_of src) ≡ src
 digits_shown [] e = refl
-digits_shown (c ∷ src) e =
-    let both = and_parts (is_ascii_digit c) (list_all is_ascii_digit src) e in
-    let range = digit_range c both.0 in
-    let low : 48 ≤ c = range.0 in
-    let high : c ≤ 57 = range.1 in
-    let same : c - 48 + 48 ≡ c = omega arith in
-    let small : c - 48 < 10 = omega arith in
-    ap (λ (t : List ℕ). t ++ characters (digits_of src)) (digit_character (c - 48) small)
-    ∙ ap (λ n. n ∷ characters (digits_of src)) same
-    ∙ ap (λ (t : List ℕ). c ∷ t) (digits_shown src both.1)
+digits_shown (c ∷ src) e = grind (arith, and_parts, digit_range, digit_character, digits_shown src)
 
 all_taken : (n : ℕ) (src : List ℕ) → list_all is_ascii_digit src ≡ true → list_all is_ascii_digit (take n src) ≡ true
 all_taken zero src e = refl
 all_taken (suc n) [] e = refl
-all_taken (suc n) (c ∷ src) e =
-    let both = and_parts (is_ascii_digit c) (list_all is_ascii_digit src) e in rw both.0 (all_taken n src both.1)
+all_taken (suc n) (c ∷ src) e = grind (arith, and_parts, all_taken n src)
 
 all_behind_zeros : (k : ℕ) (src : List ℕ) → list_all is_ascii_digit src ≡ true → list_all is_ascii_digit (replicate k 48 ++ src) ≡ true
 all_behind_zeros zero src e = e
@@ -89,9 +67,7 @@ module _ (src : List ℕ) (pad : Bool) (bars : Linear) where
 
   made : (d c : Bool) → list_all is_ascii_digit src ≡ d → is_count (length src) pad ≡ c → ean13_for src pad ≡ Ok bars
       → text_of bars ≡ twelve src ++ (ean13_check (digits_of (twelve src)) + 48) ∷ []
-  made true true d c e = twelve_shown d (sym (ean13_twelve src pad d c) ∙ e)
-  made true false d c e = let none = sym (ean13_none src pad d c) ∙ e in cc
-  made false c d f e = let none : ◌≡◌ {A = Result Linear Fault} (Err (Symbol Char)) (Ok bars) = ap (λ b. cond b (ean13_symbol (padded pad (digits_of src))) (Err (Symbol Char))) (sym d) ∙ e in cc
+  made d c h1 h2 h3 = grind (arith, twelve_shown, ean13_twelve, ean13_none)
 
   pub ean13_text : ean13_of src pad ≡ Ok bars → text_of bars ≡ twelve src ++ (ean13_check (digits_of (twelve src)) + 48) ∷ []
   ean13_text e = made (list_all is_ascii_digit src) (is_count (length src) pad) refl refl (within_ok src (ean13_for src pad) bars e)

@@ -1,5 +1,5 @@
 -- The digits of an EAN-13 symbol.
-use Rattle.std.proofs.Common.{inl, inr, ◌≡◌, ℕ, ◌+◌, ◌-◌, ◌*◌, ◌<◌, ◌≤◌, Bool, true, false, List, ◌++◌, length, get_or, take, drop, min, replicate, Ok, Err, refl, sym, ap, ◌∙◌, arith}
+use Rattle.std.proofs.Common.{inl, inr, ◌≡◌, ℕ, ◌+◌, ◌-◌, ◌*◌, ◌<◌, ◌≤◌, Bool, true, false, List, ◌++◌, length, get_or, take, drop, min, replicate, Ok, Err, sym, ap, ◌∙◌, arith}
 use Rattle.std.specs.List.{list_all}
 use Rattle.std.specs.Char.{is_ascii_digit}
 use Rattle.std.proofs.lemmas.Bool.{cases_lt}
@@ -40,11 +40,7 @@ padded_true src = elim (cases_lt (length src) 12) [
 -- what the loops have made of the first 12
 pub twelve_done : (src front items : List ℕ) (m i : ℕ) → m ≡ min (length src) 12 → front ≡ take m src → length front ≤ i
     → items ≡ replicate (12 - length front) 0 ++ digits_of (take i front) → items ≡ padded true (digits_of src)
-twelve_done src front items m i e f h p =
-    let n : length front ≡ min (length src) 12 = ap length f ∙ length-take-le m src (omega arith) ∙ e in
-    p ∙ ap (λ xs. replicate (12 - length front) 0 ++ digits_of xs) (take_all i front h ∙ f ∙ ap (λ j. take j src) e)
-    ∙ ap (λ j. replicate (12 - j) 0 ++ digits_of (take (min (length src) 12) src)) n
-    ∙ padded_true src
+twelve_done src front items m i e f h p = grind (arith, length-take-le, take_all, padded_true)
 
 length-padded : (ds : List ℕ) → length (padded true ds) ≡ 12
 length-padded ds = length-take-le 12 (replicate (12 - length ds) 0 ++ ds) (omega (arith, length-append (replicate (12 - length ds) 0) ds, length-replicate {A = ℕ} (12 - length ds) 0))
@@ -61,8 +57,7 @@ symbol_twelve ds false e = rw e (ap (λ xs. Ok (record { symbology = Ean13; valu
     long ds e = grind (arith, nat_tests)
 
 symbol_none : (ds : List ℕ) (pad : Bool) → is_count (length ds) pad ≡ false → ean13_symbol (padded pad ds) ≡ Err (Symbol Length)
-symbol_none ds true e = cc
-symbol_none ds false e = rw e refl
+symbol_none ds pad h1 = grind arith
 
 module _ (src : List ℕ) (pad : Bool) (digits : list_all is_ascii_digit src ≡ true) where
   count : (b : Bool) → is_count (length src) pad ≡ b → is_count (length (digits_of src)) pad ≡ b

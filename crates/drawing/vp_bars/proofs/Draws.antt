@@ -1,7 +1,7 @@
 -- Drawing one list of widths after another.
-use Rattle.std.proofs.Common.{◌≡◌, ℕ, ◌+◌, ◌<◌, ◌≤◌, refl, sym, ap, ◌∙◌, subst, arith, List, [], ◌∷◌, ◌++◌, append_assoc, ℤ, length, get_or, take, drop, map}
+use Rattle.std.proofs.Common.{◌≡◌, ℕ, zero, suc, ◌+◌, ◌<◌, ◌≤◌, refl, sym, ap, ◌∙◌, subst, arith, List, [], ◌∷◌, ◌++◌, append_assoc, ℤ, length, get_or, take, map}
 use Rattle.std.specs.List.{flat_map}
-use Rattle.std.proofs.lemmas.List.{take_more, take-append-drop, append-nil}
+use Rattle.std.proofs.lemmas.List.{take_more, append-nil}
 use Rattle.vp_dots.specs.declared.Op.{Op}
 use Rattle.vp_bars.specs.declared.pen.Pen.{Pen}
 use Rattle.vp_bars.specs.Drawing.{Draws}
@@ -34,12 +34,9 @@ module _ (s : ℕ → ℕ) where
   map_more xs i h = sym (ap (map s) (take_more xs i 0 h) ∙ map_append (take i xs) (get_or xs i 0 ∷ []))
 
   pub map_room : (xs : List ℕ) (i : ℕ) → i < length xs → total (map s (take i xs)) + s (get_or xs i 0) ≤ total (map s xs)
-  map_room xs i h =
-      let whole : total (map s xs) ≡ total (map s (take (i + 1) xs)) + total (map s (drop (i + 1) xs)) =
-      ap (λ ys. total (map s ys)) (sym (take-append-drop (i + 1) xs)) ∙ ap total (map_append (take (i + 1) xs) (drop (i + 1) xs)) ∙ total-append (map s (take (i + 1) xs)) (map s (drop (i + 1) xs)) in
-      let front : total (map s (take (i + 1) xs)) ≡ total (map s (take i xs)) + (s (get_or xs i 0) + 0) =
-      ap total (sym (map_more xs i h)) ∙ total-append (map s (take i xs)) (s (get_or xs i 0) ∷ []) in
-      omega arith
+  map_room [] i h = absurd (omega arith)
+  map_room (x ∷ xs) zero h = omega arith
+  map_room (x ∷ xs) (suc i) h = omega (arith, map_room xs i (omega arith))
 
 -- the same where an element has a list of widths
 module _ (g : ℕ → List ℕ) where
@@ -51,9 +48,6 @@ module _ (g : ℕ → List ℕ) where
   flat_more xs i h = sym (ap (flat_map g) (take_more xs i 0 h) ∙ flat_append (take i xs) (get_or xs i 0 ∷ []) ∙ ap (λ ws. flat_map g (take i xs) ++ ws) (append-nil (g (get_or xs i 0))))
 
   pub flat_room : (xs : List ℕ) (i : ℕ) → i < length xs → total (flat_map g (take i xs)) + total (g (get_or xs i 0)) ≤ total (flat_map g xs)
-  flat_room xs i h =
-      let whole : total (flat_map g xs) ≡ total (flat_map g (take (i + 1) xs)) + total (flat_map g (drop (i + 1) xs)) =
-      ap (λ ys. total (flat_map g ys)) (sym (take-append-drop (i + 1) xs)) ∙ ap total (flat_append (take (i + 1) xs) (drop (i + 1) xs)) ∙ total-append (flat_map g (take (i + 1) xs)) (flat_map g (drop (i + 1) xs)) in
-      let front : total (flat_map g (take (i + 1) xs)) ≡ total (flat_map g (take i xs)) + total (g (get_or xs i 0)) =
-      ap total (sym (flat_more xs i h)) ∙ total-append (flat_map g (take i xs)) (g (get_or xs i 0)) in
-      omega arith
+  flat_room [] i h = absurd (omega arith)
+  flat_room (x ∷ xs) zero h = omega (arith, total-append (g x) (flat_map g xs))
+  flat_room (x ∷ xs) (suc i) h = omega (arith, total-append (g x) (flat_map g xs), total-append (g x) (flat_map g (take i xs)), flat_room xs i (omega arith))

@@ -21,31 +21,19 @@ left_suc (s ∷ sets) (d ∷ ds) (suc i) h k = ap (λ es. left_elements_of s d +
 pub left_more : (sets ds : List ℕ) (i : ℕ) → i < length sets → i < length ds → left_elements (take i sets) (take i ds) ++ left_elements_of (get_or sets i 0) (get_or ds i 0) ≡ left_elements (take (i + 1) sets) (take (i + 1) ds)
 left_more sets ds i h k = rw add-one (sym (left_suc sets ds i h k))
 
-left_split : (sets ds : List ℕ) (i : ℕ) → left_elements sets ds ≡ left_elements (take i sets) (take i ds) ++ left_elements (drop i sets) (drop i ds)
-left_split sets ds zero = refl
-left_split [] ds (suc i) = refl
-left_split (s ∷ sets) [] (suc i) = sym (none (drop i sets))
-  where
-    none : (ss : List ℕ) → left_elements ss [] ≡ []
-    none [] = refl
-    none (s ∷ ss) = refl
-left_split (s ∷ sets) (d ∷ ds) (suc i) = ap (λ es. left_elements_of s d ++ es) (left_split sets ds i) ∙ sym (append_assoc (left_elements_of s d) _ _)
-
 -- the digits so far, and one more, are no wider than all
 module _ (s : Symbology) (narrow wide : ℕ) where
+  sized_both : (us vs : List ℕ) → total (sized s narrow wide (us ++ vs)) ≡ total (sized s narrow wide us) + total (sized s narrow wide vs)
+  sized_both us vs = ap total (map_append (size_of s narrow wide) us vs) ∙ total-append (sized s narrow wide us) (sized s narrow wide vs)
+
   pub left_room : (sets ds : List ℕ) (i : ℕ) → i < length sets → i < length ds
       → total (sized s narrow wide (left_elements (take i sets) (take i ds))) + total (sized s narrow wide (left_elements_of (get_or sets i 0) (get_or ds i 0))) ≤ total (sized s narrow wide (left_elements sets ds))
-  left_room sets ds i h k =
-      let size : ℕ → ℕ = size_of s narrow wide in
-      let so_far = left_elements (take i sets) (take i ds) in
-      let one = left_elements_of (get_or sets i 0) (get_or ds i 0) in
-      let front = left_elements (take (i + 1) sets) (take (i + 1) ds) in
-      let behind = left_elements (drop (i + 1) sets) (drop (i + 1) ds) in
-      let whole : total (map size (left_elements sets ds)) ≡ total (map size front) + total (map size behind) =
-      ap (λ es. total (map size es)) (left_split sets ds (i + 1)) ∙ ap total (map_append size front behind) ∙ total-append (map size front) (map size behind) in
-      let part : total (map size front) ≡ total (map size so_far) + total (map size one) =
-      ap (λ es. total (map size es)) (sym (left_more sets ds i h k)) ∙ ap total (map_append size so_far one) ∙ total-append (map size so_far) (map size one) in
-      omega arith
+  left_room [] ds i h k = absurd (omega arith)
+  left_room (p ∷ sets) [] i h k = absurd (omega arith)
+  left_room (p ∷ sets) (d ∷ ds) zero h k = omega (arith, sized_both (left_elements_of p d) (left_elements sets ds))
+  left_room (p ∷ sets) (d ∷ ds) (suc i) h k =
+      let one = left_elements_of p d in
+      omega (arith, sized_both one (left_elements sets ds), sized_both one (left_elements (take i sets) (take i ds)), left_room sets ds i (omega arith) (omega arith))
 
 -- all digits that have a set
 pub left_all : (sets ds : List ℕ) (i : ℕ) → min (length sets) (length ds) ≤ i → left_elements (take i sets) (take i ds) ≡ left_elements sets ds
@@ -87,19 +75,11 @@ module _ (s : Symbology) (narrow wide : ℕ) where
   all_widths ls rs = guard_widths ++ (ls ++ (centre_widths ++ (rs ++ guard_widths)))
 
   by_parts : (ls rs : List ℕ) → map size ((1 ∷ 1 ∷ 1 ∷ []) ++ (ls ++ ((1 ∷ 1 ∷ 1 ∷ 1 ∷ 1 ∷ []) ++ (rs ++ (1 ∷ 1 ∷ 1 ∷ []))))) ≡ all_widths (map size ls) (map size rs)
-  by_parts ls rs = ap (λ ws. guard_widths ++ ws) (
-      map_append size ls ((1 ∷ 1 ∷ 1 ∷ 1 ∷ 1 ∷ []) ++ (rs ++ (1 ∷ 1 ∷ 1 ∷ [])))
-      ∙ ap (λ ws. map size ls ++ (centre_widths ++ ws)) (map_append size rs (1 ∷ 1 ∷ 1 ∷ [])))
+  by_parts ls rs = grind (arith, map_append)
 
   pub halves : (vs digits left right sets : List ℕ) (first m : ℕ) → s ≡ Ean13 → vs ≡ first ∷ digits → m ≡ min (length digits) 6 → left ≡ take m digits → right ≡ drop m digits → sets ≡ parity first
       → all_widths (sized s narrow wide (left_elements sets left)) (flat_map (next_widths s narrow wide) right) ≡ sized s narrow wide (ean13_elements vs)
-  halves vs digits left right sets first m e v n l r p =
-      ap (λ ws. all_widths (sized s narrow wide (left_elements sets left)) ws) (right_widths narrow wide s right e)
-      ∙ ap (λ ps. all_widths (sized s narrow wide (left_elements ps left)) (sized s narrow wide (flat_map set_a_elements right))) p
-      ∙ ap (λ ds. all_widths (sized s narrow wide (left_elements (parity first) ds)) (sized s narrow wide (flat_map set_a_elements right))) (l ∙ ap (λ k. take k digits) n ∙ first_six digits)
-      ∙ ap (λ ds. all_widths (sized s narrow wide (left_elements (parity first) (take 6 digits))) (sized s narrow wide (flat_map set_a_elements ds))) (r ∙ ap (λ k. drop k digits) n ∙ other_six digits)
-      ∙ sym (by_parts (left_elements (parity first) (take 6 digits)) (flat_map set_a_elements (drop 6 digits)))
-      ∙ ap (λ us. sized s narrow wide (ean13_elements us)) (sym v)
+  halves vs digits left right sets first m e v n l r p = grind (arith, right_widths, first_six, other_six, by_parts)
 
   pub total-all : (ls rs : List ℕ) → total (all_widths ls rs) ≡ 8 * size 1 + total ls + total rs + 3 * size 1
   total-all ls rs = omega (arith, total-append ls (centre_widths ++ (rs ++ guard_widths)), total-append rs guard_widths)

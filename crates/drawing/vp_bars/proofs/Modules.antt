@@ -1,9 +1,10 @@
 -- The modules of EAN-13 as bars and spaces.
-use Rattle.std.proofs.Common.{inl, inr, ◌≡◌, ℕ, zero, suc, ◌+◌, ◌-◌, ◌*◌, Bool, true, false, not, cond, eqb, ltb, List, [], ◌∷◌, ◌++◌, length, take, drop, map, reverse, replicate, refl, sym, ap, ◌∙◌, append_assoc, arith}
+use Rattle.std.proofs.lemmas.Bool.Decides.{nat_tests}
+use Rattle.std.proofs.Common.{◌≡◌, ℕ, zero, suc, ◌+◌, ◌-◌, ◌*◌, Bool, true, false, not, cond, eqb, ltb, List, [], ◌∷◌, ◌++◌, length, map, reverse, replicate, refl, sym, ap, ◌∙◌, append_assoc, arith}
 use Rattle.std.specs.List.{flat_map}
-use Rattle.std.proofs.lemmas.Bool.{cases_lt, lt-ltb, le-ltb}
+use Rattle.std.proofs.lemmas.Bool.{le-ltb}
 use Rattle.std.proofs.lemmas.List.{length-append, length-replicate}
-use Rattle.vp_bars.specs.Patterns.{set_a_table, set_a, set_b, set_c, parity}
+use Rattle.vp_bars.specs.Patterns.{set_a_table, set_a, set_b, set_c}
 use Rattle.vp_bars.specs.Elements.{set_a_widths, set_a_elements, set_b_elements, left_elements_of, left_elements, ean13_elements}
 use Rattle.vp_bars.specs.Widths.{left_modules, ean13_modules, in_bar, in_module, total}
 use Rattle.vp_bars.proofs.Tables.{mapped_row, each_row}
@@ -37,8 +38,7 @@ set_b_is : (d : ℕ) → expand false (set_b_elements d) ≡ set_b d
 set_b_is d = sym (mapped_row (λ ws. expand false (reverse ws)) set_a_widths d) ∙ mapped_row (λ ms. reverse (map (λ m. 1 - m) ms)) set_a_table d
 
 true_of : (b : Bool) → not b ≡ true → b ≡ false
-true_of true e = cc
-true_of false e = refl
+true_of b h1 = grind arith
 
 set_a_even : (d : ℕ) → behind false (set_a_elements d) ≡ false
 set_a_even d = true_of _ (each_row (λ ws. not (behind false ws)) set_a_widths d refl refl)
@@ -50,19 +50,15 @@ set_c_even : (d : ℕ) → behind true (set_a_elements d) ≡ true
 set_c_even d = each_row (λ ws. behind true ws) set_a_widths d refl refl
 
 digit_is : (set d : ℕ) (b : Bool) → expand false (cond b (set_a_elements d) (set_b_elements d)) ≡ cond b (set_a d) (set_b d)
-digit_is set d true = set_a_is d
-digit_is set d false = set_b_is d
+digit_is set d b = grind (arith, set_a_is, set_b_is)
 
 digit_even : (set d : ℕ) (b : Bool) → behind false (cond b (set_a_elements d) (set_b_elements d)) ≡ false
-digit_even set d true = set_a_even d
-digit_even set d false = set_b_even d
+digit_even set d b = grind (arith, set_a_even, set_b_even)
 
 left_is : (sets ds : List ℕ) → expand false (left_elements sets ds) ≡ left_modules sets ds
 left_is [] ds = refl
 left_is (s ∷ sets) [] = refl
-left_is (s ∷ sets) (d ∷ ds) = expand_append false (left_elements_of s d) (left_elements sets ds)
-    ∙ ap (λ b. expand false (left_elements_of s d) ++ expand b (left_elements sets ds)) (digit_even s d (eqb s 0))
-    ∙ ap (λ ms. ms ++ expand false (left_elements sets ds)) (digit_is s d (eqb s 0)) ∙ ap (λ ms. cond (eqb s 0) (set_a d) (set_b d) ++ ms) (left_is sets ds)
+left_is (s ∷ sets) (d ∷ ds) = grind (arith, expand_append, digit_even, digit_is, left_is sets ds)
 
 left_even : (sets ds : List ℕ) → behind false (left_elements sets ds) ≡ false
 left_even [] ds = refl
@@ -71,44 +67,23 @@ left_even (s ∷ sets) (d ∷ ds) = behind_append false (left_elements_of s d) (
 
 right_is : (ds : List ℕ) → expand true (flat_map set_a_elements ds) ≡ flat_map set_c ds
 right_is [] = refl
-right_is (d ∷ ds) = expand_append true (set_a_elements d) (flat_map set_a_elements ds)
-    ∙ ap (λ b. expand true (set_a_elements d) ++ expand b (flat_map set_a_elements ds)) (set_c_even d)
-    ∙ ap (λ ms. ms ++ expand true (flat_map set_a_elements ds)) (set_c_is d) ∙ ap (λ ms. set_c d ++ ms) (right_is ds)
+right_is (d ∷ ds) = grind (arith, expand_append, set_c_even, set_c_is, right_is ds)
 
 right_even : (ds : List ℕ) → behind true (flat_map set_a_elements ds) ≡ true
 right_even [] = refl
 right_even (d ∷ ds) = behind_append true (set_a_elements d) (flat_map set_a_elements ds) ∙ ap (λ b. behind b (flat_map set_a_elements ds)) (set_c_even d) ∙ right_even ds
 
 pub ean13_is : (vs : List ℕ) → expand true (ean13_elements vs) ≡ ean13_modules vs
-ean13_is [] = refl
-ean13_is (first ∷ ds) =
-    let left = left_elements (parity first) (take 6 ds) in
-    let right = flat_map set_a_elements (drop 6 ds) in
-    let guard : List ℕ = 1 ∷ 1 ∷ 1 ∷ [] in
-    ap (λ ms. 1 ∷ 0 ∷ 1 ∷ ms) (
-    expand_append false left ((1 ∷ 1 ∷ 1 ∷ 1 ∷ 1 ∷ []) ++ (right ++ guard))
-    ∙ ap (λ b. expand false left ++ expand b ((1 ∷ 1 ∷ 1 ∷ 1 ∷ 1 ∷ []) ++ (right ++ guard))) (left_even (parity first) (take 6 ds))
-    ∙ ap (λ ms. ms ++ (0 ∷ 1 ∷ 0 ∷ 1 ∷ 0 ∷ expand true (right ++ guard))) (left_is (parity first) (take 6 ds))
-    ∙ ap (λ ms. left_modules (parity first) (take 6 ds) ++ (0 ∷ 1 ∷ 0 ∷ 1 ∷ 0 ∷ ms)) (
-    expand_append true right guard ∙ ap (λ b. expand true right ++ expand b guard) (right_even (drop 6 ds)) ∙ ap (λ ms. ms ++ (1 ∷ 0 ∷ 1 ∷ [])) (right_is (drop 6 ds))))
+ean13_is vs = grind (arith, expand_append, left_even, left_is, right_even, right_is)
 
 module _ (n : ℕ) where
   -- the place lies in the first modules, or behind them
   stretch : (k m : ℕ) (ms : List ℕ) (x : ℕ) → in_module n (replicate k m ++ ms) x ≡ cond (ltb x (k * n)) (eqb m 1) (in_module n ms (x - k * n))
   stretch zero m ms x = let z : 0 * n ≡ 0 = omega arith in let y : x - 0 ≡ x = omega arith in rw (z, y, le-ltb x 0 (omega arith)) refl
-  stretch (suc k) m ms x =
-      let p : suc k * n ≡ n + k * n = omega arith in
-      elim (cases_lt x n) [
-        | inl l ↦ rw (lt-ltb x n l, p, lt-ltb x (n + k * n) (omega arith)) refl
-        | inr g ↦ rw (le-ltb x n g, p, stretch k m ms (x - n)) (elim (cases_lt x (n + k * n)) [
-          | inl l ↦ rw (lt-ltb x (n + k * n) l, lt-ltb (x - n) (k * n) (omega arith)) refl
-          | inr h ↦ (let y : x - n - k * n ≡ x - (n + k * n) = omega arith in rw (le-ltb x (n + k * n) h, le-ltb (x - n) (k * n) (omega arith), y) refl)
-        ])
-      ]
+  stretch (suc k) m ms x = grind (arith, nat_tests, stretch k m ms (x - n))
 
   is_one : (b : Bool) → eqb (cond b 1 0) 1 ≡ b
-  is_one true = refl
-  is_one false = refl
+  is_one b = grind arith
 
   bars_are : (bar : Bool) (ws : List ℕ) (x : ℕ) → in_module n (expand bar ws) x ≡ in_bar bar (map (λ w. w * n) ws) x
   bars_are bar [] x = refl

@@ -1,5 +1,5 @@
 -- Packed data, front by front.
-use Rattle.std.proofs.Common.{◌≡◌, ◌≢◌, ℕ, ◌≤◌, List, [], ◌∷◌, true, false, length, drop, get_or, refl, arith, Result, Ok, Err}
+use Rattle.std.proofs.Common.{◌≡◌, ◌≢◌, ℕ, ◌≤◌, List, [], ◌∷◌, true, false, length, drop, get_or, refl, arith, Result}
 use Rattle.std.specs.Char.{is_ascii_digit}
 use Rattle.std.proofs.lemmas.Bool.{and_parts}
 use Rattle.vp_dots.specs.declared.fault.Why.{Why}
@@ -15,9 +15,7 @@ pub record IsPair (bytes : List ℕ) : Type 0 where
   pub second : is_ascii_digit (get_or bytes 1 0) ≡ true
 
 pub pair_digits : (bytes : List ℕ) → begins_pair bytes ≡ true → IsPair bytes
-pair_digits [] e = cc
-pair_digits (a ∷ []) e = cc
-pair_digits (a ∷ b ∷ bytes) e = let p = and_parts _ _ e in record { two = omega arith; first = p.0; second = p.1 }
+pair_digits bytes h1 = grind (arith, and_parts)
 
 pub packed_pair : (bytes : List ℕ) → begins_pair bytes ≡ true → packed C bytes ≡ onto (pair_of (get_or bytes 0 0) (get_or bytes 1 0) ∷ []) (packed C (drop 2 bytes))
 packed_pair [] e = cc
@@ -30,8 +28,7 @@ packed_change (a ∷ []) h e = refl
 packed_change (a ∷ b ∷ bytes) h e = rw e refl
 
 three : (x y z : ℕ) (r : Result (List ℕ) Why) → onto (x ∷ y ∷ z ∷ []) r ≡ onto (x ∷ []) (onto (y ∷ []) (onto (z ∷ []) r))
-three x y z (Ok vs) = refl
-three x y z (Err why) = refl
+three x y z r = grind arith
 
 -- the selector of C and two pairs, in A as in B
 run : (set : CodeSet) → set ≢ C → (bytes : List ℕ) → begins_run bytes ≡ true → packed set bytes ≡ onto (99 ∷ []) (

@@ -8,7 +8,7 @@ use Rattle.vp_dots.specs.declared.fault.Fault.{Fault}
 use Rattle.vp_dots.specs.declared.fault.Fault.TheVariants.{SymbolTooLong}
 use Rattle.vp_bars.specs.declared.symbology.Symbology.TheVariants as symbologies
 use Rattle.vp_bars.specs.declared.code_128.CodeSet.{CodeSet}
-use Rattle.vp_bars.specs.declared.code_128.CodeSet.TheVariants.{A, B, C}
+use Rattle.vp_bars.specs.declared.code_128.CodeSet.TheVariants.{B, C}
 use Rattle.vp_bars.specs.Symbols.{Linear}
 use Rattle.vp_bars.specs.CodeSets.{start_of, value_in, onto, plain, values_with, symbol_from}
 use Rattle.vp_bars.specs.Invocations.{pair_of}
@@ -39,8 +39,7 @@ run_shown : (a b c d : ℕ) (rest vs : List ℕ) (r : Result (List ℕ) Why) →
 run_shown a b c d rest vs r p q h e = grind (arith, nat_tests)
 
 pub no_values : (set : CodeSet) (vs : List ℕ) → ◌≡◌ {A = Result (List ℕ) Why} (Ok []) (Ok vs) → shown_from set set vs ≡ []
-no_values set [] e = refl
-no_values set (v ∷ vs) e = cc
+no_values set vs h1 = grind arith
 
 not_c : B ≢ C
 not_c e = cc
@@ -71,10 +70,7 @@ mutual
   ]
 
 shown_packed : (set : CodeSet) (src vs : List ℕ) → (set ≡ B) ⊎ (set ≡ C) → packed set src ≡ Ok vs → shown_from set set vs ≡ src
-shown_packed B src vs h e = shown_b src vs e
-shown_packed C src vs h e = shown_c src vs e
-shown_packed A src vs (inl h) e = cc
-shown_packed A src vs (inr h) e = cc
+shown_packed set src vs h1 h2 = grind (arith, shown_b, shown_c)
 
 first_is : (src : List ℕ) → (first_set src ≡ B) ⊎ (first_set src ≡ C)
 first_is src = grind (arith, nat_tests)
@@ -84,9 +80,7 @@ data_is : (start : ℕ) (vs : List ℕ) → data_of (values_with start vs) ≡ v
 data_is start vs = grind (arith, common_steps)
 
 shown_symbol : (set : CodeSet) (vs : List ℕ) → shown_by (values_with (start_of set) vs) ≡ shown_from set set vs
-shown_symbol A vs = ap (shown_from A A) (data_is 103 vs)
-shown_symbol B vs = ap (shown_from B B) (data_is 104 vs)
-shown_symbol C vs = ap (shown_from C C) (data_is 105 vs)
+shown_symbol set vs = grind (arith, data_is)
 
 pub symbol_text : (set : CodeSet) (src : List ℕ) (r : Result (List ℕ) Why) (bars : Linear) → Shows set r src → symbol_from set r ≡ Ok bars → text_of bars ≡ src
 unfolding text_of

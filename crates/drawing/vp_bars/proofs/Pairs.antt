@@ -1,5 +1,5 @@
 -- Pairs of digits in code sets A and C.
-use Rattle.std.proofs.Common.{◌≡◌, ◌≢◌, ℕ, List, [], ◌∷◌, true, false, cond, refl, ap, ◌∙◌}
+use Rattle.std.proofs.Common.{◌≡◌, ◌≢◌, ℕ, List, [], ◌∷◌, true, false, cond, refl, ap, ◌∙◌, arith}
 use Rattle.std.specs.Char.{is_ascii_digit}
 use Rattle.vp_bars.specs.declared.code_128.CodeSet.{CodeSet}
 use Rattle.vp_bars.specs.declared.code_128.CodeSet.TheVariants.{A, B, C}
@@ -23,19 +23,13 @@ dropped C d (Lead ∷ ts) n e = refl
 -- a digit at the end, before a code or before a lead
 module _ (set : CodeSet) (d : ℕ) (ts : List Token) (n : set ≢ B) where
   at_end : (u : CodeSet) → u ≢ B → invoked u (Byte d ∷ []) ≡ invoked u []
-  at_end B m = absurd (m refl)
-  at_end A m = refl
-  at_end C m = refl
+  at_end u h1 = grind arith
 
   at_code : (u : CodeSet) (c : ℕ) (rest : List Token) → u ≢ B → invoked u (Byte d ∷ Code c ∷ rest) ≡ invoked u (Code c ∷ rest)
-  at_code B c rest m = absurd (m refl)
-  at_code A c rest m = refl
-  at_code C c rest m = refl
+  at_code u c rest h1 = grind arith
 
   at_lead : (u : CodeSet) (rest : List Token) → u ≢ B → invoked u (Byte d ∷ Lead ∷ rest) ≡ invoked u (Lead ∷ rest)
-  at_lead B rest m = absurd (m refl)
-  at_lead A rest m = refl
-  at_lead C rest m = refl
+  at_lead u rest h1 = grind arith
 
   pub before_end : ts ≡ [] → invoked set (Byte d ∷ ts) ≡ invoked set ts
   before_end e = rw e (at_end set n)
@@ -48,9 +42,7 @@ module _ (set : CodeSet) (d : ℕ) (ts : List Token) (n : set ≢ B) where
 
   module _ (digit : is_ascii_digit d ≡ true) where
     by_set : (u : CodeSet) (e : ℕ) (rest : List Token) → u ≢ B → invoked u (Byte d ∷ Byte e ∷ rest) ≡ onto (cond (is_ascii_digit e) (pair_in u (pair_of d e)) []) (invoked u rest)
-    by_set B e rest m = absurd (m refl)
-    by_set A e rest m = rw digit refl
-    by_set C e rest m = rw digit refl
+    by_set u e rest h1 = grind arith
 
     -- two digits
     pub before_digit : (e : ℕ) (rest : List Token) → ts ≡ Byte e ∷ rest → is_ascii_digit e ≡ true → invoked set (Byte d ∷ ts) ≡ onto (pair_in set (pair_of d e)) (invoked set rest)

@@ -8,30 +8,18 @@ use Rattle.vp_bars.specs.Drawing.{reach, HandedOut}
 
 -- farther on are no fewer dots
 pub reach_more : (at : ℤ) (d x y : ℕ) → x ≤ y → reach at d x ≤ reach at d y
-reach_more (pos a) d x y h = omega arith
-reach_more (negsuc a) d x y h = omega arith
+reach_more at d x y h1 = grind arith
 
 -- a dot between two places
 pub reached : (at : ℤ) (d x y u e : ℕ) → x ≤ u → u < y → pos e ≡ at +ℤ pos u → e < d → reach at d x < reach at d y
-reached (pos a) d x y u e h k q l = let z : e ≡ a + u = omega (arith, ints) in omega arith
-reached (negsuc a) d x y u e h k q l = let z : e + (a + 1) ≡ u = omega (arith, ints) in omega arith
+reached at d x y u e h1 h2 h3 h4 = grind (arith, ints)
 
 pub not_reached : (at : ℤ) (d x y : ℕ) → ltb (reach at d x) (reach at d y) ≡ false → (u e : ℕ) → x ≤ u → u < y → pos e ≡ at +ℤ pos u → e < d → ⊥
 not_reached at d x y f u e h k q l = let z : true ≡ false = sym (lt-ltb (reach at d x) (reach at d y) (reached at d x y u e h k q l)) ∙ f in cc
 
 -- places before the row, and behind it
 pub none_before : (at : ℤ) (d x y : ℕ) → ((u e : ℕ) → x ≤ u → u < y → pos e ≡ at +ℤ pos u → e < 0) → reach at d y ≤ reach at d x
-none_before (pos a) d x y h = elim (cases_lt x y) [
-  | inl l ↦ absurd (let z = h x (a + x) (omega arith) l (omega (arith, ints)) in omega arith)
-  | inr g ↦ reach_more (pos a) d y x g
-]
-none_before (negsuc a) d x y h = elim (cases_lt x y) [
-  | inl l ↦ elim (cases_lt (a + 1) y) [
-    | inl m ↦ absurd (let z = h (y - 1) (y - 1 - (a + 1)) (omega arith) (omega arith) (omega (arith, ints)) in omega arith)
-    | inr m ↦ omega arith
-  ]
-  | inr g ↦ reach_more (negsuc a) d y x g
-]
+none_before at d x y h1 = grind (arith, cases_lt, ints, reach_more)
 
 pub none_behind : (at : ℤ) (d x y : ℕ) → ((u e : ℕ) → x ≤ u → u < y → pos e ≡ at +ℤ pos u → d ≤ e) → reach at d y ≤ reach at d x
 none_behind (pos a) d x y h = elim (cases_lt x y) [
@@ -50,8 +38,7 @@ none_behind (negsuc a) d x y h = elim (cases_lt x y) [
 ]
 
 reach_few : (at : ℤ) (d x : ℕ) → reach at d x ≤ d
-reach_few (pos a) d x = omega arith
-reach_few (negsuc a) d x = omega arith
+reach_few at d x = grind arith
 
 module _ (at : ℤ) (d : ℕ) where
   -- no more than the row has dots
@@ -71,10 +58,7 @@ module _ (at : ℤ) (d : ℕ) where
   -- between places that are farther apart, where the row has no more dots between them
   pub handed_within : (x from to y n : ℕ) → x ≤ from → to ≤ y → reach at d from ≤ reach at d x → reach at d y ≤ reach at d to → HandedOut at d from to n
       → HandedOut at d x y n
-  handed_within x from to y n h k b e p = record {
-    few = omega (arith, p.few, reach_more at d x from h, reach_more at d to y k);
-    some = λ l. p.some (omega arith);
-  }
+  handed_within x from to y n h k b e p = grind (arith, reach_more)
 
 module _ (at : ℤ) (a b : List ℕ) (same : length b ≡ length a) where
   -- pieces behind others

@@ -1,5 +1,5 @@
 -- The texts of symbols whose data stand for themselves.
-use Rattle.std.proofs.Common.{◌≡◌, ℕ, ◌<◌, ◌||◌, Bool, true, false, eqb, ltb, cond, List, [], ◌∷◌, ◌++◌, length, get_or, refl, sym, ap, ◌∙◌, arith, inl, inr, Option, Some, None, Result, Ok, Err}
+use Rattle.std.proofs.Common.{◌≡◌, ℕ, ◌<◌, Bool, true, false, eqb, List, [], ◌∷◌, ◌++◌, get_or, refl, sym, ap, ◌∙◌, arith, Option, Some, None, Result, Ok}
 use Rattle.std.specs.Prelude.{map}
 use Rattle.std.specs.List.{list_any}
 use Rattle.std.proofs.lemmas.Bool.{cases_Bool, eqb-true, lt-ltb}
@@ -7,15 +7,13 @@ use Rattle.std.proofs.lemmas.List.{append-nil}
 use Rattle.std.proofs.lemmas.List.Quantifiers.{position-Some}
 use Rattle.std.proofs.lemmas.List.Concat.{flat_map-append}
 use Rattle.vp_dots.specs.declared.fault.Fault.{Fault}
-use Rattle.vp_dots.specs.declared.fault.Fault.TheVariants.{SymbolTooLong}
-use Rattle.vp_bars.specs.declared.symbology.Symbology.TheVariants as symbologies
 use Rattle.vp_bars.specs.declared.code_128.CodeSet.TheVariants.{B}
 use Rattle.vp_bars.specs.declared.code_128.Token.TheVariants.{Byte}
 use Rattle.vp_bars.specs.Symbols.{Linear, within_length}
 use Rattle.vp_bars.specs.Code39.{alphabet, value_of, with_value, values_of, code39_check, checked, star, unstarred, code39_symbol, symbol_for, code39_of}
 use Rattle.vp_bars.specs.CodeSets.{tokens}
 use Rattle.vp_bars.specs.Escapes.{brace, escaped, code128_esc_of}
-use Rattle.vp_bars.specs.Invocations.{greater, invoked, invoked_from, started_symbol, started}
+use Rattle.vp_bars.specs.Invocations.{greater, invoked, invoked_from}
 use Rattle.vp_bars.specs.Packing.{code128_zpl_of}
 use Rattle.vp_bars.specs.Symbologies.{text_of}
 use Rattle.vp_bars.specs.Texts.{character_of, characters}
@@ -23,14 +21,7 @@ use Rattle.vp_bars.proofs.PackedTexts.{Shows, byte_shown, no_values, symbol_text
 
 -- what isn't refused for its length
 pub within_ok : (src : List ℕ) (r : Result Linear Fault) (bars : Linear) → within_length src r ≡ Ok bars → r ≡ Ok bars
-within_ok [] r bars e = cc
-within_ok (b ∷ bytes) r bars e = elim (cases_Bool (ltb 255 (length (b ∷ bytes)))) [
-  | inl long ↦ refused (ap (λ t. cond t (Err SymbolTooLong) r) (sym long) ∙ e)
-  | inr short ↦ ap (λ t. cond t (Err SymbolTooLong) r) (sym short) ∙ e
-]
-  where
-    refused : {P : Type 0} → ◌≡◌ {A = Result Linear Fault} (Err SymbolTooLong) (Ok bars) → P
-    refused h = cc
+within_ok src r bars h1 = grind (arith, cases_Bool)
 
 -- a value of Code 39 is its character's
 value_shown : (c v : ℕ) → value_of c ≡ Some v → (v < 43) × (get_or alphabet v 0 ≡ c)
@@ -41,11 +32,7 @@ shown_value c v vs e = let p = value_shown c v e in rw (lt-ltb v 43 p.0) (ap (λ
 
 values_before : (c : ℕ) (cs vs : List ℕ) (o : Option ℕ) (r : Option (List ℕ)) → value_of c ≡ o
     → ((ws : List ℕ) → r ≡ Some ws → characters ws ≡ cs) → with_value o r ≡ Some vs → characters vs ≡ c ∷ cs
-values_before c cs vs None r a f h = cc
-values_before c cs vs (Some v) None a f h = cc
-values_before c cs vs (Some v) (Some ws) a f h =
-    let is : v ∷ ws ≡ vs = cc in
-    ap characters (sym is) ∙ shown_value c v ws a ∙ ap (λ (t : List ℕ). c ∷ t) (f ws refl)
+values_before c cs vs o r h1 h2 h3 = grind (arith, shown_value)
 
 values_shown : (cs vs : List ℕ) → values_of cs ≡ Some vs → characters vs ≡ cs
 values_shown [] [] e = refl
@@ -58,13 +45,7 @@ between_stars vs = flat_map-append character_of vs (star ∷ []) ∙ append-nil 
 
 symbol_shown : (check : Bool) (chars vs : List ℕ) (bars : Linear) → symbol_for check chars ≡ Ok bars → values_of chars ≡ Some vs → text_of bars ≡ characters (checked check vs)
 unfolding text_of
-symbol_shown check [] vs bars e f = cc
-symbol_shown check (c ∷ cs) vs bars e f =
-    let same : ◌≡◌ {A = Result Linear Fault} (Ok (record { symbology = symbologies.Code39; values = star ∷ checked check vs ++ star ∷ [] })) (Ok bars) = ap (code39_symbol check) (sym f) ∙ e in
-    rw (sym (ok_same same)) (between_stars (checked check vs))
-  where
-    ok_same : {x y : Linear} → ◌≡◌ {A = Result Linear Fault} (Ok x) (Ok y) → x ≡ y
-    ok_same h = cc
+symbol_shown check chars vs bars h1 h2 = grind (arith, between_stars)
 
 has_values : (check : Bool) (chars : List ℕ) (bars : Linear) → symbol_for check chars ≡ Ok bars → (vs : List ℕ) × (values_of chars ≡ Some vs)
 has_values check [] bars e = cc
@@ -94,18 +75,8 @@ code39_checked src vs bars e f =
 -- data without the lead of codes are bytes alone
 alone : (lead : ℕ) (src : List ℕ) → list_any (λ b. eqb b lead) src ≡ false → tokens lead src ≡ map (λ b. Byte b) src
 alone lead [] e = refl
-alone lead (b ∷ []) e = by_byte (eqb b lead) refl e
-  where
-    by_byte : (x : Bool) → eqb b lead ≡ x → (x || false) ≡ false → tokens lead (b ∷ []) ≡ Byte b ∷ []
-    by_byte true a h = cc
-    by_byte false a h = rw a refl
-alone lead (b ∷ c ∷ bytes) e = by_byte (eqb b lead) refl e (λ f. alone lead (c ∷ bytes) f)
-  where
-    by_byte : (x : Bool) → eqb b lead ≡ x → (x || list_any (λ a. eqb a lead) (c ∷ bytes)) ≡ false
-        → (list_any (λ a. eqb a lead) (c ∷ bytes) ≡ false → tokens lead (c ∷ bytes) ≡ map (λ a. Byte a) (c ∷ bytes))
-        → tokens lead (b ∷ c ∷ bytes) ≡ map (λ a. Byte a) (b ∷ c ∷ bytes)
-    by_byte true a h f = cc
-    by_byte false a h f = rw a (ap (λ ts. Byte b ∷ ts) (f h))
+alone lead (b ∷ []) e = grind arith
+alone lead (b ∷ c ∷ bytes) e = grind (arith, alone lead (c ∷ bytes))
 
 bytes_escaped : (src : List ℕ) → Shows B (escaped B (map (λ b. Byte b) src)) src
 bytes_escaped [] vs e = no_values B vs e
@@ -120,16 +91,7 @@ invoked_text src bars n e =
     symbol_text B src (invoked B (tokens greater src)) bars (rw (alone greater src n) (bytes_invoked src)) e
 
 pub label_text : (src : List ℕ) (bars : Linear) → list_any (λ b. eqb b greater) src ≡ false → code128_zpl_of src false ≡ Ok bars → text_of bars ≡ src
-label_text [] bars n e = cc
-label_text (b ∷ []) bars n e = invoked_text (b ∷ []) bars n (within_ok (b ∷ []) (invoked_from B (b ∷ [])) bars e)
-label_text (b ∷ c ∷ bytes) bars n e = by_first (eqb b greater) refl n
-  where
-    by_first : (x : Bool) → eqb b greater ≡ x → (x || list_any (λ a. eqb a greater) (c ∷ bytes)) ≡ false → text_of bars ≡ b ∷ c ∷ bytes
-    by_first true a h = cc
-    by_first false a h =
-        invoked_text (b ∷ c ∷ bytes) bars n (
-        sym (ap (λ t. started_symbol (cond t (started c) None) (b ∷ c ∷ bytes) bytes) a)
-        ∙ within_ok (b ∷ c ∷ bytes) (started_symbol (cond (eqb b greater) (started c) None) (b ∷ c ∷ bytes) bytes) bars e)
+label_text src bars h1 h2 = grind (arith, invoked_text, within_ok)
 
 pub receipt_text : (src : List ℕ) (bars : Linear) → list_any (λ b. eqb b brace) src ≡ false → code128_esc_of (brace ∷ 66 ∷ src) ≡ Ok bars → text_of bars ≡ src
 receipt_text src bars n e =

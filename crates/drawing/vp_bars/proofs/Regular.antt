@@ -1,7 +1,8 @@
 -- Regular characters: how wide they are together, and those that a row doesn't show.
+use Rattle.std.proofs.lemmas.Bool.Decides.{nat_tests}
 use Rattle.std.proofs.Common.{inl, inr, ◌≡◌, ℕ, zero, suc, ◌+◌, ◌-◌, ◌*◌, ◌%◌, ◌<◌, ◌≤◌, Bool, true, false, not, cond, eqb, ltb, ◌&&◌, List, [], ◌∷◌, ◌++◌, length, take, drop, map, refl, sym, ap, ◌∙◌, subst, arith, ℤ, pos, ◌+ℤ◌}
 use Rattle.std.specs.List.{All, flat_map}
-use Rattle.std.proofs.lemmas.Bool.{cases_lt, and_parts, eqb-true, ltb-true, lt-ltb, le-ltb}
+use Rattle.std.proofs.lemmas.Bool.{cases_lt, eqb-true, ltb-true, lt-ltb, le-ltb}
 use Rattle.std.proofs.lemmas.List.{take-append-drop, get_or-take, length-take-le, length-drop, drop-drop}
 use Rattle.std.proofs.Math.Nat.{mul-le-mul_right}
 use Rattle.std.proofs.lemmas.List.Elements.{All-nil, All-head, All-tail, All-take, All-drop}
@@ -34,12 +35,7 @@ narrows (e ∷ es) = cond (eqb e 1) 0 1 + narrows es
 
 by_wides : (n w : ℕ) (es : List ℕ) → total (map (size_of Code39 n w) es) ≡ wides es * w + narrows es * n
 by_wides n w [] = omega arith
-by_wides n w (e ∷ es) = one (eqb e 1) (by_wides n w es)
-  where
-    one : (b : Bool) → total (map (size_of Code39 n w) es) ≡ wides es * w + narrows es * n
-        → cond b w n + total (map (size_of Code39 n w) es) ≡ (cond b 1 0 + wides es) * w + (cond b 0 1 + narrows es) * n
-    one true h = omega arith
-    one false h = omega arith
+by_wides n w (e ∷ es) = grind (arith, by_wides n w es)
 
 abbrev of_code39 : List ℕ → Bool
 of_code39 es = eqb (wides es) 3 && eqb (narrows es) 6
@@ -52,11 +48,7 @@ seven v h = eqb-true _ _ (list_all_get (λ es. eqb (total es) 7) set_a_widths v 
 
 -- how wide one is
 pub regular_one : (s : Symbology) (n w v : ℕ) → IsRegular s v → total (sized s n w (pattern_of s v)) ≡ regular_width s n w
-regular_one Code39 n w v h =
-    let p : (eqb (wides (pattern_of Code39 v)) 3 ≡ true) × (eqb (narrows (pattern_of Code39 v)) 6 ≡ true) = and_parts _ _ (code39_row v (ltb-true v 44 h)) in
-    let three = eqb-true (wides (pattern_of Code39 v)) 3 p.0 in
-    let six = eqb-true (narrows (pattern_of Code39 v)) 6 p.1 in
-    by_wides n w (pattern_of Code39 v) ∙ ap (λ k. k * w + narrows (pattern_of Code39 v) * n) three ∙ ap (λ k. 3 * w + k * n) six ∙ omega arith
+regular_one Code39 n w v h = grind (arith, nat_tests, by_wides n w (pattern_of Code39 v), code39_row v)
 regular_one Ean13 n w v h = by_modules n (pattern_of Ean13 v) ∙ ap (λ k. k * n) (seven v (ltb-true v 10 h))
 regular_one Code128 n w v h = eleven_modules n w v (ltb-true v 106 h)
 
@@ -73,32 +65,20 @@ turned-append bar [] vs = refl
 turned-append bar (u ∷ us) vs = turned-append (not bar) us vs
 
 not_not : (b : Bool) → not (not b) ≡ b
-not_not true = refl
-not_not false = refl
+not_not b = grind arith
+
+even : (b : Bool) → not b ≡ true → b ≡ false
+even b h = grind arith
 
 -- a bar comes behind one where a bar came before it
 turned_next : (s : Symbology) (n w v : ℕ) (bar : Bool) → IsRegular s v → turned bar (next_widths s n w v) ≡ bar
-turned_next Code39 n w v bar h =
-    turned_odd (size_of Code39 n w) (not bar) (pattern_of Code39 v)
+turned_next Code39 n w v bar h = turned_odd (size_of Code39 n w) (not bar) (pattern_of Code39 v)
     ∙ ap (λ b. cond b (not (not bar)) (not bar)) (list_all_get (λ es. eqb (length es % 2) 1) code39_table v [] (ltb-true v 44 h) refl) ∙ not_not bar
-turned_next Ean13 n w v bar h =
-    turned_odd (size_of Ean13 n w) bar (pattern_of Ean13 v)
-    ∙ ap (λ b. cond b (not bar) bar) (even (eqb (length (pattern_of Ean13 v) % 2) 1) (list_all_get (λ es. not (eqb (length es % 2) 1)) set_a_widths v [] (ltb-true v 10 h) refl))
-  where
-    even : (b : Bool) → not b ≡ true → b ≡ false
-    even true e = cc
-    even false e = refl
-turned_next Code128 n w v bar h =
-    turned_odd (size_of Code128 n w) bar (pattern_of Code128 v)
-    ∙ ap (λ b. cond b (not bar) bar) (even (eqb (length (pattern_of Code128 v) % 2) 1) (rest (ltb-true v 106 h)))
-  where
-    even : (b : Bool) → not b ≡ true → b ≡ false
-    even true e = cc
-    even false e = refl
-
-    rest : v < 106 → not (eqb (length (pattern_of Code128 v) % 2) 1) ≡ true
-    rest l = ap (λ es. not (eqb (length es % 2) 1)) (sym (get_or-take 106 code128_table v [] l))
-        ∙ list_all_get (λ es. not (eqb (length es % 2) 1)) (take 106 code128_table) v [] l refl
+turned_next Ean13 n w v bar h = turned_odd (size_of Ean13 n w) bar (pattern_of Ean13 v)
+    ∙ ap (λ b. cond b (not bar) bar) (even _ (list_all_get (λ es. not (eqb (length es % 2) 1)) set_a_widths v [] (ltb-true v 10 h) refl))
+turned_next Code128 n w v bar h = turned_odd (size_of Code128 n w) bar (pattern_of Code128 v) ∙ ap (λ b. cond b (not bar) bar) (even _ (
+    ap (λ es. not (eqb (length es % 2) 1)) (sym (get_or-take 106 code128_table v [] (ltb-true v 106 h)))
+    ∙ list_all_get (λ es. not (eqb (length es % 2) 1)) (take 106 code128_table) v [] (ltb-true v 106 h) refl))
 
 regular_turned : (s : Symbology) (n w : ℕ) (bar : Bool) (vs : List ℕ) → All (IsRegular s) vs → turned bar (flat_map (next_widths s n w) vs) ≡ bar
 regular_turned s n w bar [] h = refl

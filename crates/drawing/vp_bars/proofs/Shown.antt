@@ -1,5 +1,5 @@
 -- Texts character by character.
-use Rattle.std.proofs.Common.{◌≡◌, ℕ, ◌+◌, ◌<◌, List, ◌++◌, length, get_or, drop, sym, ap, ◌∙◌, append_assoc}
+use Rattle.std.proofs.Common.{◌≡◌, ℕ, ◌+◌, ◌<◌, List, ◌++◌, length, get_or, drop, sym, ap, ◌∙◌, append_assoc, arith}
 use Rattle.std.proofs.lemmas.List.{drop_more}
 use Rattle.vp_bars.specs.declared.code_128.CodeSet.{CodeSet}
 use Rattle.vp_bars.specs.Texts.{character_of, characters, text_in_set, set_behind, next_set, shown_from}
@@ -11,5 +11,4 @@ characters_more vs text i h e = e ∙ ap (λ us. text ++ characters us) (drop_mo
 
 pub shown_more : (start set now : CodeSet) (vs text : List ℕ) (i : ℕ) → i < length vs → shown_from start start vs ≡ text ++ shown_from set now (drop i vs)
     → shown_from start start vs ≡ (text ++ text_in_set now (get_or vs i 0)) ++ shown_from (set_behind set (get_or vs i 0)) (next_set set (get_or vs i 0)) (drop (i + 1) vs)
-shown_more start set now vs text i h e =
-    e ∙ ap (λ us. text ++ shown_from set now us) (drop_more vs i 0 h) ∙ sym (append_assoc text (text_in_set now (get_or vs i 0)) (shown_from (set_behind set (get_or vs i 0)) (next_set set (get_or vs i 0)) (drop (i + 1) vs)))
+shown_more start set now vs text i h e = grind (arith, drop_more, append_assoc)

@@ -5,7 +5,6 @@ use Rattle.std.proofs.lemmas.Bool.{cases_lt, and_parts, leb-true, lt-ltb, le-ltb
 use Rattle.std.proofs.lemmas.List.{drop_more}
 use Rattle.vp_glyph.specs.Sheets.{Sheets}
 use Rattle.vp_glyph.specs.declared.cell.Font.{Font}
-use Rattle.vp_glyph.specs.declared.cell.Font.TheVariants.{A, B}
 use Rattle.vp_glyph.specs.declared.cell.Style.{Style}
 use Rattle.vp_glyph.specs.Cells.{font_width, cell_width, cell_dot, cell_inside}
 use Rattle.vp_dots.specs.Dots.{shifted}
@@ -22,20 +21,16 @@ pub cell_past : (sheets : Sheets) (font : Font) (style : Style) (c x y : ℕ) �
 cell_past sheets font style c x y h = false_from_ne_true (cell_dot sheets font style c x y) (λ e. absurd (let k = (cell_inside sheets font style c x y e).0 in omega arith))
 
 place_here : (f : Font) (j : ℕ) → j < font_width f → (j / font_width f ≡ 0) × (j % font_width f ≡ j)
-place_here A j h = (omega arith, omega arith)
-place_here B j h = (omega arith, omega arith)
+place_here f j h1 = grind arith
 
 place_after : (f : Font) (j : ℕ) → ((font_width f + j) / font_width f ≡ suc (j / font_width f)) × ((font_width f + j) % font_width f ≡ j % font_width f)
-place_after A j = (omega arith, omega arith)
-place_after B j = (omega arith, omega arith)
+place_after f j = grind arith
 
 room : (f : Font) (n j : ℕ) → ltb (font_width f + j) (font_width f * suc n) ≡ ltb j (font_width f * n)
-room A n j = elim (cases_lt j (12 * n)) [ inl l ↦ rw (lt-ltb j (12 * n) l) (lt-ltb (12 + j) (12 * suc n) (omega arith)) | inr g ↦ rw (le-ltb j (12 * n) g) (le-ltb (12 + j) (12 * suc n) (omega arith)) ]
-room B n j = elim (cases_lt j (9 * n)) [ inl l ↦ rw (lt-ltb j (9 * n) l) (lt-ltb (9 + j) (9 * suc n) (omega arith)) | inr g ↦ rw (le-ltb j (9 * n) g) (le-ltb (9 + j) (9 * suc n) (omega arith)) ]
+room f n j = grind (arith, cases_lt, lt-ltb, le-ltb)
 
 wide : (f : Font) (n j : ℕ) → j < font_width f → ltb j (font_width f * suc n) ≡ true
-wide A n j h = lt-ltb j (12 * suc n) (omega arith)
-wide B n j h = lt-ltb j (9 * suc n) (omega arith)
+wide f n j h1 = grind (arith, lt-ltb)
 
 module _ (sheets : Sheets) (font : Font) (y : ℕ) where
   cons_here : (c : ℕ) (rest : List ℕ) (j : ℕ) → j < font_width font → line_dot sheets font (c ∷ rest) j y ≡ cell_dot sheets font plain_style c j y
@@ -57,11 +52,7 @@ module _ (sheets : Sheets) (font : Font) (y : ℕ) where
   -- the cells from i on
   pub line_from : (text : List ℕ) (i j : ℕ) → i ≤ length text → line_dot sheets font text (font_width font * i + j) y ≡ line_dot sheets font (drop i text) j y
   line_from text zero j h = ap (λ n. line_dot sheets font text n y) (let e : font_width font * 0 + j ≡ j = omega arith in e)
-  line_from text (suc i) j h =
-      let e : font_width font * suc i + j ≡ font_width font * i + (font_width font + j) = omega arith in
-      let k : i + 1 ≡ suc i = omega arith in
-      ap (λ n. line_dot sheets font text n y) e ∙ line_from text i (font_width font + j) (omega arith) ∙ line_after text i j (omega arith)
-      ∙ ap (λ n. line_dot sheets font (drop n text) j y) k
+  line_from text (suc i) j h = grind (arith, line_from text i (font_width font + j), line_after)
 
   pub line_past : (text : List ℕ) (j : ℕ) → font_width font * length text ≤ j → line_dot sheets font text j y ≡ false
   unfolding line_dot
@@ -90,8 +81,7 @@ module _ (op : Op) (at : ℤ) (sheets : Sheets) (font : Font) (text : List ℕ) 
   LeftFrom old row i = Drawn op at placed old row (left + font_width font * i) (λ j. line_dot sheets font (drop i text) j y)
 
   and_false : (b : Bool) → (b && false) ≡ false
-  and_false true = refl
-  and_false false = refl
+  and_false b = grind arith
 
   -- the first cells can't be seen
   pub line_begun : (i : ℕ) (row : List ℕ) → i ≤ length text → ((x d : ℕ) → left ≤ x → x < left + font_width font * i → pos d ≡ at +ℤ pos x → d < 0)

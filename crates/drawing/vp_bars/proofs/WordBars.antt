@@ -1,5 +1,7 @@
 -- Bars and spaces in a word, and drawn at once.
-use Rattle.std.proofs.Common.{inl, inr, ◌≡◌, ℕ, suc, ◌+◌, ◌-◌, ◌/◌, ◌%◌, ◌^◌, ◌<◌, ◌≤◌, Bool, true, false, not, ltb, leb, eqb, ◌&&◌, ◌||◌, refl, sym, ap, ◌∙◌, subst, arith, List, [], ◌∷◌, ◌++◌, ℤ, length, bit_or, map, cond, pos, negsuc, ◌+ℤ◌, SFits, to_z, of_z, w64}
+use Rattle.std.proofs.lemmas.Grind.{common_steps}
+use Rattle.std.proofs.lemmas.Bool.Decides.{nat_tests}
+use Rattle.std.proofs.Common.{inl, inr, ◌≡◌, ℕ, ◌+◌, ◌-◌, ◌/◌, ◌%◌, ◌^◌, ◌<◌, ◌≤◌, Bool, true, false, not, ltb, leb, eqb, ◌&&◌, ◌||◌, refl, sym, ap, ◌∙◌, subst, arith, List, [], ◌∷◌, ◌++◌, ℤ, length, bit_or, map, cond, pos, ◌+ℤ◌, SFits, to_z, of_z, w64}
 use mathlib.Core.Bool.{beq}
 use Rattle.std.proofs.lemmas.Int.{ints, to_z-of_z}
 use Rattle.std.proofs.lemmas.Nat.Bits.{bit_at-zero}
@@ -24,17 +26,12 @@ in_bar_past bar (w ∷ ws) x h = rw (le-ltb x w (omega arith)) (in_bar_past (not
 -- the first widths of more
 pub in_bar_front : (bar : Bool) (us vs : List ℕ) (x : ℕ) → x < total us → in_bar bar (us ++ vs) x ≡ in_bar bar us x
 in_bar_front bar [] vs x h = absurd (omega arith)
-in_bar_front bar (u ∷ us) vs x h = elim (cases_lt x u) [
-  | inl l ↦ rw (lt-ltb x u l) refl
-  | inr g ↦ rw (le-ltb x u g) (in_bar_front (not bar) us vs (x - u) (omega arith))
-]
+in_bar_front bar (u ∷ us) vs x h = grind (arith, nat_tests, in_bar_front (not bar) us vs (x - u))
 
 -- and those behind them
 pub in_bar_behind : (bar : Bool) (us vs : List ℕ) (x : ℕ) → in_bar bar (us ++ vs) (total us + x) ≡ in_bar (turned bar us) vs x
 in_bar_behind bar [] vs x = let e : 0 + x ≡ x = omega arith in rw e refl
-in_bar_behind bar (u ∷ us) vs x =
-    let e : u + total us + x - u ≡ total us + x = omega arith in
-    rw (le-ltb (u + total us + x) u (omega arith), e) (in_bar_behind (not bar) us vs x)
+in_bar_behind bar (u ∷ us) vs x = grind (arith, nat_tests, in_bar_behind (not bar) us vs x)
 
 pub turned_more : (bar : Bool) (us : List ℕ) (w : ℕ) → turned bar (us ++ w ∷ []) ≡ not (turned bar us)
 turned_more bar [] w = refl
@@ -51,15 +48,7 @@ unfolding bit
 no_bit k = ap (λ n. eqb n 1) (bit_at-zero k)
 
 pub marked_none : (bar : Bool) → Marked bar [] 0 0 bar
-marked_none bar = record {
-  dots_are = λ j. ap (λ b. ltb j 64 && b) (no_bit (63 - j)) ∙ and_none (ltb j 64);
-  x_is = refl;
-  bar_is = refl;
-}
-  where
-    and_none : (b : Bool) → (b && false) ≡ false
-    and_none true = refl
-    and_none false = refl
+marked_none bar = grind (arith, no_bit)
 
 pub marked_more : (bar : Bool) (us : List ℕ) (word x : ℕ) (now : Bool) (w new : ℕ) → Marked bar us word x now
     → ((j : ℕ) → word_dot new j ≡ (word_dot word j || now && (leb x j && ltb (j - x) w))) → Marked bar (us ++ w ∷ []) new (x + w) (not now)
@@ -95,35 +84,11 @@ marked_more bar us word x now w new m e = record {
 -- the dot that a bar more has
 pub marked_bar : (word dots x w j : ℕ) → dots < 2 ^ 64 → ((i : ℕ) → word_dot dots i ≡ ltb i w) → x + w < 64
     → word_dot (bit_or word (dots / 2 ^ x)) j ≡ (word_dot word j || leb x j && ltb (j - x) w)
-marked_bar word dots x w j h e l = elim (cases_lt j 64) [
-  | inl k ↦ rw (lt-ltb j 64 k) (bit_of_or word (dots / 2 ^ x) (63 - j) ∙ other (bit (dots / 2 ^ x) (63 - j)) (bit word (63 - j)) ∙ ap (λ b. bit word (63 - j) || b) (word_shr dots x j h k ∙ elim (cases_lt j x) [
-    | inl m ↦ rw (lt-leb x j m) refl
-    | inr m ↦ rw (le-leb x j m) (sym (ap (λ b. b && bit dots (63 - (j - x))) (lt-ltb (j - x) 64 (omega arith))) ∙ e (j - x))
-  ]))
-  | inr g ↦ rw (le-ltb j 64 g, le-leb x j (omega arith), le-ltb (j - x) w (omega arith)) refl
-]
-  where
-    other : (b a : Bool) → cond b true a ≡ (a || b)
-    other true true = refl
-    other true false = refl
-    other false true = refl
-    other false false = refl
+marked_bar word dots x w j h e l = grind (arith, cases_lt, lt-ltb, bit_of_or, word_shr, lt-leb, le-leb, le-ltb)
 
 -- a place of what is moved twice
 pub moved_twice : (at place : ℤ) (x : ℕ) (f : ℕ → Bool) (d : ℕ) → place ≡ at +ℤ pos x → shifted place f d ≡ shifted at (λ i. leb x i && f (i - x)) d
-moved_twice (pos a) (pos p) x f d e = let k : p ≡ a + x = omega (arith, ints) in elim (cases_lt d a) [
-  | inl l ↦ rw (lt-leb a d l, lt-leb p d (omega arith)) refl
-  | inr g ↦ rw (le-leb a d g) (elim (cases_lt (d - a) x) [
-    | inl l ↦ rw (lt-leb x (d - a) l, lt-leb p d (omega arith)) refl
-    | inr h ↦ rw (le-leb x (d - a) h, le-leb p d (omega arith)) (ap f (omega arith))
-  ])
-]
-moved_twice (pos a) (negsuc p) x f d e = absurd (omega (arith, ints))
-moved_twice (negsuc a) (pos p) x f d e = let k : p + (a + 1) ≡ x = omega (arith, ints) in elim (cases_lt d p) [
-  | inl l ↦ rw (lt-leb p d l, lt-leb x (d + (a + 1)) (omega arith)) refl
-  | inr g ↦ rw (le-leb p d g, le-leb x (d + (a + 1)) (omega arith)) (ap f (omega arith))
-]
-moved_twice (negsuc a) (negsuc p) x f d e = let k : p + x ≡ a = omega (arith, ints) in rw (le-leb x (d + (a + 1)) (omega arith)) (ap f (omega arith))
+moved_twice at place x f d h1 = grind (arith, ints, cases_lt, lt-leb, le-leb)
 
 -- bars and spaces that are drawn at once
 pub draws_at_once : (op : Op) (at place : ℤ) (before after : List ℕ) (pen next : Pen) (ws : List ℕ) → next.x ≡ pen.x + total ws → next.bar ≡ turned pen.bar ws → place ≡ at +ℤ pos pen.x
@@ -141,36 +106,18 @@ draws_at_once op at place before after pen next ws e t h p = record {
 pub turned_odd : (s : ℕ → ℕ) (bar : Bool) (es : List ℕ) → turned bar (map s es) ≡ cond (eqb (length es % 2) 1) (not bar) bar
 turned_odd s bar [] = refl
 turned_odd s bar (e ∷ []) = refl
-turned_odd s bar (e ∷ d ∷ es) =
-    let two : suc (suc (length es)) % 2 ≡ length es % 2 = omega arith in
-    rw two (ap (λ b. turned b (map s es)) (twice bar) ∙ turned_odd s bar es)
-  where
-    twice : (b : Bool) → not (not b) ≡ b
-    twice true = refl
-    twice false = refl
+turned_odd s bar (e ∷ d ∷ es) = grind (arith, nat_tests, turned_odd s bar es)
 
 pub turned_by : (s : ℕ → ℕ) (bar : Bool) (es : List ℕ) → not (beq bar (eqb (length es % 2) 1)) ≡ turned bar (map s es)
-turned_by s bar es = differs bar (eqb (length es % 2) 1) ∙ sym (turned_odd s bar es)
-  where
-    differs : (b c : Bool) → not (beq b c) ≡ cond c (not b) b
-    differs true true = refl
-    differs true false = refl
-    differs false true = refl
-    differs false false = refl
+turned_by s bar es = grind (arith, turned_odd)
 
 pub marked_same : (bar : Bool) (us vs : List ℕ) (word x y : ℕ) (now next : Bool) → us ≡ vs → y ≡ x → next ≡ now → Marked bar us word x now → Marked bar vs word y next
-marked_same bar us vs word x y now next e f g m = record {
-  dots_are = λ j. m.dots_are j ∙ ap (λ ws. in_bar bar ws j) e;
-  x_is = f ∙ m.x_is ∙ ap total e;
-  bar_is = g ∙ m.bar_is ∙ ap (turned bar) e;
-}
+marked_same bar us vs word x y now next e f g m = grind arith
 
 -- a place that is the sum of two
 pub place_sum : (at from place : ℤ) (x : ℕ) → SFits w64 at → SFits w64 from → from ≡ pos x → SFits w64 (to_z w64 (of_z w64 at) +ℤ to_z w64 (of_z w64 from)) × (place ≡ to_z w64 (of_z w64 at) +ℤ to_z w64 (of_z w64 from))
     → to_z w64 (of_z w64 place) ≡ at +ℤ pos x
-place_sum at from place x fits f e s =
-    to_z-of_z w64 place (subst (SFits w64) (sym s.1) s.0) ∙ s.1 ∙ ap (λ z. z +ℤ to_z w64 (of_z w64 from)) (to_z-of_z w64 at fits) ∙ ap (λ z. at +ℤ z) (to_z-of_z w64 from f ∙ e)
+place_sum at from place x fits f e s = grind (arith, to_z-of_z)
 
 pub empty_of : (es : List ℕ) → true ≡ eqb (length es) 0 → [] ≡ es
-empty_of [] h = refl
-empty_of (e ∷ es) h = let z : length (e ∷ es) ≡ 0 = eqb-true (length (e ∷ es)) 0 (sym h) in absurd (omega arith)
+empty_of es h1 = grind (arith, common_steps, eqb-true)

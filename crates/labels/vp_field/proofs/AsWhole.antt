@@ -19,21 +19,14 @@ black_half x l = rw (lt-ltb x 32 l) (ap (λ n. eqb n 1) (bit_at_ones 32 (31 - x)
 
 -- each dot of such a half tells whether it is white
 pub plain_half : (h x : ℕ) → x < 32 → (h ≡ 0) ⊎ (h ≡ 2 ^ 32 - 1) → half_dot h x ≡ not (eqb h 0)
-plain_half h x l p = elim p [
-  | inl z ↦ rw z (white_half x)
-  | inr o ↦ rw o (black_half x l)
-]
+plain_half h x l p = grind (arith, white_half, black_half)
 
 -- a word that is added to a row: dots before it, its own, and those behind it
 pub word_before : (at i word : ℕ) (o : Bool) → i < at → paint Black (leb at i && word_dot word (i - at)) o ≡ o
 word_before at i word o l = rw (lt-leb at i l) refl
 
 pub word_there : (at i word : ℕ) (o : Bool) → at ≤ i → o ≡ false → paint Black (leb at i && word_dot word (i - at)) o ≡ word_dot word (i - at)
-word_there at i word o l e = rw (le-leb at i l, e) (alone (word_dot word (i - at)))
-  where
-    alone : (b : Bool) → paint Black b false ≡ b
-    alone true = refl
-    alone false = refl
+word_there at i word o l e = grind (arith, le-leb)
 
 pub word_behind : (at i word : ℕ) (o : Bool) → at + 64 ≤ i → o ≡ false → paint Black (leb at i && word_dot word (i - at)) o ≡ false
 word_behind at i word o l e = rw (le-leb at i (omega arith), le-ltb (i - at) 64 (omega arith), e) refl
@@ -48,25 +41,11 @@ front_end n row i l = dot_past (take n row) i (let m = length-take {A = ℕ} n r
 
 -- they are painted from a place on
 pub front_span : (words : ℕ) (row : List ℕ) (x d : ℕ) → (leb x d && dot (take (8 * words) row) (d - x)) ≡ (span x (x + 64 * words) d && dot row (d - x))
-front_span words row x d = elim (cases_lt d x) [
-  | inl l ↦ rw (lt-leb x d l) refl
-  | inr g ↦ elim (cases_lt d (x + 64 * words)) [
-    | inl l ↦ rw (le-leb x d g, lt-ltb d (x + 64 * words) l) (dot_front (8 * words) row (d - x) (omega arith))
-    | inr o ↦ rw (le-leb x d g, le-ltb d (x + 64 * words) o) (front_end (8 * words) row (d - x) (omega arith))
-  ]
-]
+front_span words row x d = grind (arith, cases_lt, lt-leb, le-leb, lt-ltb, dot_front, le-ltb, front_end)
 
 -- some bytes of a row
 pub cut_line : (from n : ℕ) (row : List ℕ) (d : ℕ) → (leb (8 * from) d && dot (take n (drop from row)) (d - 8 * from)) ≡ (span (8 * from) (8 * (from + n)) d && dot row d)
-cut_line from n row d = elim (cases_lt d (8 * from)) [
-  | inl l ↦ rw (lt-leb (8 * from) d l) refl
-  | inr g ↦ elim (cases_lt d (8 * (from + n))) [
-    | inl l ↦
-        let same : 8 * from + (d - 8 * from) ≡ d = omega (arith, g) in
-        rw (le-leb (8 * from) d g, lt-ltb d (8 * (from + n)) l) (dot_front n (drop from row) (d - 8 * from) (omega arith) ∙ dot-drop row from (d - 8 * from) ∙ ap (dot row) same)
-    | inr o ↦ rw (le-leb (8 * from) d g, le-ltb d (8 * (from + n)) o) (front_end n (drop from row) (d - 8 * from) (omega arith))
-  ]
-]
+cut_line from n row d = grind (arith, cases_lt, lt-leb, le-leb, lt-ltb, dot_front, dot-drop, le-ltb, front_end)
 
 -- a dot more of half a word, black or white
 pub half_more : (f : ℕ → Bool) (old new x d : ℕ) → x < 32 → half_dot old d ≡ (ltb d x && f d) → new ≡ bit_or old (1 * 2 ^ (31 - x) % 2 ^ 32) → f x ≡ true
@@ -86,7 +65,4 @@ half_more f old new x d h p e t = elim (cases_lt d 32) [
     one_less d x n = elim (cases_lt d x) [ inl y ↦ lt-ltb d x y ∙ sym (lt-ltb d (x + 1) (omega arith)) | inr g ↦ le-ltb d x g ∙ sym (le-ltb d (x + 1) (omega arith)) ]
 
 pub half_less : (f : ℕ → Bool) (half x d : ℕ) → half_dot half d ≡ (ltb d x && f d) → f x ≡ false → half_dot half d ≡ (ltb d (x + 1) && f d)
-half_less f half x d p t = p ∙ elim (cases_eq d x) [
-  | inl y ↦ (let s : f d ≡ false = ap f y ∙ t in rw (s, le-ltb d x (omega arith), lt-ltb d (x + 1) (omega arith)) refl)
-  | inr n ↦ elim (cases_lt d x) [ inl y ↦ rw (lt-ltb d x y, lt-ltb d (x + 1) (omega arith)) refl | inr g ↦ rw (le-ltb d x g, le-ltb d (x + 1) (omega arith)) refl ]
-]
+half_less f half x d p t = grind (arith, cases_eq, le-ltb, lt-ltb, cases_lt)

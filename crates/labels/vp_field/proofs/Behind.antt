@@ -1,5 +1,6 @@
 -- Bytes stored behind those that a field names.
-use Rattle.std.proofs.Common.{◌≡◌, ℕ, ◌*◌, refl, ap, sym, ◌∙◌, arith, List, ◌++◌, take, drop, length, length-append, ℤ, Bool}
+use Rattle.std.proofs.lemmas.Grind.{common_steps}
+use Rattle.std.proofs.Common.{◌≡◌, ℕ, ◌*◌, refl, ap, ◌∙◌, arith, List, ◌++◌, length, length-append, ℤ, Bool}
 use Rattle.std.proofs.lemmas.List.{drop-append-le, take-append-le, length-drop}
 use Rattle.vp_dots.specs.declared.Op.{Op}
 use Rattle.vp_glyph.specs.Sheets.{Sheets}
@@ -22,38 +23,10 @@ lies_in : (stored more : List ℕ) (s : Span) → LiesIn stored s → LiesIn (st
 lies_in stored more s l = record { inside = (let n = length-append stored more in let h = l.inside in omega arith); few = l.few }
 
 bytes_behind : (stored more : List ℕ) (s : Span) → LiesIn stored s → bytes_of (stored ++ more) s ≡ bytes_of stored s
-bytes_behind stored more s l =
-    let h = l.inside in
-    ap (take s.len) (drop-append-le s.start stored more (omega arith))
-    ∙ take-append-le s.len (drop s.start stored) more (let d = length-drop s.start stored in omega arith)
+bytes_behind stored more s l = grind (arith, drop-append-le, take-append-le, length-drop)
 
 is_stored : (stored more : List ℕ) (c : Content) → IsStored stored c → IsStored (stored ++ more) c
-is_stored stored more (Text t) h = record { bytes = lies_in stored more t.bytes h.bytes; some = h.some; width = h.width; height = h.height }
-is_stored stored more (Block b) h =
-    let t = h.text in
-    record {
-      text = record { bytes = lies_in stored more b.text.bytes t.bytes; some = t.some; width = t.width; height = t.height };
-      width = h.width;
-      lines = h.lines;
-      gap_low = h.gap_low;
-      gap_high = h.gap_high;
-    }
-is_stored stored more (Box b) h = tt
-is_stored stored more (Picture p) h = record {
-  codes = lies_in stored more p.codes h.codes;
-  some = h.some;
-  short = h.short;
-  read = rw (bytes_behind stored more p.codes h.codes) h.read;
-}
-is_stored stored more (Bars b) h = lies_in stored more b.bytes h
-is_stored stored more (Qr q) h = record {
-  bytes = lies_in stored more q.bytes h.bytes;
-  some = h.some;
-  most = h.most;
-  accepted = rw (bytes_behind stored more q.bytes h.bytes) h.accepted;
-  version = rw (bytes_behind stored more q.bytes h.bytes) h.version;
-  mask = rw (bytes_behind stored more q.bytes h.bytes) h.mask;
-}
+is_stored stored more c h1 = grind (arith, common_steps, lies_in, bytes_behind)
 
 abbrev ink : Sheets → ℤ → ℤ → Orientation → Content → List ℕ → ℤ → ℤ → Bool
 ink sheets left top o c stored =
@@ -82,15 +55,7 @@ rows sheets o c stored =
     turned_height (orientation_of o c) (content_width sheets stored c) (content_height sheets stored c)
 
 rows_behind : (sheets : Sheets) (o : Orientation) (c : Content) (stored more : List ℕ) → IsStored stored c → rows sheets o c stored ≡ rows sheets o c (stored ++ more)
-rows_behind sheets o (Text t) stored more h =
-    sym (ap (λ (b : List ℕ). turned_height o (t.width * length b) t.height) (bytes_behind stored more t.bytes h.bytes))
-rows_behind sheets o (Block b) stored more h = refl
-rows_behind sheets o (Box b) stored more h = refl
-rows_behind sheets o (Picture p) stored more h = refl
-rows_behind sheets o (Bars b) stored more h =
-    sym (ap (λ (d : List ℕ). turned_height o (bars_width sheets b.narrow b.wide b.height b.place (symbol_of b.code d)) (bars_height sheets b.narrow b.wide b.height b.place (symbol_of b.code d))) (bytes_behind stored more b.bytes h))
-rows_behind sheets o (Qr q) stored more h =
-    sym (ap (λ (d : List ℕ). turned_height Normal (qr_side q.level q.mode d q.module) (qr_side q.level q.mode d q.module)) (bytes_behind stored more q.bytes h.bytes))
+rows_behind sheets o c stored more h1 = grind (arith, bytes_behind)
 
 pub stored_behind : StoredBehind
 stored_behind = record {

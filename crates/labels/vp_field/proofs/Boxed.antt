@@ -1,8 +1,7 @@
 -- Ink that lies in its box.
-use Rattle.std.proofs.Common.{◌≡◌, ℕ, ◌+◌, ◌*◌, ◌<◌, true, false, sym, ap, ◌∙◌, arith, List, [], ◌∷◌, ◌++◌, ℤ, pos, ◌+ℤ◌, ◌-ℤ◌, ◌≤ℤ◌, ◌<ℤ◌, Result, Ok, Err}
+use Rattle.std.proofs.Common.{◌≡◌, ℕ, ◌+◌, ◌*◌, ◌<◌, true, false, sym, arith, List, [], ◌∷◌, ◌++◌, ℤ, pos, ◌+ℤ◌, ◌-ℤ◌, ◌≤ℤ◌, ◌<ℤ◌, Result, Ok, Err}
 use Rattle.std.proofs.lemmas.Int.{ints}
 use Rattle.std.proofs.lemmas.Bool.{and_parts, ltb-true, true≢false}
-use Rattle.vp_dots.specs.Painting.{paint}
 use Rattle.vp_dots.specs.declared.fault.Fault.{Fault}
 use Rattle.vp_glyph.specs.Sheets.{Sheets}
 use Rattle.vp_glyph.specs.Texts.{text_inside}
@@ -12,11 +11,11 @@ use Rattle.vp_bar_code.specs.declared.HriPosition.{HriPosition}
 use Rattle.vp_bars.specs.Symbols.{Linear}
 use Rattle.vp_bars.specs.Boxes.{box_inside}
 use Rattle.vp_zpl.specs.declared.item.Orientation.{Orientation}
-use Rattle.vp_zpl.specs.declared.item.Orientation.TheVariants.{Normal, Rotated, Inverted, BottomUp}
 use Rattle.vp_format.specs.Pictures as pictures
 use Rattle.vp_format.specs.declared.field.Content.{Content}
 use Rattle.vp_format.specs.declared.field.Content.TheVariants.{Text, Block, Box, Picture, Bars, Qr}
 use Rattle.vp_format.specs.declared.field.Field.{Field}
+use Rattle.vp_label_size.specs.declared.TheConstants.{BAND_ROWS}
 use Rattle.vp_field.specs.declared.view.View.{View}
 use Rattle.vp_field.specs.Turning.{falls_y, turned_height}
 use Rattle.vp_field.specs.Frames.{frame_inside}
@@ -24,7 +23,7 @@ use Rattle.vp_field.specs.Contents.{bytes_of, boxed_as, bars_width, bars_height,
 use Rattle.vp_bars.specs.Symbologies.{symbol_of}
 use Rattle.vp_field.specs.Fields.{field_ink}
 use Rattle.vp_field.specs.Views.{seen_x, seen_y}
-use Rattle.vp_field.specs.Strokes.{Stroke, label_dot}
+use Rattle.vp_field.specs.Strokes.{Stroke}
 use Rattle.vp_field.specs.Bands.{Shows}
 use Rattle.vp_field.specs.Laws.{InTheBox}
 use Rattle.vp_field.proofs.Turns.{dots_fall}
@@ -37,9 +36,7 @@ bars_inside sheets narrow wide height place (Err why) x y e = absurd (true≢fal
 
 pub picture_inside : (p : pictures.Picture) (x y : ℕ) → picture_dot p x y ≡ true → (x < 8 * p.row_bytes) × (y < p.rows)
 unfolding picture_dot
-picture_inside p x y e =
-    let q = and_parts _ _ (and_parts _ _ e).0 in
-    (ltb-true _ _ q.0, ltb-true _ _ q.1)
+picture_inside p x y e = grind (arith, and_parts, ltb-true)
 
 contents : (sheets : Sheets) (stored : List ℕ) (c : Content) (u v : ℕ) → content_dot sheets stored c u v ≡ true → (u < content_width sheets stored c) × (v < content_height sheets stored c)
 contents sheets stored (Text t) u v e = text_inside sheets.a (bytes_of stored t.bytes) t.width t.height u v e
@@ -52,10 +49,7 @@ contents sheets stored (Qr q) u v e =
     (ltb-true _ _ p.0, ltb-true _ _ p.1)
 
 in_rows : (o : Orientation) (w h u v : ℕ) (top y : ℤ) → u < w → v < h → y -ℤ top ≡ falls_y o (pos w) (pos h) (pos u) (pos v) → (top ≤ℤ y) × (y <ℤ (top +ℤ pos (turned_height o w h)))
-in_rows Normal w h u v top y a b e = (omega (arith, ints), omega (arith, ints))
-in_rows Rotated w h u v top y a b e = (omega (arith, ints), omega (arith, ints))
-in_rows Inverted w h u v top y a b e = (omega (arith, ints), omega (arith, ints))
-in_rows BottomUp w h u v top y a b e = (omega (arith, ints), omega (arith, ints))
+in_rows o w h u v top y h1 h2 h3 = grind (arith, ints)
 
 rows : (sheets : Sheets) (stored : List ℕ) (f : Field) (x y : ℤ) → field_ink sheets stored f x y ≡ true
     → (f.top ≤ℤ y) × (y <ℤ (f.top +ℤ pos (turned_height (orientation_of f.orientation f.content) (content_width sheets stored f.content) (content_height sheets stored f.content))))
@@ -67,16 +61,9 @@ rows sheets stored f x y e =
     let p = contents sheets stored f.content d.0 d.1 d.2 in
     in_rows o w h d.0 d.1 f.top y p.0 p.1 d.4
 
-skipped : (view : View) (first : ℕ) (s : Stroke) (band : List (List ℕ)) → ((x k : ℕ) → k < 32 → s.ink (seen_x view (pos x)) (seen_y view (pos (first + k))) ≡ false)
+skipped : (view : View) (first : ℕ) (s : Stroke) (band : List (List ℕ)) → ((x k : ℕ) → k < BAND_ROWS → s.ink (seen_x view (pos x)) (seen_y view (pos (first + k))) ≡ false)
     → (strokes : List Stroke) → Shows view first strokes band → Shows view first (strokes ++ s ∷ []) band
-skipped view first s band n strokes q = record {
-  rows_are = q.rows_are;
-  dots_are = λ x k l wide h high.
-      let x' = seen_x view (pos x) in
-      let y' = seen_y view (pos (first + k)) in
-      q.dots_are x k l wide h high ∙ moved_dot view (pos x) (pos (first + k)) strokes
-      ∙ sym (moved_dot view (pos x) (pos (first + k)) (strokes ++ s ∷ []) ∙ label_dot-push strokes s x' y' ∙ ap (λ i. paint s.op i (label_dot strokes x' y')) (n x k h));
-}
+skipped view first s band n strokes q = grind (arith, moved_dot, label_dot-push)
 
 pub in_the_box : InTheBox
 in_the_box = record { contents = contents; rows = rows; skipped = skipped }

@@ -1,5 +1,5 @@
 -- Columns painted one after the other.
-use Rattle.std.proofs.Common.{inl, inr, ◌≡◌, ℕ, zero, suc, ◌+◌, ◌-◌, ◌*◌, ◌/◌, ◌%◌, ◌^◌, ◌<◌, ◌≤◌, Bool, false, eqb, ltb, ◌&&◌, refl, ap, sym, ◌∙◌, arith, List, [], length, get_or, ℤ, pos}
+use Rattle.std.proofs.Common.{inl, inr, ◌≡◌, ℕ, ◌+◌, ◌-◌, ◌*◌, ◌/◌, ◌%◌, ◌^◌, ◌<◌, ◌≤◌, Bool, false, eqb, ltb, ◌&&◌, refl, ap, sym, ◌∙◌, arith, List, [], length, get_or, ℤ, pos}
 use Rattle.std.proofs.lemmas.Bool.{cases_lt, lt-leb, lt-ltb, le-leb, le-ltb}
 use Rattle.std.proofs.lemmas.Bool.Decides.{nat_tests}
 use Rattle.std.proofs.lemmas.Nat.Bits.{bit_at-zero, bit_at_cat_low, bit_at_cat_high}
@@ -13,59 +13,35 @@ use Rattle.vp_dots.specs.declared.Op.{Op}
 use Rattle.vp_glyph.specs.Halves.{half_dot}
 use Rattle.vp_dots.proofs.Heights.{rows_same, rows_then}
 use Rattle.vp_dots.proofs.Paints.{painted_none, painted_same}
+use Rattle.vp_label_size.specs.declared.TheConstants.{BAND_ROWS}
 
 module _ (high : ℕ) (op : Op) (f : ℕ → ℕ → Bool) where
   -- left of the first column with ink
   pub columns_init : (x : ℕ) (a : List (List ℕ)) → ((d k : ℕ) → d < x → f d k ≡ false) → RowsPainted high op (λ d k. ltb d x && f d k) a a
-  columns_init x a n = record {
-    rows_are = λ k h. painted_none op (λ d. ltb d x && f d k) (get_or a k []) (λ d l. elim (cases_lt d x) [
-      | inl b ↦ (let z : f d k ≡ false = n d k b in grind (arith, nat_tests))
-      | inr g ↦ grind (arith, nat_tests)
-    ]);
-  }
+  columns_init x a n = grind (arith, painted_none, cases_lt)
 
   -- right of the last column with ink, or of the rows' end
   pub columns_all : (x : ℕ) (a b : List (List ℕ)) → ((d k : ℕ) → x ≤ d → k < high → d < dots (get_or a k []) → f d k ≡ false) → RowsPainted high op (λ d k. ltb d x && f d k) a b → RowsPainted high op f a b
-  columns_all x a b n p = record {
-    rows_are = λ k h. painted_same op (λ d. ltb d x && f d k) (λ d. f d k) _ _ (λ d l. elim (cases_lt d x) [
-      | inl b ↦ grind (arith, nat_tests)
-      | inr g ↦ (let z : f d k ≡ false = n d k g h l in grind (arith, nat_tests))
-    ]) (p.rows_are k h);
-  }
+  columns_all x a b n p = grind (arith, painted_same, cases_lt)
 
 -- columns behind those that are painted
-pub columns_more : (op : Op) (f : ℕ → ℕ → Bool) (x n : ℕ) (a b c : List (List ℕ)) → RowsPainted 32 op (λ d k. ltb d x && f d k) a b → RowsPainted 32 op (λ d k. span x (x + n) d && f d k) b c
-    → RowsPainted 32 op (λ d k. ltb d (x + n) && f d k) a c
-columns_more op f x n a b c p q = rows_then 32 op _ _ _ _ _ _ (λ d k. grind (arith, nat_tests)) (λ d k. grind (arith, nat_tests)) p q
+pub columns_more : (op : Op) (f : ℕ → ℕ → Bool) (x n : ℕ) (a b c : List (List ℕ)) → RowsPainted BAND_ROWS op (λ d k. ltb d x && f d k) a b → RowsPainted BAND_ROWS op (λ d k. span x (x + n) d && f d k) b c
+    → RowsPainted BAND_ROWS op (λ d k. ltb d (x + n) && f d k) a c
+columns_more op f x n a b c p q = rows_then BAND_ROWS op _ _ _ _ _ _ (λ d k. grind (arith, nat_tests)) (λ d k. grind (arith, nat_tests)) p q
 
 -- columns that show the same line
-pub columns_alike : (op : Op) (f : ℕ → ℕ → Bool) (line : List ℕ) (x n : ℕ) (a b : List (List ℕ)) → ((d k : ℕ) → k < 32 → x ≤ d → d < x + n → dot line k ≡ f d k)
-    → RowsPainted 32 op (λ d k. span x (x + n) d && dot line k) a b → RowsPainted 32 op (λ d k. span x (x + n) d && f d k) a b
-columns_alike op f line x n a b e p = rows_same 32 op _ _ _ _
-    (λ d k h. elim (cases_lt d x) [
-      | inl o ↦ grind (arith, nat_tests)
-      | inr g ↦ elim (cases_lt d (x + n)) [
-        | inl i ↦ (let z : dot line k ≡ f d k = e d k h g i in grind (arith, nat_tests))
-        | inr o ↦ grind (arith, nat_tests)
-      ]
-    ]) p
+pub columns_alike : (op : Op) (f : ℕ → ℕ → Bool) (line : List ℕ) (x n : ℕ) (a b : List (List ℕ)) → ((d k : ℕ) → k < BAND_ROWS → x ≤ d → d < x + n → dot line k ≡ f d k)
+    → RowsPainted BAND_ROWS op (λ d k. span x (x + n) d && dot line k) a b → RowsPainted BAND_ROWS op (λ d k. span x (x + n) d && f d k) a b
+columns_alike op f line x n a b e p = grind (arith, rows_same, cases_lt)
 
 -- columns, as far as the rows go
-pub columns_within : (op : Op) (f g : ℕ → ℕ → Bool) (x n : ℕ) (a b : List (List ℕ)) → ((d k : ℕ) → k < 32 → x ≤ d → d < x + n → d < dots (get_or a k []) → g d k ≡ f d k)
-    → RowsPainted 32 op (λ d k. span x (x + n) d && g d k) a b → RowsPainted 32 op (λ d k. span x (x + n) d && f d k) a b
-columns_within op f g x n a b e p = record {
-  rows_are = λ k h. painted_same op (λ d. span x (x + n) d && g d k) (λ d. span x (x + n) d && f d k) _ _ (λ d l. elim (cases_lt d x) [
-    | inl o ↦ rw (lt-leb x d o) refl
-    | inr m ↦ elim (cases_lt d (x + n)) [
-      | inl i ↦ ap (λ t. span x (x + n) d && t) (e d k h m i l)
-      | inr o ↦ rw (le-leb x d m, le-ltb d (x + n) o) refl
-    ]
-  ]) (p.rows_are k h);
-}
+pub columns_within : (op : Op) (f g : ℕ → ℕ → Bool) (x n : ℕ) (a b : List (List ℕ)) → ((d k : ℕ) → k < BAND_ROWS → x ≤ d → d < x + n → d < dots (get_or a k []) → g d k ≡ f d k)
+    → RowsPainted BAND_ROWS op (λ d k. span x (x + n) d && g d k) a b → RowsPainted BAND_ROWS op (λ d k. span x (x + n) d && f d k) a b
+columns_within op f g x n a b e p = grind (arith, painted_same, cases_lt, lt-leb, le-leb, le-ltb)
 
 -- columns that are white, as far as the rows go
-pub columns_white : (op : Op) (f : ℕ → ℕ → Bool) (x n : ℕ) (a : List (List ℕ)) → ((i k : ℕ) → i < n → k < 32 → x + i < dots (get_or a k []) → f (x + i) k ≡ false)
-    → RowsPainted 32 op (λ d k. span x (x + n) d && f d k) a a
+pub columns_white : (op : Op) (f : ℕ → ℕ → Bool) (x n : ℕ) (a : List (List ℕ)) → ((i k : ℕ) → i < n → k < BAND_ROWS → x + i < dots (get_or a k []) → f (x + i) k ≡ false)
+    → RowsPainted BAND_ROWS op (λ d k. span x (x + n) d && f d k) a a
 columns_white op f x n a e = record {
   rows_are = λ k h. painted_none op (λ d. span x (x + n) d && f d k) (get_or a k []) (λ d l. elim (cases_lt d x) [
     | inl o ↦ rw (lt-leb x d o) refl
@@ -76,20 +52,20 @@ columns_white op f x n a e = record {
   ]);
 }
   where
-    at : (d k : ℕ) → x ≤ d → d < x + n → k < 32 → d < dots (get_or a k []) → f d k ≡ false
+    at : (d k : ℕ) → x ≤ d → d < x + n → k < BAND_ROWS → d < dots (get_or a k []) → f d k ≡ false
     at d k m i h l = let w : x + (d - x) ≡ d = omega arith in rw (sym w) (e (d - x) k (omega arith) h (rw w l))
 
 -- 64 columns, of which each row is a word
-pub columns_words : (op : Op) (f : ℕ → ℕ → Bool) (x : ℕ) (left : ℤ) (words : List ℕ) (a b : List (List ℕ)) → left ≡ pos x → ((i k : ℕ) → i < 64 → k < 32 → x + i < dots (get_or a k []) → word_dot (get_or words k 0) i ≡ f (x + i) k)
-    → RowsPainted 32 op (words_dot words left 0 32) a b → RowsPainted 32 op (λ d k. span x (x + 64) d && f d k) a b
+pub columns_words : (op : Op) (f : ℕ → ℕ → Bool) (x : ℕ) (left : ℤ) (words : List ℕ) (a b : List (List ℕ)) → left ≡ pos x → ((i k : ℕ) → i < 64 → k < BAND_ROWS → x + i < dots (get_or a k []) → word_dot (get_or words k 0) i ≡ f (x + i) k)
+    → RowsPainted BAND_ROWS op (words_dot words left 0 BAND_ROWS) a b → RowsPainted BAND_ROWS op (λ d k. span x (x + 64) d && f d k) a b
 columns_words op f x left words a b there e p = columns_within op f (λ d k. word_dot (get_or words k 0) (d - x)) x 64 a b
     (λ d k h g i l. let m : x + (d - x) ≡ d = omega arith in e (d - x) k (omega arith) h (rw m l) ∙ ap (λ n. f n k) m)
-    (rows_same 32 op _ _ _ _ here p)
+    (rows_same BAND_ROWS op _ _ _ _ here p)
   where
-    here : (d k : ℕ) → k < 32 → words_dot words left 0 32 d k ≡ (span x (x + 64) d && word_dot (get_or words k 0) (d - x))
+    here : (d k : ℕ) → k < BAND_ROWS → words_dot words left 0 BAND_ROWS d k ≡ (span x (x + 64) d && word_dot (get_or words k 0) (d - x))
     here d k h =
         let e : k - 0 ≡ k = omega arith in
-        rw (there, le-leb 0 k (omega arith), e, lt-ltb k 32 h) (elim (cases_lt d x) [
+        rw (there, le-leb 0 k (omega arith), e, lt-ltb k BAND_ROWS h) (elim (cases_lt d x) [
           | inl o ↦ rw (lt-leb x d o) refl
           | inr g ↦ elim (cases_lt d (x + 64)) [
             | inl i ↦ rw (le-leb x d g, lt-ltb (d - x) 64 (omega arith), lt-ltb d (x + 64) i) refl
@@ -98,16 +74,13 @@ columns_words op f x left words a b there e p = columns_within op f (λ d k. wor
         ])
 
 -- columns, and as many behind them
-pub columns_both : (op : Op) (f : ℕ → ℕ → Bool) (x n : ℕ) (a b c : List (List ℕ)) → RowsPainted 32 op (λ d k. span x (x + n) d && f d k) a b → RowsPainted 32 op (λ d k. span (x + n) (x + n + n) d && f d k) b c
-    → RowsPainted 32 op (λ d k. span x (x + 2 * n) d && f d k) a c
-columns_both op f x n a b c p q = rows_then 32 op _ _ _ _ _ _ (λ d k. grind (arith, nat_tests)) (λ d k. grind (arith, nat_tests)) p q
+pub columns_both : (op : Op) (f : ℕ → ℕ → Bool) (x n : ℕ) (a b c : List (List ℕ)) → RowsPainted BAND_ROWS op (λ d k. span x (x + n) d && f d k) a b
+    → RowsPainted BAND_ROWS op (λ d k. span (x + n) (x + n + n) d && f d k) b c → RowsPainted BAND_ROWS op (λ d k. span x (x + 2 * n) d && f d k) a c
+columns_both op f x n a b c p q = rows_then BAND_ROWS op _ _ _ _ _ _ (λ d k. grind (arith, nat_tests)) (λ d k. grind (arith, nat_tests)) p q
 
 pub white_half : (x : ℕ) → half_dot 0 x ≡ false
 unfolding bit
-white_half x = elim (cases_lt x 32) [
-  | inl l ↦ rw (lt-ltb x 32 l) (ap (λ b. eqb b 1) (bit_at-zero (31 - x)))
-  | inr g ↦ rw (le-ltb x 32 g) refl
-]
+white_half x = grind (arith, cases_lt, lt-ltb, bit_at-zero, le-ltb)
 
 -- the halves of a word
 pub left_half : (a b x : ℕ) → x < 32 → b < 2 ^ 32 → word_dot (a * 2 ^ 32 + b) x ≡ half_dot a x
@@ -122,11 +95,7 @@ right_half a b x l =
 
 -- the bytes of half a word, one by one
 half_byte : (n j : ℕ) → j < 4 → get_or (to_be_bytes w32 n) j 0 ≡ n / 2 ^ (8 * (3 - j)) % 256
-half_byte n zero h = refl
-half_byte n (suc zero) h = refl
-half_byte n (suc (suc zero)) h = refl
-half_byte n (suc (suc (suc zero))) h = omega arith
-half_byte n (suc (suc (suc (suc j)))) h = absurd (omega arith)
+half_byte n j h1 = grind arith
 
 half_row : (n x : ℕ) → x < 32 → dot (to_be_bytes w32 n) x ≡ half_dot n x
 unfolding dot
@@ -147,7 +116,4 @@ pub from_end : (d end : ℕ) (b : Bool) → end ≤ d → (ltb d end && b) ≡ f
 from_end d end b h = rw (le-ltb d end h) refl
 
 pub white_before_end : (d end : ℕ) (b : Bool) → b ≡ false → (ltb d end && b) ≡ false
-white_before_end d end b e = elim (cases_lt d end) [
-  | inl l ↦ before_end d end b l ∙ e
-  | inr g ↦ from_end d end b g
-]
+white_before_end d end b e = grind (arith, cases_lt, before_end, from_end)

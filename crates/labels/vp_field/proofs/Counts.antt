@@ -1,7 +1,6 @@
 -- Lines that were handed out, and pieces of them.
 use Rattle.std.proofs.Common.{◌≡◌, ℕ, ◌+◌, ◌*◌, ◌≤◌, arith}
 use Rattle.std.proofs.lemmas.Nat.{mul-le}
-use Rattle.vp_bars.specs.Boxes.{box_pieces}
 use Rattle.vp_field.specs.Contents.{lines_cost, block_cost}
 use Rattle.vp_field.specs.Counts.{ArePieces}
 use Rattle.vp_field.specs.declared.axis.Lines.{Lines}
@@ -13,8 +12,7 @@ few_pieces most lines pieces n are h = let times = mul-le lines most n most h (o
 
 -- lines of fewer pieces cost no more
 pub fewer_cost : (lines : Lines) (few most : ℕ → ℕ) → ((d : ℕ) → few d ≤ most d) → lines_cost lines few ≤ lines_cost lines most
-fewer_cost Along few most h = let seen = h 1248 in omega (arith, seen)
-fewer_cost Across few most h = let seen = h 32 in omega (arith, seen)
+fewer_cost lines few most h1 = grind arith
 
 -- what a block costs, of whose text so many bytes are kept
 pub along_cost : (lines : Lines) (n bytes walked took : ℕ) → lines ≡ Along → n ≤ bytes → walked ≤ 2 * n + 1 → took ≤ 66 * (2 * n + 1) + lines_cost lines (λ d. 2 * (2 * n + 1))
@@ -24,11 +22,3 @@ along_cost lines n bytes walked took e few w t = let least = rw e at t in rw e (
 pub across_cost : (lines : Lines) (n bytes walked took : ℕ) → lines ≡ Across → n ≤ bytes → walked ≤ 2 * n + 1 → took ≤ 2 * (2 * n + 1) + 2504
     → walked + took ≤ block_cost lines (2 * bytes + 1)
 across_cost lines n bytes walked took e few w t = rw e (omega (arith, few, w, t))
-
--- what a bar code costs
-pub bars_along : (lines : Lines) → lines ≡ Along → lines_cost lines box_pieces ≤ 16416
-bars_along lines e = rw e (omega arith)
-
-pub bars_cost : (lines : Lines) → lines_cost lines box_pieces ≤ 43960
-bars_cost Along = omega arith
-bars_cost Across = omega arith

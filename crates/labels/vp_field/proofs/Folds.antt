@@ -1,40 +1,31 @@
 -- The dot of a list of strokes, one stroke after the other, and at other places.
-use Rattle.std.proofs.Common.{inl, inr, eq-eqb, ◌≡◌, ℕ, ◌+◌, ◌-◌, ◌%◌, ◌<◌, Bool, true, false, not, ◌&&◌, ◌||◌, List, [], ◌∷◌, ◌++◌, Option, None, Some, if◌then◌else◌, refl, sym, ap, ◌∙◌, arith, cond, map, ℤ, pos, ◌-ℤ◌}
+use Rattle.std.proofs.lemmas.Grind.{common_steps}
+use Rattle.std.proofs.Common.{eq-eqb, ◌≡◌, ℕ, ◌+◌, ◌-◌, ◌<◌, Bool, true, false, not, ◌&&◌, ◌||◌, List, [], ◌∷◌, ◌++◌, Option, None, Some, if◌then◌else◌, refl, ap, ◌∙◌, arith, cond, map, ℤ, pos, ◌-ℤ◌}
 use Rattle.std.proofs.lemmas.Bool.{cases_eq, ne_eqb, lt-ltb}
 use Rattle.std.proofs.lemmas.Int.{ints}
-use Rattle.std.specs.List.{list_any, count_by, sum}
+use Rattle.std.specs.List.{list_any, count_by}
 use Rattle.std.proofs.lemmas.List.Folds.{list_any-append}
 use Rattle.std.proofs.lemmas.List.Sums.{sum_by-append, sum-map}
 use Rattle.vp_dots.specs.declared.Op.{Op}
-use Rattle.vp_dots.specs.declared.Op.TheVariants.{Black, White, Flip}
 use Rattle.vp_dots.specs.Painting.{paint}
-use Rattle.vp_field.specs.Strokes.{Stroke, is_reversing, is_black, covers, reverses, last_where, after_last_where, colour, reversed, label_dot, viewed, image_dot}
+use Rattle.vp_field.specs.Strokes.{Stroke, is_reversing, covers, reverses, last_where, after_last_where, colour, reversed, label_dot, viewed, image_dot}
 use Rattle.vp_field.specs.Views.{counted_back, seen_x, seen_y}
 use Rattle.vp_field.specs.Laws.{StrokeAfterStroke, DotsMove, TurnedAndMirrored, upright, unmirrored}
 use Rattle.vp_field.specs.declared.view.View.{View}
 
 -- the last stroke decides, or an earlier one
 pick : {X : Type 0} (any here : Bool) (later new old front' front : X) → later ≡ cond here new old → (here ≡ false → front' ≡ front) → cond (any || here) later front' ≡ cond here new (cond any old front)
-pick true true later new old front' front e h = e
-pick true false later new old front' front e h = e
-pick false true later new old front' front e h = e
-pick false false later new old front' front e h = h refl
+pick any here later new old front' front h1 h2 = grind arith
 
 list_any-push : {X : Type 0} (p : X → Bool) (xs : List X) (x : X) → list_any p (xs ++ x ∷ []) ≡ (list_any p xs || p x)
-list_any-push p xs x = list_any-append p xs (x ∷ []) ∙ ap (λ b. list_any p xs || b) (or_false (p x))
-  where
-    or_false : (b : Bool) → (b || false) ≡ b
-    or_false true = refl
-    or_false false = refl
+list_any-push p xs x = grind (arith, list_any-append)
 
 last_where-push : {X : Type 0} (p : X → Bool) (xs : List X) (x : X) → last_where p (xs ++ x ∷ []) ≡ (if p x then Some x else last_where p xs)
 last_where-push p [] x = refl
-last_where-push p (y ∷ xs) x =
-    rw (list_any-push p xs x) (pick (list_any p xs) (p x) _ (Some x) (last_where p xs) _ _ (last_where-push p xs x) (λ e. refl))
+last_where-push p (y ∷ xs) x = rw (list_any-push p xs x) (pick (list_any p xs) (p x) _ (Some x) (last_where p xs) _ _ (last_where-push p xs x) (λ e. refl))
 
 cond-append : {X : Type 0} (b : Bool) (us vs zs : List X) → cond b us vs ++ zs ≡ cond b (us ++ zs) (vs ++ zs)
-cond-append true us vs zs = refl
-cond-append false us vs zs = refl
+cond-append b us vs zs = grind arith
 
 after_last_where-push : {X : Type 0} (p : X → Bool) (xs : List X) (x : X) → after_last_where p (xs ++ x ∷ []) ≡ (if p x then [] else after_last_where p xs ++ x ∷ [])
 after_last_where-push p [] x = refl
@@ -46,15 +37,7 @@ count_by-push : {X : Type 0} (p : X → Bool) (xs : List X) (x : X) → count_by
 count_by-push p xs x = sum_by-append (λ x. cond (p x) 1 0) xs (x ∷ []) ∙ ap (λ n. count_by p xs + n) (omega arith)
 
 reversed-more : (n : ℕ) (dot : Bool) → reversed (n + 1) dot ≡ not (reversed n dot)
-reversed-more n dot =
-    elim (cases_eq (n % 2) 1) [
-      | inl odd ↦ rw (eq-eqb (n % 2) 1 odd, ne_eqb ((n + 1) % 2) 1 (λ e. omega arith)) (twice dot)
-      | inr even ↦ rw (ne_eqb (n % 2) 1 even, eq-eqb ((n + 1) % 2) 1 (omega arith)) refl
-    ]
-  where
-    twice : (d : Bool) → d ≡ not (not d)
-    twice true = refl
-    twice false = refl
+reversed-more n dot = grind (arith, cases_eq, eq-eqb, ne_eqb)
 
 -- a stroke with no ink here changes no count
 count_same : (rev : Stroke → Bool) (rest : List Stroke) (s : Stroke) → rev s ≡ false → count_by rev (rest ++ s ∷ []) ≡ count_by rev rest
@@ -63,20 +46,12 @@ count_same rev rest s e = count_by-push rev rest s ∙ rw e (omega arith)
 dot_step : (op : Op) (ink : Bool) (rev : Stroke → Bool) (rest : List Stroke) (last : Option Stroke) (s : Stroke) → s.op ≡ op → rev s ≡ (is_reversing op && ink) →
     reversed (count_by rev (cond (not (is_reversing op) && ink) [] (rest ++ s ∷ []))) (colour (cond (not (is_reversing op) && ink) (Some s) last))
     ≡ paint op ink (reversed (count_by rev rest) (colour last))
-dot_step Black true rev rest last s e r = ap is_black e
-dot_step White true rev rest last s e r = ap is_black e
-dot_step Flip true rev rest last s e r =
-    ap (λ n. reversed n (colour last)) (count_by-push rev rest s ∙ rw r refl) ∙ reversed-more (count_by rev rest) (colour last)
-dot_step Black false rev rest last s e r = ap (λ n. reversed n (colour last)) (count_same rev rest s r)
-dot_step White false rev rest last s e r = ap (λ n. reversed n (colour last)) (count_same rev rest s r)
-dot_step Flip false rev rest last s e r = ap (λ n. reversed n (colour last)) (count_same rev rest s r)
+dot_step op ink rev rest last s h1 h2 = grind (arith, count_by-push, reversed-more, count_same)
 
 -- what one more stroke does to a dot
 pub label_dot-push : (ss : List Stroke) (s : Stroke) (x y : ℤ) → label_dot (ss ++ s ∷ []) x y ≡ paint s.op (s.ink x y) (label_dot ss x y)
 unfolding label_dot
-label_dot-push ss s x y =
-    rw (last_where-push (covers x y) ss s, after_last_where-push (covers x y) ss s)
-    (dot_step s.op (s.ink x y) (reverses x y) (after_last_where (covers x y) ss) (last_where (covers x y) ss) s refl refl)
+label_dot-push ss s x y = grind (arith, last_where-push, after_last_where-push, dot_step)
 
 pub label_dot-none : (x y : ℤ) → label_dot [] x y ≡ false
 unfolding label_dot
@@ -90,8 +65,7 @@ map_map g f [] = refl
 map_map g f (x ∷ xs) = ap (λ ys. g (f x) ∷ ys) (map_map g f xs)
 
 count_by-map : {X : Type 0} (p : X → Bool) (f : X → X) (xs : List X) → count_by p (map f xs) ≡ count_by (λ x. p (f x)) xs
-count_by-map p f xs =
-    sym (sum-map (λ x. cond (p x) 1 0) (map f xs)) ∙ ap sum (map_map (λ x. cond (p x) 1 0) f xs) ∙ sum-map (λ x. cond (p (f x)) 1 0) xs
+count_by-map p f xs = grind (arith, common_steps, sum-map, map_map)
 
 module _ (view : View) (x y : ℤ) where
   any_same : (ss : List Stroke) → list_any (covers x y) (map (viewed view) ss) ≡ list_any (covers (seen_x view x) (seen_y view y)) ss
@@ -99,9 +73,7 @@ module _ (view : View) (x y : ℤ) where
   any_same (s ∷ ss) = ap (λ b. covers (seen_x view x) (seen_y view y) s || b) (any_same ss)
 
   colour_cond : (b c : Bool) (l m : Option Stroke) (s : Stroke) → colour l ≡ colour m → colour (cond b l (cond c (Some (viewed view s)) None)) ≡ colour (cond b m (cond c (Some s) None))
-  colour_cond true c l m s e = e
-  colour_cond false true l m s e = refl
-  colour_cond false false l m s e = refl
+  colour_cond b c l m s h1 = grind arith
 
   colour_same : (ss : List Stroke) → colour (last_where (covers x y) (map (viewed view) ss)) ≡ colour (last_where (covers (seen_x view x) (seen_y view y)) ss)
   colour_same [] = refl
@@ -109,9 +81,7 @@ module _ (view : View) (x y : ℤ) where
 
   after_cond : (b c : Bool) (l m ss : List Stroke) (s : Stroke) → l ≡ map (viewed view) m
       → cond b l (cond c (map (viewed view) ss) (viewed view s ∷ map (viewed view) ss)) ≡ map (viewed view) (cond b m (cond c ss (s ∷ ss)))
-  after_cond true c l m ss s e = e
-  after_cond false true l m ss s e = refl
-  after_cond false false l m ss s e = refl
+  after_cond b c l m ss s h1 = grind arith
 
   after_same : (ss : List Stroke) → after_last_where (covers x y) (map (viewed view) ss) ≡ map (viewed view) (after_last_where (covers (seen_x view x) (seen_y view y)) ss)
   after_same [] = refl
@@ -126,46 +96,24 @@ dots_move view strokes x y = moved_dot view x y strokes
 
 -- places counted back
 counted_twice : (b : Bool) (n : ℕ) (p : ℤ) → counted_back b n (counted_back b n p) ≡ p
-counted_twice true n p = omega (arith, ints)
-counted_twice false n p = refl
+counted_twice b n p = grind (arith, ints)
 
 counted_other : (b c : Bool) (n : ℕ) (p : ℤ) → counted_back b n (counted_back c n p) ≡ counted_back c n (counted_back b n p)
-counted_other true true n p = refl
-counted_other true false n p = refl
-counted_other false true n p = refl
-counted_other false false n p = refl
+counted_other b c n p = grind arith
 
 seen_twice_x : (view : View) (x : ℤ) → seen_x view (seen_x view x) ≡ x
-seen_twice_x view x =
-    let i = view.inverted in
-    let m = view.mirrored in
-    let n = view.width in
-    ap (λ p. counted_back i n p) (counted_other m i n (counted_back m n x)) ∙ counted_twice i n (counted_back m n (counted_back m n x)) ∙ counted_twice m n x
+seen_twice_x view x = grind (arith, counted_other, counted_twice)
 
 far_end : (n x : ℕ) → x < n → pos (n - 1 - x) ≡ pos n -ℤ pos 1 -ℤ pos x
 far_end n x h = omega (arith, ints)
 
 inverted_dot : (view : View) (strokes : List Stroke) (x y : ℕ) → view.inverted ≡ true → x < view.width → y < view.height
     → image_dot view strokes x y ≡ image_dot (upright view) strokes (view.width - 1 - x) (view.height - 1 - y)
-inverted_dot view strokes x y e l h =
-    let w = view.width in
-    let s : seen_x view (pos x) ≡ seen_x (upright view) (pos (w - 1 - x)) =
-    rw e (counted_other true view.mirrored w (pos x) ∙ ap (λ p. counted_back view.mirrored w p) (sym (far_end w x l))) in
-    let t : seen_y view (pos y) ≡ seen_y (upright view) (pos (view.height - 1 - y)) = rw e (sym (far_end view.height y h)) in
-    rw (lt-ltb x w l, lt-ltb y view.height h, lt-ltb (w - 1 - x) w (omega arith), lt-ltb (view.height - 1 - y) view.height (omega arith))
-    (moved_dot view (pos x) (pos y) strokes ∙ rw (s, t) refl ∙ sym (moved_dot (upright view) (pos (w - 1 - x)) (pos (view.height - 1 - y)) strokes))
+inverted_dot view strokes x y e l h = grind (arith, counted_other, far_end, lt-ltb, moved_dot)
 
 mirrored_dot : (view : View) (strokes : List Stroke) (x y : ℕ) → view.mirrored ≡ true → x < view.width → y < view.height
     → image_dot view strokes x y ≡ image_dot (unmirrored view) strokes (view.width - 1 - x) y
-mirrored_dot view strokes x y e l h =
-    let w = view.width in
-    let s : seen_x view (pos x) ≡ seen_x (unmirrored view) (pos (w - 1 - x)) = rw e (ap (λ p. counted_back view.inverted w p) (sym (far_end w x l))) in
-    rw (lt-ltb x w l, lt-ltb y view.height h, lt-ltb (w - 1 - x) w (omega arith))
-    (moved_dot view (pos x) (pos y) strokes ∙ rw s refl ∙ sym (moved_dot (unmirrored view) (pos (w - 1 - x)) (pos y) strokes))
+mirrored_dot view strokes x y e l h = grind (arith, far_end, lt-ltb, moved_dot)
 
 pub turned_and_mirrored : TurnedAndMirrored
-turned_and_mirrored = record {
-  inverted = inverted_dot;
-  mirrored = mirrored_dot;
-  twice_back = λ view x y. (seen_twice_x view x, counted_twice view.inverted view.height y);
-}
+turned_and_mirrored = grind (arith, inverted_dot, mirrored_dot, seen_twice_x, counted_twice)

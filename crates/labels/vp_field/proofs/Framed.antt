@@ -1,5 +1,5 @@
 -- The lines of a box.
-use Rattle.std.proofs.Common.{◌≡◌, ℕ, ◌+◌, ◌-◌, ◌<◌, ◌≤◌, Bool, true, false, not, cond, ltb, leb, ◌&&◌, ◌||◌, inl, inr, refl, ap, ◌∙◌, arith, List, ℤ, pos, ◌+ℤ◌}
+use Rattle.std.proofs.Common.{◌≡◌, ℕ, ◌+◌, ◌-◌, ◌<◌, ◌≤◌, Bool, false, not, cond, ltb, leb, ◌&&◌, ◌||◌, ap, ◌∙◌, arith, List, ℤ, pos, ◌+ℤ◌}
 use Rattle.std.proofs.lemmas.Bool.{cases_lt, lt-leb}
 use Rattle.std.proofs.lemmas.Bool.Decides.{nat_tests}
 use Rattle.std.specs.Int.RustNames.{bit_xor}
@@ -21,8 +21,7 @@ pub sides_apart : (t r w x : ℕ) → t < r → (span 0 t x && span r w x) ≡ f
 sides_apart t r w x l = grind (arith, nat_tests)
 
 and_cond : (p a b : Bool) → (p && cond b (not a) a) ≡ cond (p && b) (not (p && a)) (p && a)
-and_cond true a b = refl
-and_cond false a b = refl
+and_cond p a b = grind arith
 
 xor_dot : (v w x : ℕ) → word_dot (bit_xor v w) x ≡ cond (word_dot w x) (not (word_dot v x)) (word_dot v x)
 xor_dot v w x = ap (λ b. ltb x 64 && b) (bit_of_xor v w (63 - x)) ∙ and_cond (ltb x 64) (bit v (63 - x)) (bit w (63 - x))
@@ -34,10 +33,7 @@ outer_dot t r w x k l = grind (arith, nat_tests)
 -- the dots before one and from another on, by three masks
 pub outer_word : (t r w x a b c : ℕ) → t < r → r ≤ w → word_dot a x ≡ ltb x t → word_dot b x ≡ ltb x r → word_dot c x ≡ ltb x w
     → word_dot (bit_xor (bit_xor a b) c) x ≡ (span 0 t x || span r w x)
-outer_word t r w x a b c k l e f g =
-    xor_dot (bit_xor a b) c x ∙ ap (λ z. cond z (not (word_dot (bit_xor a b) x)) (word_dot (bit_xor a b) x)) g
-    ∙ ap (λ z. cond (ltb x w) (not z) z) (xor_dot a b x ∙ ap (λ z. cond z (not (word_dot a x)) (word_dot a x)) f ∙ ap (λ z. cond (ltb x r) (not z) z) e)
-    ∙ outer_dot t r w x k l
+outer_word t r w x a b c k l e f g = grind (arith, xor_dot, outer_dot)
 
 -- a line of a box as a word
 pub line_painted : (op : Op) (at : ℤ) (word : ℕ) (line : ℕ → Bool) (a b : List ℕ) → ((x : ℕ) → word_dot word x ≡ line x)
@@ -45,15 +41,9 @@ pub line_painted : (op : Op) (at : ℤ) (word : ℕ) (line : ℕ → Bool) (a b 
 line_painted op at word line a b h p = painted_same op (shifted at (word_dot word)) (shifted at line) a b (λ d l. shifted_same at (word_dot word) line d (λ x _. h x)) p
 
 side_dot : (from dots x : ℕ) → (leb from x && ltb (x - from) dots) ≡ span from (from + dots) x
-side_dot from dots x = elim (cases_lt x from) [
-  | inl l ↦ rw (lt-leb from x l) refl
-  | inr g ↦ grind (arith, nat_tests)
-]
+side_dot from dots x = grind (arith, cases_lt, lt-leb)
 
 -- a side painted as a word
 pub side_painted : (op : Op) (at at' : ℤ) (from dots word : ℕ) (a b : List ℕ) → at' ≡ at +ℤ pos from → ((x : ℕ) → word_dot word x ≡ ltb x dots)
     → Painted op (shifted at' (word_dot word)) a b → Painted op (shifted at (span from (from + dots))) a b
-side_painted op at at' from dots word a b e h p = painted_same op (shifted at' (word_dot word)) (shifted at (span from (from + dots))) a b
-    (λ d l. ap (λ z. shifted z (word_dot word) d) e ∙ shift_more at from (word_dot word) d
-    ∙ shifted_same at (λ x. leb from x && word_dot word (x - from)) (span from (from + dots)) d
-    (λ x _. ap (λ t. leb from x && t) (h (x - from)) ∙ side_dot from dots x)) p
+side_painted op at at' from dots word a b e h p = grind (arith, painted_same, shift_more, shifted_same, side_dot)

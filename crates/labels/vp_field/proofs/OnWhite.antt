@@ -1,5 +1,5 @@
 -- Lines of dots, drawn on white.
-use Rattle.std.proofs.Common.{◌≡◌, ℕ, ◌-◌, ◌*◌, ◌/◌, ◌%◌, ◌<◌, Bool, true, false, cond, eqb, ltb, ◌&&◌, refl, ap, ◌∙◌, arith, List, length, replicate, ℤ}
+use Rattle.std.proofs.Common.{◌≡◌, ℕ, ◌-◌, ◌*◌, ◌/◌, ◌%◌, ◌<◌, Bool, true, false, cond, eqb, ltb, ◌&&◌, ap, ◌∙◌, arith, List, length, replicate, ℤ}
 use Rattle.std.proofs.lemmas.List.{get_or-replicate, length-replicate}
 use Rattle.std.proofs.lemmas.Nat.Bits.{bit_at-zero}
 use Rattle.std.proofs.lemmas.Bool.{lt-ltb}
@@ -12,8 +12,7 @@ unfolding dot bit
 dot_white n x h = rw (get_or-replicate {A = ℕ} n (x / 8) 0 0 h) (ap (λ k. eqb k 1) (bit_at-zero (7 - x % 8)))
 
 black_alone : (b : Bool) → cond b true false ≡ b
-black_alone true = refl
-black_alone false = refl
+black_alone b = grind arith
 
 -- a line painted on white
 pub on_white : (n : ℕ) (at : ℤ) (f : ℕ → Bool) (old new : List ℕ) → length old ≡ n → ((p : ℕ) → p < 8 * n → dot old p ≡ false) → Painted Black (shifted at f) old new
@@ -27,7 +26,4 @@ on_zeros n at f new q = on_white n at f (replicate n 0) new (length-replicate {A
 -- and read from its end
 pub turned : (n : ℕ) (old line new : List ℕ) → length line ≡ length old → length old ≡ n → ((d : ℕ) → dot new d ≡ (ltb d (8 * length line) && dot line (8 * length line - 1 - d)))
     → (p : ℕ) → p < 8 * n → dot new p ≡ dot line (8 * n - 1 - p)
-turned n old line new e k t p h =
-    let long : length line ≡ n = e ∙ k in
-    let inside : p < 8 * length line = omega (arith, long) in
-    t p ∙ rw (lt-ltb p (8 * length line) inside) (ap (λ m. dot line (8 * m - 1 - p)) long)
+turned n old line new e k t p h = grind (arith, lt-ltb)

@@ -1,9 +1,8 @@
 -- Pictures painted row by row.
-use Rattle.std.proofs.Common.{inl, inr, ◌≡◌, ℕ, zero, suc, ◌+◌, ◌-◌, ◌*◌, ◌/◌, ◌%◌, ◌<◌, ◌≤◌, ◌≢◌, Bool, true, false, eqb, ◌&&◌, ◌||◌, refl, sym, ap, ◌∙◌, arith, List, [], get_or, set, get_or-set_same, get_or-set_other, length, Option, Some, ℤ, pos, negsuc}
+use Rattle.std.proofs.Common.{inl, inr, ◌≡◌, ℕ, zero, suc, ◌+◌, ◌-◌, ◌*◌, ◌/◌, ◌%◌, ◌<◌, ◌≤◌, ◌≢◌, Bool, true, false, eqb, ◌&&◌, ◌||◌, sym, ap, ◌∙◌, arith, List, [], get_or, set, get_or-set_same, get_or-set_other, length, Option, Some, ℤ, pos}
 use Rattle.std.specs.Prelude.{unwrap_or}
 use Rattle.std.specs.Int.{bit_at}
 use Rattle.std.proofs.lemmas.Bool.{cases_eq, cases_lt, cases_Bool, lt-ltb, le-ltb}
-use Rattle.std.proofs.lemmas.Bool.Decides.{nat_tests}
 use Rattle.vp_dots.specs.Dots.{bit, dot}
 use Rattle.vp_dots.specs.Painting.{Painted}
 use Rattle.vp_dots.specs.Places.{RowsPainted}
@@ -11,6 +10,7 @@ use Rattle.vp_dots.specs.declared.Op.{Op}
 use Rattle.vp_dots.proofs.Paints.{painted_none, painted_same, painted_then}
 use Rattle.vp_dots.proofs.Rows.{dot_past}
 use Rattle.vp_format.specs.Pictures.{Picture, value, nibble}
+use Rattle.vp_label_size.specs.declared.TheConstants.{BAND_ROWS}
 use Rattle.vp_field.specs.Axes.{dot_on, laid}
 use Rattle.vp_field.specs.Contents.{picture_dot}
 use Rattle.vp_field.specs.Drawn.{part}
@@ -55,16 +55,11 @@ dot_nibble row x = elim (cases_lt (x % 8) 4) [
 -- a decoded row has the dots of the picture
 pub row_is : (p : Picture) (y : ℕ) (row : List ℕ) → length row ≡ p.row_bytes → y < p.rows → ((x : ℕ) → x < 2 * length row → nibble row x ≡ value p y x) → (x : ℕ) → dot row x ≡ picture_dot p x y
 unfolding picture_dot
-row_is p y row e h v x = elim (cases_lt x (8 * p.row_bytes)) [
-  | inl l ↦ rw (lt-ltb x (8 * p.row_bytes) l, lt-ltb y p.rows h) (dot_nibble row x ∙ ap (λ n. bit n (3 - x % 4)) (v (x / 4) (omega arith)))
-  | inr g ↦ rw (le-ltb x (8 * p.row_bytes) g) (dot_past row x (omega arith))
-]
+row_is p y row e h v x = grind (arith, cases_lt, lt-ltb, dot_nibble, le-ltb, dot_past)
 
 -- on other rows than its own a row of a picture has no ink
 elsewhere : (row : List ℕ) (y : ℕ) (u v : ℤ) → v ≢ pos y → at_place (λ n. at_place (λ m. row_dot row y m n) u) v ≡ false
-elsewhere row y u (negsuc n) o = refl
-elsewhere row y (negsuc m) (pos n) o = refl
-elsewhere row y (pos m) (pos n) o = let q : n ≢ y = λ e. o (ap (λ (k : ℕ). pos k) e) in grind (arith, nat_tests)
+elsewhere row y u v h1 = grind arith
 
 on_its_own : (row : List ℕ) (y : ℕ) (u v : ℤ) → v ≡ pos y → at_place (λ n. at_place (λ m. row_dot row y m n) u) v ≡ at_place (λ m. row_dot row y m y) u
 on_its_own row y u v e = ap (λ z. at_place (λ n. at_place (λ m. row_dot row y m n) u) z) e
@@ -74,9 +69,9 @@ some_is a b e = ap (λ (o : Option ℕ). unwrap_or o 0) e
 
 -- a row of a picture painted on row k of a band
 pub row_painted : (op : Op) (columns rows : Axis) (first y k : ℕ) (row : List ℕ) (a : List (List ℕ)) (new : List ℕ) → k < length a → dot_on rows (pos (first + k)) ≡ pos y
-    → ((j : ℕ) → j < 32 → dot_on rows (pos (first + j)) ≡ pos y → Some k ≡ Some j)
+    → ((j : ℕ) → j < BAND_ROWS → dot_on rows (pos (first + j)) ≡ pos y → Some k ≡ Some j)
     → Painted op (λ p. at_place (λ m. row_dot row y m y) (dot_on columns (pos p))) (get_or a k []) new
-    → RowsPainted 32 op (λ x j. laid Along columns rows (row_dot row y) (pos x) (pos (first + j))) a (set a k new)
+    → RowsPainted BAND_ROWS op (λ x j. laid Along columns rows (row_dot row y) (pos x) (pos (first + j))) a (set a k new)
 row_painted op columns rows first y k row a new l e only p = record {
   rows_are = λ j h. elim (cases_eq j k) [
     | inl s ↦ rw (s, get_or-set_same a k new [] l) (painted_same op _ (λ x. laid Along columns rows (row_dot row y) (pos x) (pos (first + k))) (get_or a k []) new
@@ -87,54 +82,34 @@ row_painted op columns rows first y k row a new l e only p = record {
 }
 
 -- a row of a picture that falls on no row of a band
-pub row_unseen : (op : Op) (columns rows : Axis) (first y : ℕ) (row : List ℕ) (a : List (List ℕ)) → ((j : ℕ) → j < 32 → dot_on rows (pos (first + j)) ≢ pos y)
-    → RowsPainted 32 op (λ x j. laid Along columns rows (row_dot row y) (pos x) (pos (first + j))) a a
-row_unseen op columns rows first y row a none = record {
-  rows_are = λ j h. painted_none op (λ x. laid Along columns rows (row_dot row y) (pos x) (pos (first + j))) (get_or a j []) (λ d m. elsewhere row y (dot_on columns (pos d)) (dot_on rows (pos (first + j))) (none j h));
-}
+pub row_unseen : (op : Op) (columns rows : Axis) (first y : ℕ) (row : List ℕ) (a : List (List ℕ)) → ((j : ℕ) → j < BAND_ROWS → dot_on rows (pos (first + j)) ≢ pos y)
+    → RowsPainted BAND_ROWS op (λ x j. laid Along columns rows (row_dot row y) (pos x) (pos (first + j))) a a
+row_unseen op columns rows first y row a none = grind (arith, painted_none, elsewhere)
 
 module _ (op : Op) (columns rows : Axis) (first : ℕ) (f : ℕ → ℕ → Bool) where
-  -- the lines from <= v < to on a band
-  upto : ℕ → ℕ → ℕ → ℕ → Bool
-  upto from to x k = laid Along columns rows (part from to f) (pos x) (pos (first + k))
-
   no_line : (from to : ℕ) → to ≤ from → (u v : ℤ) → at_place (λ n. at_place (λ m. part from to f m n) u) v ≡ false
-  no_line from to l u (negsuc n) = refl
-  no_line from to l (negsuc m) (pos n) = refl
-  no_line from to l (pos m) (pos n) = grind (arith, nat_tests)
+  no_line from to h1 u v = grind arith
 
   one_line : (from y : ℕ) (row : List ℕ) → from ≤ y → ((x : ℕ) → dot row x ≡ f x y) → (u v : ℤ)
       → at_place (λ n. at_place (λ m. part from (y + 1) f m n) u) v ≡ (at_place (λ n. at_place (λ m. part from y f m n) u) v || at_place (λ n. at_place (λ m. row_dot row y m n) u) v)
-  one_line from y row l e u (negsuc n) = refl
-  one_line from y row l e (negsuc m) (pos n) = refl
-  one_line from y row l e (pos m) (pos n) = elim (cases_eq n y) [
-    | inl s ↦ (let d : f m n ≡ dot row m = ap (f m) s ∙ sym (e m) in rw d (grind (arith, nat_tests)))
-    | inr o ↦ grind (arith, nat_tests)
-  ]
+  one_line from y row h1 h2 u v = grind (arith, cases_eq)
 
   other_lines : (from y : ℕ) (row : List ℕ) (u v : ℤ) → (at_place (λ n. at_place (λ m. part from y f m n) u) v && at_place (λ n. at_place (λ m. row_dot row y m n) u) v) ≡ false
-  other_lines from y row u (negsuc n) = refl
-  other_lines from y row (negsuc m) (pos n) = refl
-  other_lines from y row (pos m) (pos n) = grind (arith, nat_tests)
+  other_lines from y row u v = grind arith
 
   all_lines : (h from to : ℕ) → ((m n : ℕ) → f m n ≡ true → n < h) → (u v : ℤ) → ((n : ℕ) → n < h → v ≡ pos n → (from ≤ n) × (n < to))
       → at_place (λ n. at_place (λ m. part from to f m n) u) v ≡ at_place (λ n. at_place (λ m. f m n) u) v
-  all_lines h from to i u (negsuc n) g = refl
-  all_lines h from to i (negsuc m) (pos n) g = refl
-  all_lines h from to i (pos m) (pos n) g = elim (cases_Bool (f m n)) [
-    | inl t ↦ (let w = g n (i m n t) refl in rw t (grind (arith, nat_tests)))
-    | inr o ↦ rw o (grind (arith, nat_tests))
-  ]
+  all_lines h from to h1 u v h2 = grind (arith, cases_Bool)
 
   -- no row is painted yet
-  pub lines_init : (from to : ℕ) (a : List (List ℕ)) → to ≤ from → RowsPainted 32 op (λ x k. laid Along columns rows (part from to f) (pos x) (pos (first + k))) a a
+  pub lines_init : (from to : ℕ) (a : List (List ℕ)) → to ≤ from → RowsPainted BAND_ROWS op (λ x k. laid Along columns rows (part from to f) (pos x) (pos (first + k))) a a
   lines_init from to a l = rows_none op (λ x k. laid Along columns rows (part from to f) (pos x) (pos (first + k))) a (λ x k. no_line from to l (dot_on columns (pos x)) (dot_on rows (pos (first + k))))
 
   -- one more row
   pub lines_more : (from y : ℕ) (row : List ℕ) (a b c : List (List ℕ)) → from ≤ y → ((x : ℕ) → dot row x ≡ f x y)
-      → RowsPainted 32 op (λ x k. laid Along columns rows (part from y f) (pos x) (pos (first + k))) a b
-      → RowsPainted 32 op (λ x k. laid Along columns rows (row_dot row y) (pos x) (pos (first + k))) b c
-      → RowsPainted 32 op (λ x k. laid Along columns rows (part from (y + 1) f) (pos x) (pos (first + k))) a c
+      → RowsPainted BAND_ROWS op (λ x k. laid Along columns rows (part from y f) (pos x) (pos (first + k))) a b
+      → RowsPainted BAND_ROWS op (λ x k. laid Along columns rows (row_dot row y) (pos x) (pos (first + k))) b c
+      → RowsPainted BAND_ROWS op (λ x k. laid Along columns rows (part from (y + 1) f) (pos x) (pos (first + k))) a c
   lines_more from y row a b c l e p q = record {
     rows_are = λ k h. painted_then op _ _ (λ x. laid Along columns rows (part from (y + 1) f) (pos x) (pos (first + k))) _ _ _ (p.rows_are k h) (q.rows_are k h)
         (λ d m. one_line from y row l e (dot_on columns (pos d)) (dot_on rows (pos (first + k))))
@@ -143,10 +118,10 @@ module _ (op : Op) (columns rows : Axis) (first : ℕ) (f : ℕ → ℕ → Bool
 
   -- all rows that fall on the band
   pub lines_all : (h from to : ℕ) (ink : ℕ → ℕ → Bool) (a b : List (List ℕ)) → ((m n : ℕ) → f m n ≡ true → n < h)
-      → ((k n : ℕ) → k < 32 → n < h → dot_on rows (pos (first + k)) ≡ pos n → (from ≤ n) × (n < to))
+      → ((k n : ℕ) → k < BAND_ROWS → n < h → dot_on rows (pos (first + k)) ≡ pos n → (from ≤ n) × (n < to))
       → ((x k : ℕ) → laid Along columns rows f (pos x) (pos (first + k)) ≡ ink x k)
-      → RowsPainted 32 op (λ x k. laid Along columns rows (part from to f) (pos x) (pos (first + k))) a b
-      → RowsPainted 32 op ink a b
+      → RowsPainted BAND_ROWS op (λ x k. laid Along columns rows (part from to f) (pos x) (pos (first + k))) a b
+      → RowsPainted BAND_ROWS op ink a b
   lines_all h from to ink a b i g e p = record {
     rows_are = λ k l. painted_same op _ (λ x. ink x k) _ _ (λ d m. all_lines h from to i (dot_on columns (pos d)) (dot_on rows (pos (first + k))) (λ n o s. g k n l o s) ∙ e d k) (p.rows_are k l);
   }

@@ -59,5 +59,4 @@ bottom_up w h left top l t p q ink x y =
 -- lines on other places
 pub laid_by : (lines : Lines) (c c' r r' : Axis) (x x' y y' : ℤ) → dot_on c x ≡ dot_on c' x' → dot_on r y ≡ dot_on r' y' → (ink : ℕ → ℕ → Bool)
     → laid lines c r ink x y ≡ laid lines c' r' ink x' y'
-laid_by Along c c' r r' x x' y y' p q ink = rw (p, q) refl
-laid_by Across c c' r r' x x' y y' p q ink = rw (p, q) refl
+laid_by lines c c' r r' x x' y y' h1 h2 ink = grind arith

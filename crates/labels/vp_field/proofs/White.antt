@@ -1,12 +1,12 @@
 -- White bands, and bands cut at the label's edge.
-use Rattle.std.proofs.Common.{inl, inr, ◌≡◌, ℕ, ◌+◌, ◌-◌, ◌*◌, ◌/◌, ◌%◌, ◌<◌, ◌≤◌, Bool, true, false, cond, refl, sym, ap, ◌∙◌, arith, List, [], ◌∷◌, ◌++◌, length, get_or, replicate, drop, length-append, length-drop, pos}
+use Rattle.std.proofs.Common.{inl, inr, ◌≡◌, ℕ, ◌+◌, ◌*◌, ◌<◌, ◌≤◌, Bool, false, cond, refl, sym, ap, ◌∙◌, arith, List, [], ◌∷◌, ◌++◌, length, get_or, replicate, drop, length-append, length-drop, pos}
 use Rattle.std.proofs.lemmas.List.{get_or_append_left, length-replicate}
 use Rattle.std.proofs.lemmas.Bool.{cases_lt, lt-ltb, le-ltb}
-use Rattle.std.proofs.lemmas.Bool.Decides.{nat_tests}
-use Rattle.vp_dots.specs.Dots.{bit, dot, span}
+use Rattle.vp_dots.specs.Dots.{dot, span}
 use Rattle.vp_dots.specs.Images.{row_bytes}
-use Rattle.vp_dots.specs.Painting.{paint, Painted}
+use Rattle.vp_dots.specs.Painting.{Painted}
 use Rattle.vp_dots.specs.declared.Op.TheVariants.{White}
+use Rattle.vp_label_size.specs.declared.TheConstants.{BAND_BYTES, BAND_ROWS, WIDEST}
 use Rattle.vp_field.specs.Strokes.{Stroke, image_dot}
 use Rattle.vp_field.specs.Views.{seen_x, seen_y, columns_of}
 use Rattle.vp_field.specs.Bands.{Shows, ShownPainted}
@@ -16,16 +16,14 @@ use Rattle.vp_field.proofs.Folds.{label_dot-none, label_dot-push, moved_dot}
 
 white_front : (n x : ℕ) (rest : List ℕ) → x < 8 * n → dot (replicate n 0 ++ rest) x ≡ false
 unfolding dot
-white_front n x rest h =
-    ap (λ b. bit b (7 - x % 8)) (get_or_append_left (replicate n 0) rest 0 (x / 8) (omega (arith, length-replicate {A = ℕ} n 0)))
-    ∙ dot_white n x (omega arith)
+white_front n x rest h = grind (arith, get_or_append_left, length-replicate, dot_white)
 
 -- a band whose rows are white as far as the label reaches shows a label without strokes
-pub shows_none : (view : View) (first n bytes : ℕ) (a b : List (List ℕ)) → bytes ≤ 156
-    → ((k : ℕ) → k < 32 → length (get_or a k []) ≡ 156)
+pub shows_none : (view : View) (first n bytes : ℕ) (a b : List (List ℕ)) → bytes ≤ BAND_BYTES
+    → ((k : ℕ) → k < BAND_ROWS → length (get_or a k []) ≡ BAND_BYTES)
     → ((k : ℕ) → k < n → get_or b k [] ≡ replicate bytes 0 ++ drop bytes (get_or a k []))
-    → ((k : ℕ) → n ≤ k → get_or b k [] ≡ get_or a k []) → ((k : ℕ) → k < 32 → first + k < view.height → k < n)
-    → ((x : ℕ) → x < 1248 → x < view.width → x < 8 * bytes) → Shows view first [] b
+    → ((k : ℕ) → n ≤ k → get_or b k [] ≡ get_or a k []) → ((k : ℕ) → k < BAND_ROWS → first + k < view.height → k < n)
+    → ((x : ℕ) → x < WIDEST → x < view.width → x < 8 * bytes) → Shows view first [] b
 shows_none view first n bytes a b few long done rest on across = record {
   rows_are = λ k h. elim (cases_lt k n) [
     | inl l ↦ ap length (done k l) ∙ length-append (replicate bytes 0) (drop bytes (get_or a k []))
@@ -41,30 +39,19 @@ shows_none view first n bytes a b few long done rest on across = record {
 pub shows_more : (view : View) (first : ℕ) (s : Stroke) (a b : List (List ℕ))
     → ShownPainted (columns_of view) s.op (λ x k. s.ink (seen_x view (pos x)) (seen_y view (pos (first + k)))) a b
     → (strokes : List Stroke) → Shows view first strokes a → Shows view first (strokes ++ s ∷ []) b
-shows_more view first s a b p strokes q = record {
-  rows_are = λ k h. p.lengths_are k h ∙ q.rows_are k h;
-  dots_are = λ x k l wide h high.
-      let n = q.rows_are k h in
-      let x' = seen_x view (pos x) in
-      let y' = seen_y view (pos (first + k)) in
-      p.dots_are x k (omega (arith, l, wide)) h (omega arith)
-      ∙ ap (λ d. paint s.op (s.ink x' y') d) (q.dots_are x k l wide h high ∙ moved_dot view (pos x) (pos (first + k)) strokes)
-      ∙ sym (moved_dot view (pos x) (pos (first + k)) (strokes ++ s ∷ []) ∙ label_dot-push strokes s x' y');
-}
+shows_more view first s a b p strokes q = grind (arith, moved_dot, label_dot-push)
 
 kept_dot : (from to d : ℕ) (b : Bool) → d < from → cond (span from to d) false b ≡ b
-kept_dot from to d true h = grind (arith, nat_tests)
-kept_dot from to d false h = grind (arith, nat_tests)
+kept_dot from to d b h1 = grind arith
 
 cut_dot : (from to d : ℕ) (b : Bool) → from ≤ d → d < to → cond (span from to d) false b ≡ false
-cut_dot from to d true g h = grind (arith, nat_tests)
-cut_dot from to d false g h = grind (arith, nat_tests)
+cut_dot from to d b h1 h2 = grind arith
 
 -- the bytes of the label's rows, cut at its edge
-pub shows_cut : (view : View) (first n to : ℕ) (a b : List (List ℕ)) → view.width ≤ 1248 → to ≡ 8 * row_bytes view.width
+pub shows_cut : (view : View) (first n to : ℕ) (a b : List (List ℕ)) → view.width ≤ WIDEST → to ≡ 8 * row_bytes view.width
     → ((k : ℕ) → k < n → Painted White (span view.width to) (get_or a k []) (get_or b k []))
-    → ((k : ℕ) → k < 32 → first + k < view.height → k < n)
-    → (strokes : List Stroke) → Shows view first strokes a → (x k : ℕ) → x < 8 * row_bytes view.width → k < 32 → first + k < view.height
+    → ((k : ℕ) → k < BAND_ROWS → first + k < view.height → k < n)
+    → (strokes : List Stroke) → Shows view first strokes a → (x k : ℕ) → x < 8 * row_bytes view.width → k < BAND_ROWS → first + k < view.height
     → dot (get_or b k []) x ≡ image_dot view strokes x (first + k)
 shows_cut view first n to a b w e done on strokes q x k l h high =
     let long = q.rows_are k h in

@@ -27,9 +27,7 @@ returns-clause-painted g c = rw (sym (to_z-of_z w64 c.args.at c.ranges.at))
     (rw c.width-width.ensures at c.seen-from.ensures.behind) c.loop-k.invariant.0)
 
 pub returns-clause-most : goal.returns-clause-most
-returns-clause-most g c =
-    let few = rw c.width-width.ensures at c.seen-from.ensures.few in
-    omega (arith, few, c.seen-from.ensures.last, c.loop-k.invariant.1, c.loop-k.invariant.2)
+returns-clause-most g c = grind arith
 
 pub returns-clause-some : goal.returns-clause-some
 returns-clause-some g c = rw (sym (to_z-of_z w64 c.args.at c.ranges.at)) (λ d l e.

@@ -30,9 +30,7 @@ pub loop-i-preserved : goal.loop-i-preserved
 loop-i-preserved g c =
     let i = c.loop-i.i in
     let old = c.loop-i.invariant in
-    let set = c.set_run.ensures in
     let counted : c.draw_on.new.self.lines ≡ c.loop-i.pen.lines + 1 = c.draw_on.ensures.counted in
-    let same = rw old.ink at c.shown-shown.ensures.line in
     let drawn = rw old.ink at c.draw_on.ensures.dots in
     let ink = λ (u v : ℕ). g.I.Ink.ink_at c.args.pen.now.ink.now u v in
     let dots = λ (d k : ℕ). laid Across c.args.columns c.args.rows ink (pos d) (pos (c.args.first + k)) in
@@ -45,22 +43,17 @@ loop-i-preserved g c =
       more = omega (arith, old.more, counted);
       some = λ h. omega (arith, old.more, counted);
       drawn = λ j k h l. elim (cases_lt j i) [
-        | inl b ↦ ap (λ n. half_dot n k) (set.before j b) ∙ old.drawn j k b l
+        | inl b ↦ ap (λ n. half_dot n k) (c.set_run.ensures.before j b) ∙ old.drawn j k b l
         | inr m ↦
             let there : c.args.x + i + (j - i) ≡ c.args.x + j = omega arith in
-            ap (λ n. half_dot n k) (set.inside j m (omega (arith, h))) ∙ c.half_of.ensures k l ∙ drawn k (omega arith)
-            ∙ sym (same (j - i) (omega (arith, h)) (dot_on c.args.rows (pos (c.args.first + k)))) ∙ ap (λ n. dots n k) there
+            ap (λ n. half_dot n k) (c.set_run.ensures.inside j m (omega (arith, h))) ∙ c.half_of.ensures k l ∙ drawn k (omega arith)
+            ∙ sym ((rw old.ink at c.shown-shown.ensures.line) (j - i) (omega (arith, h)) (dot_on c.args.rows (pos (c.args.first + k)))) ∙ ap (λ n. dots n k) there
       ];
-      white = λ j h. set.behind j (omega (arith, h)) ∙ old.white j (omega (arith, h));
+      white = λ j h. c.set_run.ensures.behind j (omega (arith, h)) ∙ old.white j (omega (arith, h));
     }
 
 pub returns-clause-dots : goal.returns-clause-dots
-returns-clause-dots g c = λ i k l h.
-    let last = c.loop-i.invariant in
-    elim (cases_lt (c.args.x + i) c.args.end) [
-      | inl b ↦ last.drawn i k (omega (arith, c.saturating_sub.ensures, c.min-many.ensures)) h ∙ sym (before_end (c.args.x + i) c.args.end _ b)
-      | inr a ↦ ap (λ n. half_dot n k) (last.white i (omega (arith, c.saturating_sub.ensures, c.min-many.ensures))) ∙ white_half k ∙ sym (from_end (c.args.x + i) c.args.end _ a)
-    ]
+returns-clause-dots g c = grind (arith, cases_lt, before_end, white_half, from_end)
 
 pub returns-clause-few : goal.returns-clause-few
 returns-clause-few g c = omega (arith, c.loop-i.invariant.lines, c.loop-i.invariant.within, c.min-many.ensures)

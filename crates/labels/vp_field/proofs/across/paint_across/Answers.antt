@@ -1,4 +1,6 @@
-use Rattle.std.proofs.Common.{refl, ap, ◌∙◌, ◌≡◌, ℕ, ◌+◌, ◌<◌, ◌&&◌, ltb, true, arith, pos}
+use Rattle.std.proofs.lemmas.Bool.Decides.{nat_tests}
+use Rattle.std.proofs.Common.{refl, ◌≡◌, ℕ, ◌+◌, ◌<◌, ◌&&◌, ltb, true, arith, pos}
+use Rattle.vp_label_size.specs.declared.TheConstants.{BAND_ROWS}
 use Rattle.vp_field.specs.Axes.{dot_on, laid}
 use Rattle.vp_field.specs.declared.axis.Lines.TheVariants.{Across}
 use Rattle.vp_field.proofs.Places.{line_inside}
@@ -22,16 +24,7 @@ loop-x-init g c =
     }
 
 pub loop-x-preserved : goal.loop-x-preserved
-loop-x-preserved g c =
-    let old = c.loop-x.invariant in
-    let now = c.paint_columns-x.ensures in
-    record {
-      ink = now.ink ∙ old.ink;
-      painted = columns_more c.args.op (λ x k. ltb x c.max-end.result && laid Across c.args.columns c.args.rows (λ u v. g.I.Ink.ink_at c.args.ink.ink.now u v) (pos x) (pos (c.args.first + k))) c.loop-x.x c.paint_columns-x.result _ _ _ old.painted (rw old.ink at now.painted);
-      lines = omega (arith, old.lines, now.lines);
-      counted = now.within;
-      some = λ h. omega (arith, now.counted);
-    }
+loop-x-preserved g c = grind (arith, nat_tests, columns_more)
 
 pub returns-clause-dots : goal.returns-clause-dots
 returns-clause-dots g c =
@@ -40,14 +33,10 @@ returns-clause-dots g c =
     let shown = λ (x k : ℕ). laid Across c.args.columns c.args.rows ink (pos x) (pos (c.args.first + k)) in
     shown_all c.args.seen c.args.op shown c.max-end.result c.span-from.result.1 _ _ (λ d l m. omega (arith, l, m, c.min.ensures, c.max-end.ensures))
     (λ d k l. c.span-from.ensures.behind _ (line_inside ink c.size-h.result.1 lines (dot_on c.args.rows (pos (c.args.first + k)))) d l)
-    (shown_rows c.args.seen c.args.op _ _ _ (columns_all 32 c.args.op (λ x k. ltb x c.max-end.result && shown x k) c.loop-x.x _ _ (λ x k a b m. from_end x c.max-end.result (shown x k) (omega (arith, a))) c.loop-x.invariant.painted))
+    (shown_rows c.args.seen c.args.op _ _ _ (columns_all BAND_ROWS c.args.op (λ x k. ltb x c.max-end.result && shown x k) c.loop-x.x _ _ (λ x k a b m. from_end x c.max-end.result (shown x k) (omega (arith, a))) c.loop-x.invariant.painted))
 
 pub returns-clause-lines : goal.returns-clause-lines
-returns-clause-lines g c =
-    let last = c.loop-x.invariant in
-    let most = ap (λ i. g.I.Pieces.most_pieces i.now 32) last.ink in
-    let few = few_pieces (g.I.Pieces.most_pieces c.loop-x.pen.ink.now 32) c.loop-x.pen.lines c.loop-x.pen.pieces 1256 last.counted (omega (arith, last.lines)) in
-    omega (arith, last.lines, c.work.ensures, few, most)
+returns-clause-lines g c = grind (arith, few_pieces)
 
 pub returns-clause-counted : goal.returns-clause-counted
 returns-clause-counted g c = let some = c.loop-x.invariant.some (omega (arith, c.max-end.ensures)) in omega (arith, some, c.work.ensures)

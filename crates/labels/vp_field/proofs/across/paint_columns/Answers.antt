@@ -10,8 +10,7 @@ draw_on-requires g c = (omega arith, (omega arith, (c.requires.near, (omega arit
 
 pub returns-then-shown-ge-RUN-clause-painted : goal.returns-then-shown-ge-RUN-clause-painted
 returns-then-shown-ge-RUN-clause-painted g c =
-    let ink = λ (u v : ℕ). g.I.Ink.ink_at c.args.pen.now.ink.now u v in
-    let dots = λ (d k : ℕ). laid Across c.args.columns c.args.rows ink (pos d) (pos (c.args.first + k)) in
+    let dots = λ (d k : ℕ). laid Across c.args.columns c.args.rows (λ (u v : ℕ). g.I.Ink.ink_at c.args.pen.now.ink.now u v) (pos d) (pos (c.args.first + k)) in
     columns_alike c.args.op (λ d k. ltb d c.args.end && dots d k) c.draw_on.new.line c.args.x c.shown-shown.result.places _ _
     (λ d k h a b.
     let there : c.args.x + (d - c.args.x) ≡ d = omega arith in

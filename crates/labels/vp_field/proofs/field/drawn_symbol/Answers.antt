@@ -1,4 +1,5 @@
-use Rattle.std.proofs.Common.{◌≡◌, ℕ, List, ◌∙◌}
+use Rattle.std.proofs.lemmas.Grind.{common_steps}
+use Rattle.std.proofs.Common.{◌≡◌, ℕ, List, arith}
 use Rattle.vp_format.specs.declared.field.QrSymbol.{QrSymbol}
 use Rattle.vp_qr.specs.Encoding.{Encodes, QrSymbol as Symbol}
 use Rattle.vp_qr.specs.Inks.{ScaledSymbol}
@@ -11,16 +12,10 @@ use Rattle.vp_field.proofs.field.drawn_symbol.Goals as goal
 -- the symbol of the data, scaled
 is_drawn : (stored : List ℕ) (q : QrSymbol) (read : List ℕ) (qr : Symbol) (s : ScaledSymbol) → IsSymbol stored q → read ≡ bytes_of stored q.bytes → Encodes q.level q.mode read qr
     → s.scale ≡ q.module → s.size ≡ size qr.version → s.rows ≡ qr.rows → IsDrawn stored q s
-is_drawn stored q read qr s kept is e scale wide rows =
-    let same = qr_same q.level q.mode (bytes_of stored q.bytes) q.module qr s kept.some kept.accepted (rw is at e) scale wide rows in
-    record { side = same.0; ink = same.1 }
+is_drawn stored q read qr s kept is e scale wide rows = grind (arith, common_steps, qr_same)
 
 pub returns-clause-drawn : goal.returns-clause-drawn
-returns-clause-drawn c =
-    let s = c.scaled-ink in
-    is_drawn c.args.stored.now c.args.symbol c.bytes_of.result.now c.drawn-qr.result s.result c.requires.symbol c.bytes_of.ensures c.drawn-qr.ensures (s.ensures.scale ∙ c.from-3.ensures) s.ensures.size s.ensures.rows
+returns-clause-drawn c = grind (arith, common_steps, is_drawn)
 
 pub returns-clause-marks : goal.returns-clause-marks
-returns-clause-marks c =
-    let s = c.scaled-ink in
-    is_drawn c.args.stored.now c.args.symbol c.bytes_of.result.now c.drawn-qr.result s.result c.requires.symbol c.bytes_of.ensures c.drawn-qr.ensures (s.ensures.scale ∙ c.from-3.ensures) s.ensures.size s.ensures.rows
+returns-clause-marks c = grind (arith, common_steps, is_drawn)

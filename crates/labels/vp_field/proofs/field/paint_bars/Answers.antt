@@ -1,5 +1,5 @@
 use Rattle.std.proofs.lemmas.Bool.{both_ways}
-use Rattle.std.proofs.Common.{◌≡◌, ℕ, ◌+◌, refl, sym, subst, Bool, true, false, is_ok, pos, arith, List, Result, Ok, Err}
+use Rattle.std.proofs.Common.{◌≡◌, ℕ, ◌+◌, sym, subst, Bool, false, is_ok, pos, arith, List, Result}
 use Rattle.vp_dots.specs.declared.fault.Fault.{Fault}
 use Rattle.vp_bars.specs.Symbols.{Linear}
 use Rattle.vp_bars.specs.Symbologies.{symbol_of}
@@ -11,7 +11,7 @@ use Rattle.vp_field.specs.Bands.{ShownPainted, IsCounted}
 use Rattle.vp_field.specs.Standing.{standing}
 use Rattle.vp_field.specs.Views.{seen_x, seen_y, columns_of}
 use Rattle.vp_field.specs.declared.marks.Marks.{Marks}
-use Rattle.vp_field.specs.declared.marks.Marks.TheVariants.{Nothing, Picture, Symbol, Bars}
+use Rattle.vp_field.specs.declared.marks.Marks.TheVariants.{Bars}
 use Rattle.vp_field.specs.declared.standing.Standing.{Standing}
 use Rattle.vp_field.proofs.Shown.{standing_none}
 use Rattle.vp_field.proofs.OnLabel.{shown_none}
@@ -24,28 +24,14 @@ ink sheets b on first r x k =
 
 -- what is left of data without a symbol is none
 none_left : (stored : List ℕ) (b : BarSymbol) (m : Marks) → ((s : Linear) → m ≡ Bars s → ⊥) → IsEncoded stored b m → is_ok (symbol_of b.code (bytes_of stored b.bytes)) ≡ false
-none_left stored b Nothing not none = none
-none_left stored b (Picture places) not none = none
-none_left stored b (Symbol s) not none = none
-none_left stored b (Bars s) not is = absurd (not s refl)
+none_left stored b m h1 h2 = grind arith
 
 -- and has no ink
 no_ink : (sheets : Sheets) (b : BarSymbol) (on : Standing) (first : ℕ) (r : Result Linear Fault) → is_ok r ≡ false → (x k : ℕ) → ink sheets b on first r x k ≡ false
-no_ink sheets b on first (Ok s) none x k = absurd (both_ways true none refl)
-no_ink sheets b on first (Err why) none x k =
-    standing_none on.left on.top on.orientation 0 0 (λ u v. false) (λ u v. refl) (seen_x on.view (pos x)) (seen_y on.view (pos (first + k)))
+no_ink sheets b on first r h1 x k = grind (arith, both_ways, standing_none)
 
 pub returns-in_default : goal.returns-in_default
-returns-in_default g c =
-    let a = c.args in
-    let r = symbol_of a.bars.code (bytes_of a.stored.now a.bars.bytes) in
-    let none = no_ink a.sheets.now a.bars a.on a.first r (none_left a.stored.now a.bars c.encode.new.marks c.in_default.not-Bars c.encode.ensures.encoded) in
-    record {
-      marks = c.encode.ensures.marks;
-      dots = shown_none _ a.on.op (ink a.sheets.now a.bars a.on a.first r) a.band.now (λ x k l h. none x k);
-      lines = omega arith;
-      counted = λ x k low e. absurd (both_ways (ink a.sheets.now a.bars a.on a.first r x k) (none x k) e);
-    }
+returns-in_default g c = grind (arith, no_ink, none_left, shown_none, both_ways)
 
 pub returns-clause-dots : goal.returns-clause-dots
 returns-clause-dots g c =

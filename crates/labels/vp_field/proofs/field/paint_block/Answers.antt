@@ -1,4 +1,4 @@
-use Rattle.std.proofs.Common.{◌≡◌, ℕ, ◌+◌, ◌*◌, ◌^◌, ◌<◌, ◌≤◌, ◌∙◌, List, length, drop, ap, sym, arith, pos}
+use Rattle.std.proofs.Common.{◌≡◌, ℕ, ◌+◌, ◌^◌, ◌<◌, ◌≤◌, ◌∙◌, List, length, drop, ap, sym, arith, pos}
 use Rattle.std.proofs.lemmas.List.{length-take}
 use Rattle.vp_format.specs.declared.field.Content.TheVariants as contents
 use Rattle.vp_format.specs.declared.field.TextBlock.{TextBlock}
@@ -54,36 +54,16 @@ pub returns-in-Across-clause-counted : goal.returns-in-Across-clause-counted
 returns-in-Across-clause-counted g c = λ x k low e. omega (arith, c.paint_block_across.ensures.counted)
 
 pub paint_block_along-requires-clause-few : goal.paint_block_along-requires-clause-few
-paint_block_along-requires-clause-few g c =
-    let b = c.block_of-ink.ensures in
-    let r = c.from_row-block.ensures in
-    text_few c.args.stored.now c.args.block _ c.requires.block (r.text ∙ b.text)
+paint_block_along-requires-clause-few g c = grind (arith, text_few)
 
 pub paint_block_across-requires-clause-few : goal.paint_block_across-requires-clause-few
-paint_block_across-requires-clause-few g c =
-    let b = c.block_of-ink.ensures in
-    let r = c.from_row-block.ensures in
-    text_few c.args.stored.now c.args.block _ c.requires.block (r.text ∙ b.text)
+paint_block_across-requires-clause-few g c = grind (arith, text_few)
 
 pub returns-in-Along-clause-lines : goal.returns-in-Along-clause-lines
-returns-in-Along-clause-lines g c =
-    let b = c.block_of-ink.ensures in
-    let r = c.from_row-block.ensures in
-    let n = length c.from_row-block.result.text.now in
-    let walked : c.walked-walked.result ≤ 2 * n + 1 = omega (arith, c.walked-walked.ensures, r.walked, b.walked, ap length r.text) in
-    let cost = along_cost (lines_of c.args.on.orientation) n c.args.block.text.bytes.len c.walked-walked.result _ (sym c.laid-laid.ensures.lines ∙ c.in-Along.is)
-    (text_less c.args.stored.now c.args.block _ (r.text ∙ b.text)) walked c.paint_block_along.ensures.lines in
-    omega (arith, cost)
+returns-in-Along-clause-lines g c = grind (arith, along_cost, text_less)
 
 pub returns-in-Across-clause-lines : goal.returns-in-Across-clause-lines
-returns-in-Across-clause-lines g c =
-    let b = c.block_of-ink.ensures in
-    let r = c.from_row-block.ensures in
-    let n = length c.from_row-block.result.text.now in
-    let walked : c.walked-walked.result ≤ 2 * n + 1 = omega (arith, c.walked-walked.ensures, r.walked, b.walked, ap length r.text) in
-    let cost = across_cost (lines_of c.args.on.orientation) n c.args.block.text.bytes.len c.walked-walked.result c.paint_block_across.result (sym c.laid-laid.ensures.lines ∙ c.in-Across.is)
-    (text_less c.args.stored.now c.args.block _ (r.text ∙ b.text)) walked (omega (arith, c.paint_block_across.ensures.lines, c.columns-columns.ensures)) in
-    omega (arith, cost)
+returns-in-Across-clause-lines g c = grind (arith, across_cost, text_less)
 
 pub returns-in-Along-clause-passed : goal.returns-in-Along-clause-passed
 returns-in-Along-clause-passed g c = λ x k y l m e.
@@ -91,19 +71,17 @@ returns-in-Along-clause-passed g c = λ x k y l m e.
     let r = c.from_row-block.ensures in
     let d = c.args.block in
     let text = bytes_of c.args.stored.now d.text.bytes in
-    let lay = c.laid-laid.result in
     let h = content_height c.args.sheets.now c.args.stored.now (contents.Block d) in
     let ink = content_dot c.args.sheets.now c.args.stored.now (contents.Block d) in
     let lines : lines_of c.args.on.orientation ≡ Along = sym c.laid-laid.ensures.lines ∙ c.in-Along.is in
     let most = most_lines (lines_of c.args.on.orientation) in
     let shown = rw (c.in-Along.is, b.w, b.h, b.wide, b.rows, b.pitch) at c.laid-laid.ensures.ink in
-    let height = rw (b.h, b.rows, b.pitch) at c.size-height.ensures.height in
     let walked = rw (b.walked, b.passed, b.sheet, b.text, b.w, b.h, b.wide, b.rows, b.pitch, b.alignment) at r.counted in
     let painted = rw (r.sheet ∙ b.sheet, r.text ∙ b.text, r.w ∙ b.w, r.h ∙ b.h, r.wide ∙ b.wide, r.rows ∙ b.rows, r.pitch ∙ b.pitch, r.alignment ∙ b.alignment) at c.paint_block_along.ensures.counted in
     let few = text_few c.args.stored.now d _ c.requires.block b.text in
     let passed = passed_beside (block_layout c.args.sheets.now d) text y c.first_line-row.result most h (block_least (lines_of c.args.on.orientation) c.args.on.view) c.from_row-block.result.walked c.paint_block_along.result
-    (dot_on lay.columns (pos x)) (dot_on lay.rows (pos (c.args.first + k))) (shown (part (y + most) h ink) (pos x) (pos (c.args.first + k)) ∙ e)
-    (λ v n p. let near = c.first_line-row.ensures.near c.in-Along.is k v m (omega (arith, n, height)) p in omega (arith, near, ap most_lines lines))
+    (dot_on c.laid-laid.result.columns (pos x)) (dot_on c.laid-laid.result.rows (pos (c.args.first + k))) (shown (part (y + most) h ink) (pos x) (pos (c.args.first + k)) ∙ e)
+    (λ v n p. let near = c.first_line-row.ensures.near c.in-Along.is k v m (omega (arith, n, (rw (b.h, b.rows, b.pitch) at c.size-height.ensures.height))) p in omega (arith, near, ap most_lines lines))
     walked (omega (arith, few, r.walked, b.walked)) (λ w. let some = painted x k m (sym (shown ink (pos x) (pos (c.args.first + k))) ∙ w) in omega (arith, some, ap (λ o. block_least o c.args.on.view) lines)) in
     omega (arith, passed, c.walked-walked.ensures)
 
@@ -113,7 +91,6 @@ returns-in-Across-clause-passed g c = λ x k y l m e.
     let r = c.from_row-block.ensures in
     let d = c.args.block in
     let text = bytes_of c.args.stored.now d.text.bytes in
-    let lay = c.laid-laid.result in
     let h = content_height c.args.sheets.now c.args.stored.now (contents.Block d) in
     let ink = content_dot c.args.sheets.now c.args.stored.now (contents.Block d) in
     let lines : lines_of c.args.on.orientation ≡ Across = sym c.laid-laid.ensures.lines ∙ c.in-Across.is in
@@ -125,7 +102,7 @@ returns-in-Across-clause-passed g c = λ x k y l m e.
     let seen : x < c.columns-columns.result = omega (arith, l, c.columns-columns.ensures, ap (λ o. block_columns o c.args.on.view) lines) in
     let few = text_few c.args.stored.now d _ c.requires.block b.text in
     let passed = passed_beside (block_layout c.args.sheets.now d) text y c.first_line-row.result most h (block_least (lines_of c.args.on.orientation) c.args.on.view) c.from_row-block.result.walked c.paint_block_across.result
-    (dot_on lay.rows (pos (c.args.first + k))) (dot_on lay.columns (pos x)) (shown (part (y + most) h ink) (pos x) (pos (c.args.first + k)) ∙ e)
+    (dot_on c.laid-laid.result.rows (pos (c.args.first + k))) (dot_on c.laid-laid.result.columns (pos x)) (shown (part (y + most) h ink) (pos x) (pos (c.args.first + k)) ∙ e)
     (λ v n p. let near = c.first_line-row.ensures.within c.in-Across.is x v seen (omega (arith, n, height)) p in omega (arith, near, c.columns-columns.ensures, ap most_lines lines))
     walked (omega (arith, few, r.walked, b.walked)) (λ w. let some = painted x k seen m w in omega (arith, some, c.columns-columns.ensures, ap (λ o. block_least o c.args.on.view) lines)) in
     omega (arith, passed, c.walked-walked.ensures)

@@ -2,7 +2,6 @@ use Rattle.std.proofs.Common.{ℕ, ◌^◌, ◌≤◌, List, length, drop, arith
 use Rattle.std.proofs.lemmas.List.{length-take}
 use Rattle.vp_format.specs.declared.field.Text.{Text}
 use Rattle.vp_glyph.specs.Texts.{seen_cells}
-use Rattle.vp_field.specs.Axes.{lines_of}
 use Rattle.vp_field.specs.Contents.{bytes_of, IsText}
 use Rattle.vp_field.proofs.Counts.{fewer_cost}
 use Rattle.vp_field.proofs.field.paint_text.Goals as goal
@@ -25,13 +24,7 @@ returns-clause-counted g c =
     rw (t.sheet, t.text, t.w, t.h) at c.paint_standing.ensures.counted
 
 pub paint_standing-requires-clause-few : goal.paint_standing-requires-clause-few
-paint_standing-requires-clause-few g c =
-    let t = c.cells-text.ensures in
-    rw (t.text, t.w) (cells_few c.args.stored.now c.args.text c.requires.text)
+paint_standing-requires-clause-few g c = grind (arith, cells_few)
 
 pub returns-clause-lines : goal.returns-clause-lines
-returns-clause-lines g c =
-    let t = c.cells-text.ensures in
-    let cost = fewer_cost (lines_of c.args.on.orientation) _ _ (cells_less c.args.stored.now c.args.text) in
-    let lines = rw (t.text, t.w) at c.paint_standing.ensures.lines in
-    omega (arith, lines, cost)
+returns-clause-lines g c = grind (arith, fewer_cost, cells_less)

@@ -1,11 +1,12 @@
 use Rattle.std.proofs.Common.{◌≡◌, ℕ, ◌+◌, arith, ap, ◌∙◌, pos}
+use Rattle.vp_label_size.specs.declared.TheConstants.{BAND_BYTES}
 use Rattle.vp_field.specs.Axes.{dot_on}
 use Rattle.vp_field.specs.Places.{at_place}
 use Rattle.vp_field.proofs.OnWhite.{dot_white}
 use Rattle.vp_field.proofs.line.paint_drawn.Goals as goal
 
 pub draw-pieces-requires : goal.draw-pieces-requires
-draw-pieces-requires g c = (omega arith, (c.requires.near, (omega arith, λ p h. dot_white 156 p (omega (arith, h)))))
+draw-pieces-requires g c = (omega arith, (c.requires.near, (omega arith, λ p h. dot_white BAND_BYTES p (omega (arith, h)))))
 
 pub returns-clause-some : goal.returns-clause-some
 returns-clause-some g c = λ p h e.

@@ -2,6 +2,7 @@ use Rattle.std.proofs.Common.{inl, inr, ◌≡◌, ℕ, ◌+◌, ◌-◌, ◌*�
 use Rattle.std.proofs.lemmas.Bool.{both_ways, cases_lt}
 use Rattle.vp_dots.specs.Dots.{span}
 use Rattle.vp_dots.proofs.Placing.{rows_init}
+use Rattle.vp_label_size.specs.declared.TheConstants.{BAND_ROWS}
 use Rattle.vp_field.specs.Places.{at_place}
 use Rattle.vp_field.specs.Axes.{dot_on, laid, shown_dot}
 use Rattle.vp_field.specs.declared.axis.Lines.TheVariants.{Along}
@@ -16,7 +17,7 @@ loop-k-init g c =
     let lines : (u v : ℕ) → ink u v ≡ true → v < c.size-w.result.1 = λ u v e. rw c.size-w.ensures.height (g.met.I.Ink.outside c.args.ink.ink.now u v e).1 in
     record {
       ink = refl;
-      painted = shown_rows c.args.seen c.args.op _ _ _ (rows_init 32 c.args.op (λ x k. laid Along c.args.columns c.args.rows ink (pos x) (pos (c.args.first + k))) _ _
+      painted = shown_rows c.args.seen c.args.op _ _ _ (rows_init BAND_ROWS c.args.op (λ x k. laid Along c.args.columns c.args.rows ink (pos x) (pos (c.args.first + k))) _ _
           (λ x k l. c.span-from.ensures.before _ (line_inside ink c.size-w.result.1 lines (dot_on c.args.columns (pos x))) (c.args.first + k) (omega (arith, c.from-first.ensures, c.saturating_sub-k.ensures))));
       lines = omega (arith, c.min-end.ensures, c.requires.fresh);
       counted = record { few = c.requires.few; within = omega (arith, c.requires.whole) };
@@ -49,11 +50,7 @@ returns-clause-dots g c =
     (λ x k a b. c.span-from.ensures.behind _ (line_inside ink c.size-w.result.1 lines (dot_on c.args.columns (pos x))) (c.args.first + k) (omega (arith, c.from-first.ensures))) c.loop-k.invariant.painted
 
 pub returns-clause-lines : goal.returns-clause-lines
-returns-clause-lines g c =
-    let last = c.loop-k.invariant in
-    let most = ap (λ i. g.I.Pieces.most_pieces i.now 1248) last.ink in
-    let few = few_pieces (g.I.Pieces.most_pieces c.loop-k.pen.ink.now 1248) c.loop-k.pen.lines c.loop-k.pen.pieces 32 last.counted (omega (arith, last.lines)) in
-    omega (arith, last.lines, c.work.ensures, few, most)
+returns-clause-lines g c = grind (arith, few_pieces)
 
 pub returns-clause-counted : goal.returns-clause-counted
 returns-clause-counted g c = λ x k low e.

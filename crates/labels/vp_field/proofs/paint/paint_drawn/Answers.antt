@@ -1,9 +1,11 @@
-use Rattle.std.proofs.Common.{◌≡◌, ℕ, ◌+◌, ◌*◌, ◌<◌, ◌&&◌, ltb, leb, refl, sym, ap, ◌∙◌, arith}
+use Rattle.std.proofs.lemmas.Grind.{common_steps}
+use Rattle.std.proofs.Common.{◌≡◌, ℕ, ◌+◌, ◌*◌, ◌<◌, ◌&&◌, ltb, leb, ap, ◌∙◌, arith}
 use Rattle.std.proofs.lemmas.Bool.{le-leb}
 use Rattle.std.proofs.lemmas.Bool.Decides.{nat_tests}
 use Rattle.vp_dots.specs.Dots.{dot, span}
 use Rattle.vp_dots.proofs.Heights.{rows_next}
 use Rattle.vp_dots.proofs.Paints.{painted_same}
+use Rattle.vp_label_size.specs.declared.TheConstants.{BAND_BYTES}
 use Rattle.vp_field.specs.Axes.{shown_dot}
 use Rattle.vp_field.proofs.Alike.{no_line}
 use Rattle.vp_field.proofs.OnLabel.{in_span, shown_rows, shown_same}
@@ -11,13 +13,10 @@ use Rattle.vp_field.proofs.OnWhite.{dot_white}
 use Rattle.vp_field.proofs.paint.paint_drawn.Goals as goal
 
 pub draw_on-requires : goal.draw_on-requires
-draw_on-requires g c = (omega arith, (omega arith, (c.requires.columns, (omega arith, ((λ p h. dot_white 156 p (omega (arith, h))), (c.requires.count, c.requires.within))))))
+draw_on-requires g c = (omega arith, (omega arith, (c.requires.columns, (omega arith, ((λ p h. dot_white BAND_BYTES p (omega (arith, h))), (c.requires.count, c.requires.within))))))
 
 pub loop-i-preserved : goal.loop-i-preserved
-loop-i-preserved g c =
-    let line = λ (x : ℕ). span (8 * c.args.reach.from) (8 * c.args.reach.to) x && dot c.draw_on.new.line x in
-    rows_next 32 c.args.op (λ x k. leb c.args.k k && line x) c.args.k c.loop-i.i _ _ _ (omega (arith, c.row_mut.ensures.rows)) (omega arith) c.loop-i.invariant
-    (rw (sym c.row_mut.ensures.value) (painted_same _ _ _ _ _ (λ d l. rw (le-leb c.args.k (c.args.k + c.loop-i.i) (omega arith)) refl) c.paint_bytes.ensures))
+loop-i-preserved g c = grind (arith, common_steps, rows_next, painted_same, le-leb)
 
 -- beside the bytes that are painted the line is white, where it is shown
 pub returns-clause-painted : goal.returns-clause-painted

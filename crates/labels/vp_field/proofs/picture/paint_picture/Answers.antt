@@ -1,6 +1,6 @@
-use Rattle.std.proofs.Common.{◌≡◌, ◌≤◌, ◌∙◌, arith, pos, ◌+◌, ap, drop, length}
+use Rattle.std.proofs.lemmas.Grind.{common_steps}
+use Rattle.std.proofs.Common.{◌∙◌, arith, pos, ◌+◌}
 use Rattle.std.proofs.lemmas.List.{length-take}
-use Rattle.vp_format.specs.Pictures.{Cursor, Picture}
 use Rattle.vp_format.specs.declared.field.Content.TheVariants as contents
 use Rattle.vp_field.specs.Contents.{picture_of, picture_dot}
 use Rattle.vp_field.specs.Drawn.{drawn}
@@ -32,44 +32,26 @@ returns-clause-dots g c sheets =
     (rw (c.go_to.ensures.rows, c.new-rows.ensures.picture) at c.paint_rows.ensures.painted)
 
 pub work-requires-clause-few : goal.work-requires-clause-few
-work-requires-clause-few g c =
-    let a = c.args in
-    let p = picture_of a.stored.now a.picture in
-    let few : length p.codes ≤ a.picture.codes.len = omega (arith, length-take a.picture.codes.len (drop a.picture.codes.start a.stored.now)) in
-    let is : c.paint_rows.new.rows.cursor.picture ≡ p = c.paint_rows.ensures.picture ∙ ap (λ (v : Cursor). v.picture) c.go_to.ensures.rows ∙ c.new-rows.ensures.picture in
-    let codes = ap (λ (q : Picture). length q.codes) is in
-    omega (arith, codes, few, c.requires.picture.codes.few)
+work-requires-clause-few g c = grind (arith, length-take)
 
 pub returns-clause-work : goal.returns-clause-work
-returns-clause-work g c =
-    let a = c.args in
-    let p = picture_of a.stored.now a.picture in
-    let few : length p.codes ≤ a.picture.codes.len = omega (arith, length-take a.picture.codes.len (drop a.picture.codes.start a.stored.now)) in
-    let is : c.paint_rows.new.rows.cursor.picture ≡ p = c.paint_rows.ensures.picture ∙ ap (λ (v : Cursor). v.picture) c.go_to.ensures.rows ∙ c.new-rows.ensures.picture in
-    let codes = ap (λ (q : Picture). length q.codes) is in
-    omega (arith, c.work.ensures.most, c.paint_rows.ensures.counted, codes, few, c.lines_on-from.ensures.few)
+returns-clause-work g c = grind (arith, length-take)
 
 pub returns-then-from-to-clause-counted : goal.returns-then-from-to-clause-counted
 returns-then-from-to-clause-counted g c sheets = λ x k low e.
     let a = c.args in
     let p = picture_of a.stored.now a.picture in
-    let at = c.lying-at in
-    let on = c.lines_on-from in
-    let across = dot_on at.result.columns (pos x) in
-    let seen = rw c.requires.normal (at.ensures.ink (picture_dot p) (pos x) (pos (a.first + k))) ∙ e in
-    let line = at_true (λ v. at_place (λ u. picture_dot p u v) across) (dot_on at.result.rows (pos (a.first + k))) seen in
+    let across = dot_on c.lying-at.result.columns (pos x) in
+    let seen = rw c.requires.normal (c.lying-at.ensures.ink (picture_dot p) (pos x) (pos (a.first + k))) ∙ e in
+    let line = at_true (λ v. at_place (λ u. picture_dot p u v) across) (dot_on c.lying-at.result.rows (pos (a.first + k))) seen in
     let inside = line_inside (picture_dot p) a.picture.rows (λ m n e. (picture_inside p m n e).1) across line.0 line.1 in
-    absurd (omega (arith, on.ensures.from k line.0 low inside line.2, on.ensures.to k line.0 low inside line.2))
+    absurd (omega (arith, c.lines_on-from.ensures.from k line.0 low inside line.2, c.lines_on-from.ensures.to k line.0 low inside line.2))
 
 pub returns-clause-counted : goal.returns-clause-counted
 returns-clause-counted g c sheets = λ x k low e. omega (arith, c.work.ensures.shown, c.paint_rows.ensures.counted)
 
 pub new-rows-requires-clause-mark : goal.new-rows-requires-clause-mark
-new-rows-requires-clause-mark g c =
-    c.last_before-place.ensures.mark c.args.stored.now (contents.Picture c.args.picture) c.requires.marks
+new-rows-requires-clause-mark g c = c.last_before-place.ensures.mark c.args.stored.now (contents.Picture c.args.picture) c.requires.marks
 
 pub returns-clause-marks : goal.returns-clause-marks
-returns-clause-marks g c =
-    let same : c.paint_rows.new.rows.cursor.picture ≡ picture_of c.args.stored.now c.args.picture =
-    c.paint_rows.ensures.picture ∙ ap (λ (r : Cursor). r.picture) c.go_to.ensures.rows ∙ c.new-rows.ensures.picture in
-    c.keep_behind.ensures c.args.stored.now (contents.Picture c.args.picture) c.go_to.ensures.marks (rw same at c.mark.ensures.is)
+returns-clause-marks g c = grind (arith, common_steps)

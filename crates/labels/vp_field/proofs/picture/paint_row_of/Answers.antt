@@ -11,6 +11,4 @@ returns-in-Some g c =
     (rw c.row_mut.ensures.value at c.paint_line-one.ensures.painted)
 
 pub returns-in_default : goal.returns-in_default
-returns-in_default g c =
-    let a = c.args in
-    row_unseen a.op a.at.columns a.at.rows a.first a.row.now.y a.row.now.bytes.now a.band.now (λ j h e. none-some j (sym c.in_default.is ∙ c.row_of.ensures.only j h e))
+returns-in_default g c = grind (arith, row_unseen, none-some)

@@ -10,11 +10,10 @@ loop-i-init c = λ d. white_half d ∙ rw (le-ltb d 0 (omega arith)) refl
 
 pub loop-i-preserved : goal.loop-i-preserved
 loop-i-preserved c =
-    let i = c.loop-i.i in
     let black = λ (d : ℕ). not (eqb (get_or c.args.halves.now (c.args.from + d) 0) 0) in
     elim c.if-halves-from-ne0.branch [
-      | then-halves-from-ne0 w ↦ λ d. half_more black c.loop-i.half _ i d (omega arith) (c.loop-i.invariant d) w.half-is (ap not (ne_eqb _ 0 w.if-halves-from-ne0.true))
-      | else-halves-from-ne0 w ↦ rw w.half-is (λ d. half_less black c.loop-i.half i d (c.loop-i.invariant d) (ap not (eq-eqb _ 0 w.if-halves-from-ne0.false)))
+      | then-halves-from-ne0 w ↦ λ d. half_more black c.loop-i.half _ c.loop-i.i d (omega arith) (c.loop-i.invariant d) w.half-is (ap not (ne_eqb _ 0 w.if-halves-from-ne0.true))
+      | else-halves-from-ne0 w ↦ rw w.half-is (λ d. half_less black c.loop-i.half c.loop-i.i d (c.loop-i.invariant d) (ap not (eq-eqb _ 0 w.if-halves-from-ne0.false)))
     ]
 
 pub returns : goal.returns

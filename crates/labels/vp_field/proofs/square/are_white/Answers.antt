@@ -22,13 +22,7 @@ loop-i-preserved g c = record {
 }
 
 pub loop-i-2-preserved : goal.loop-i-2-preserved
-loop-i-2-preserved g c = record {
-  within = omega arith;
-  white = λ j l. elim (cases_eq j c.loop-i-2.i) [
-    | inl y ↦ rw y (omega arith)
-    | inr n ↦ c.loop-i-2.invariant.white j (omega arith)
-  ];
-}
+loop-i-2-preserved g c = grind (arith, cases_eq)
 
 pub returns : goal.returns
 returns g c = λ e i x l. ap (λ v. half_dot v x) (c.loop-i-2.invariant.white i (omega arith)) ∙ white_half x

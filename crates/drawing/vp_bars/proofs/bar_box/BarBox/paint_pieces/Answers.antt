@@ -1,4 +1,4 @@
-use Rattle.std.proofs.Common.{◌≡◌, ◌≤◌, ◌<◌, ◌+◌, ◌-◌, ◌*◌, true, false, ap, ◌∙◌, sym, arith, w64}
+use Rattle.std.proofs.Common.{◌≡◌, ◌≤◌, ◌<◌, ◌+◌, ◌-◌, ◌*◌, ap, ◌∙◌, sym, arith, w64}
 use Rattle.std.proofs.lemmas.Int.{to_z-of_z}
 use Rattle.vp_glyph.specs.Cells.{font_height}
 use Rattle.vp_bars.specs.InBox.{boxed}
@@ -16,12 +16,7 @@ returns-then-y-top-clause-painted g c =
     rw (sym (to_z-of_z w64 c.args.at c.ranges.at)) (moved_same _ _ (text_row b c.args.y) (λ x. box_dot b x c.args.y) _ _ (λ u. row_top b c.args.y u inside) c.paint_text.ensures.painted)
 
 pub returns-then-y-bottom-clause-painted : goal.returns-then-y-bottom-clause-painted
-returns-then-y-bottom-clause-painted g c =
-    let s = c.args.self.now in
-    let b : Boxed = boxed s in
-    let under : box_top b ≤ c.args.y = omega (arith, c.top-top.ensures.rows) in
-    let over : c.args.y < box_top b + s.height = omega (arith, c.top-top.ensures.rows, c.from.ensures) in
-    rw (sym (to_z-of_z w64 c.args.at c.ranges.at)) (moved_same _ _ (bars_row b) (λ x. box_dot b x c.args.y) _ _ (λ u. row_bars b c.args.y u under over) c.paint_bars.ensures.painted)
+returns-then-y-bottom-clause-painted g c = grind (arith, to_z-of_z, moved_same, row_bars)
 
 pub returns-then-y-bottom-2-clause-painted : goal.returns-then-y-bottom-2-clause-painted
 returns-then-y-bottom-2-clause-painted g c =
@@ -35,12 +30,7 @@ returns-then-y-bottom-2-clause-painted g c =
     (λ u. ap (λ v. text_row b v u) row ∙ row_below b c.args.y u under over) c.paint_text-then-y-bottom-2.ensures.painted)
 
 pub returns-clause-painted : goal.returns-clause-painted
-returns-clause-painted g c =
-    let s = c.args.self.now in
-    let b : Boxed = boxed s in
-    let below : c.below.result * c.height.result ≡ texts_below s.place * font_height s.font = ap (λ t. t * c.height.result) c.below.ensures.texts ∙ ap (λ t. texts_below s.place * t) c.height.ensures in
-    let past : box_height b ≤ c.args.y = omega (arith, c.top-top.ensures.rows, c.from.ensures, below) in
-    moved_none _ _ (λ x. box_dot b x c.args.y) _ (λ u. row_none b c.args.y u past)
+returns-clause-painted g c = grind (arith, moved_none, row_none)
 
 pub returns-then-y-top-clause-some : goal.returns-then-y-top-clause-some
 returns-then-y-top-clause-some g c =
@@ -71,9 +61,4 @@ returns-then-y-bottom-2-clause-some g c =
     (λ u q. ap (λ v. text_row b v u) row ∙ row_below b c.args.y u under over) ∙ e))
 
 pub returns-clause-some : goal.returns-clause-some
-returns-clause-some g c =
-    let s = c.args.self.now in
-    let b : Boxed = boxed s in
-    let below : c.below.result * c.height.result ≡ texts_below s.place * font_height s.font = ap (λ t. t * c.height.result) c.below.ensures.texts ∙ ap (λ t. texts_below s.place * t) c.height.ensures in
-    let past : box_height b ≤ c.args.y = omega (arith, c.top-top.ensures.rows, c.from.ensures, below) in
-    rw (sym (to_z-of_z w64 c.args.at c.ranges.at)) (λ d l e. let z : false ≡ true = sym (shifted_none _ (λ x. box_dot b x c.args.y) d (λ u. row_none b c.args.y u past)) ∙ e in cc)
+returns-clause-some g c = grind (arith, to_z-of_z, shifted_none, row_none)

@@ -5,10 +5,7 @@ use Rattle.vp_bars.proofs.Bounds.{narrow_bars, width_is, characters_are}
 use Rattle.vp_bars.proofs.bars.Bars.width.Goals as goal
 
 pub draw_bars-requires : goal.draw_bars-requires
-draw_bars-requires c =
-    let b = c.args.self.now in
-    let few = narrow_bars b.symbology c.args.narrow c.args.wide b.values (omega (arith, c.ranges.narrow.fits)) (omega (arith, c.ranges.wide.fits)) c.strokes-strokes.ensures.few in
-    rw (c.strokes-strokes.ensures.symbology, c.strokes-strokes.ensures.narrow, c.strokes-strokes.ensures.wide, c.strokes-strokes.ensures.values) (omega (arith, few))
+draw_bars-requires c = grind (arith, narrow_bars)
 
 pub characters_width-requires : goal.characters_width-requires
 characters_width-requires c =
@@ -20,17 +17,10 @@ characters_width-requires c =
     rw (c.strokes-strokes.ensures.symbology, c.strokes-strokes.ensures.narrow, c.strokes-strokes.ensures.wide, c.strokes-strokes.ensures.values) (omega (arith, few, all))
 
 pub returns-in-Ean13-clause-width : goal.returns-in-Ean13-clause-width
-returns-in-Ean13-clause-width c =
-    let b = c.args.self.now in
-    let ends = rw (c.strokes-strokes.ensures.symbology, c.strokes-strokes.ensures.narrow, c.strokes-strokes.ensures.wide, c.strokes-strokes.ensures.values) at c.draw_bars.ensures.strokes.ends in
-    omega (arith, ends, width_is b.symbology c.args.narrow c.args.wide b.values)
+returns-in-Ean13-clause-width c = grind (arith, width_is)
 
 pub returns-in-Ean13-clause-small : goal.returns-in-Ean13-clause-small
-returns-in-Ean13-clause-small c =
-    let b = c.args.self.now in
-    let few = narrow_bars b.symbology c.args.narrow c.args.wide b.values (omega (arith, c.ranges.narrow.fits)) (omega (arith, c.ranges.wide.fits)) c.strokes-strokes.ensures.few in
-    let ends = rw (c.strokes-strokes.ensures.symbology, c.strokes-strokes.ensures.narrow, c.strokes-strokes.ensures.wide, c.strokes-strokes.ensures.values) at c.draw_bars.ensures.strokes.ends in
-    omega (arith, few, ends)
+returns-in-Ean13-clause-small c = grind (arith, narrow_bars)
 
 pub returns-in-Code39 : goal.returns-in-Code39
 returns-in-Code39 c =

@@ -1,4 +1,5 @@
-use Rattle.std.proofs.Common.{◌<◌, ◌*◌, ap, arith, length}
+use Rattle.std.proofs.lemmas.Grind.{common_steps}
+use Rattle.std.proofs.Common.{◌*◌, ap, arith, length}
 use Rattle.vp_bars.proofs.Regular.{Parts, parts_of}
 use Rattle.vp_bars.proofs.strokes.Strokes.characters_width.Goals as goal
 use Rattle.vp_bars.proofs.strokes.Strokes.characters_width.Goals.{After-split_at}
@@ -6,10 +7,7 @@ use Rattle.vp_bars.proofs.strokes.Strokes.characters_width.Goals.{After-split_at
 -- the first character, the regular ones behind it, and the last ones
 parts : (c : After-split_at) → let s = c.args.self.now in
     Parts s.symbology s.narrow s.wide s.values.now c.in-Some.first.now c.split_at.result.0.now c.split_at.result.1.now
-parts c =
-    let s = c.args.self.now in
-    parts_of s.symbology s.narrow s.wide s.regular c.saturating_sub.result c.in-Some.first.now s.values.now c.in-Some.others.now c.split_at.result.0.now c.split_at.result.1.now
-    s.regular_are c.in-Some.ensures.cases.0 c.saturating_sub.ensures c.split_at.ensures.front c.split_at.ensures.back
+parts c = grind (arith, common_steps, parts_of)
 
 pub character_width-requires : goal.character_width-requires
 character_width-requires c =
@@ -17,16 +15,10 @@ character_width-requires c =
     omega (arith, p.total_is, c.requires)
 
 pub overflow_cast-result : goal.overflow_cast-result
-overflow_cast-result c =
-    let s = c.args.self.now in
-    let few : length c.in-Some.others.now < length s.values.now = omega (arith, ap length c.in-Some.ensures.cases.0) in
-    omega (arith, few, s.few, c.split_at.ensures.front_len)
+overflow_cast-result c = grind arith
 
 pub overflow_mul-result : goal.overflow_mul-result
-overflow_mul-result c =
-    let p = parts (goal.at.overflow_mul-result c).After-split_at in
-    let step = ap (λ k. k * length c.split_at.result.0.now) c.step.ensures.step in
-    omega (arith, p.total_is, step, c.requires)
+overflow_mul-result c = grind (arith, parts)
 
 pub overflow_add-result : goal.overflow_add-result
 overflow_add-result c =

@@ -1,3 +1,4 @@
+use Rattle.std.proofs.lemmas.Grind.{common_steps}
 use Rattle.std.proofs.Common.{◌++◌, ap, ◌∙◌, sym, arith, w64}
 use Rattle.std.proofs.lemmas.Int.{to_z-of_z}
 use Rattle.std.specs.List.{flat_map}
@@ -11,10 +12,7 @@ use Rattle.vp_bars.proofs.strokes.Strokes.draw_characters.Goals.{After-split_at}
 -- the first character, the regular ones behind it, and the last ones
 parts : (c : After-split_at) → let s = c.args.self.now in
     Parts s.symbology s.narrow s.wide s.values.now c.in-Some.first.now c.split_at.result.0.now c.split_at.result.1.now
-parts c =
-    let s = c.args.self.now in
-    parts_of s.symbology s.narrow s.wide s.regular c.saturating_sub.result c.in-Some.first.now s.values.now c.in-Some.others.now c.split_at.result.0.now c.split_at.result.1.now
-    s.regular_are c.in-Some.ensures.cases.0 c.saturating_sub.ensures c.split_at.ensures.front c.split_at.ensures.back
+parts c = grind (arith, common_steps, parts_of)
 
 pub draw-one-requires : goal.draw-one-requires
 draw-one-requires c =
@@ -50,6 +48,4 @@ returns-clause-strokes c =
     (draws_then _ _ _ _ _ _ _ _ _ _ c.draw-one.ensures.strokes (draws_then _ _ _ _ _ _ _ _ _ _ c.draw_regular-more.ensures.strokes c.draw_next-rest.ensures.strokes)))
 
 pub returns-clause-pieces : goal.returns-clause-pieces
-returns-clause-pieces c =
-    rw (sym (to_z-of_z w64 c.args.at c.ranges.at)) (
-    handed_then _ _ _ (c.draw_regular-more.auto.row ∙ c.draw-one.auto.row) _ _ _ _ _ (handed_then _ _ _ c.draw-one.auto.row _ _ _ _ _ c.draw-one.ensures.pieces c.draw_regular-more.ensures.pieces) c.draw_next-rest.ensures.pieces)
+returns-clause-pieces c = grind (arith, to_z-of_z, handed_then)

@@ -14,9 +14,7 @@ use Rattle.vp_bars.proofs.strokes.Strokes.draw_digits.Goals.{After-parity}
 whole : (c : After-parity) → let s = c.args.self.now in
     all_widths s.symbology s.narrow s.wide (sized s.symbology s.narrow s.wide (left_elements c.parity.result.now c.split_at.result.0.now)) (flat_map (next_widths s.symbology s.narrow s.wide) c.split_at.result.1.now)
     ≡ sized s.symbology s.narrow s.wide (ean13_elements s.values.now)
-whole c =
-    let s = c.args.self.now in
-    halves s.symbology s.narrow s.wide _ _ _ _ _ _ _ c.requires.digits c.in-Some.ensures.cases.0 c.min.ensures c.split_at.ensures.front c.split_at.ensures.back c.parity.ensures
+whole c = grind (arith, halves)
 
 -- how wide they are together
 sum : (c : After-parity) → let s = c.args.self.now in
@@ -49,11 +47,4 @@ returns-clause-strokes c =
     draws_then _ _ _ _ _ _ _ _ _ _ c.draw_next-rights.ensures.strokes c.draw-three.ensures.strokes)))))
 
 pub returns-clause-pieces : goal.returns-clause-pieces
-returns-clause-pieces c =
-    let one = c.draw-one.auto.row in
-    let left = c.draw_left-lefts.auto.row ∙ one in
-    let two = c.draw-two.auto.row ∙ left in
-    let right = c.draw_next-rights.auto.row ∙ two in
-    rw (sym (to_z-of_z w64 c.args.at c.ranges.at)) (
-    handed_then _ _ _ right _ _ _ _ _ (handed_then _ _ _ two _ _ _ _ _ (handed_then _ _ _ left _ _ _ _ _ (handed_then _ _ _ one _ _ _ _ _
-    c.draw-one.ensures.pieces c.draw_left-lefts.ensures.pieces) c.draw-two.ensures.pieces) c.draw_next-rights.ensures.pieces) c.draw-three.ensures.pieces)
+returns-clause-pieces c = grind (arith, to_z-of_z, handed_then)

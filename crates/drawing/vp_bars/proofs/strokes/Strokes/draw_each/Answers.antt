@@ -1,4 +1,4 @@
-use Rattle.std.proofs.Common.{sym, arith, w64}
+use Rattle.std.proofs.Common.{arith}
 use Rattle.std.proofs.lemmas.Int.{to_z-of_z}
 use Rattle.std.proofs.lemmas.List.{take_all}
 use Rattle.vp_bars.specs.Symbologies.{size_of}
@@ -6,9 +6,7 @@ use Rattle.vp_bars.proofs.Draws.{draws_same, draws_then, map_more, map_room}
 use Rattle.vp_bars.proofs.strokes.Strokes.draw_each.Goals as goal
 
 pub draw-pen-requires : goal.draw-pen-requires
-draw-pen-requires c =
-    let room = map_room (size_of c.args.self.now.symbology c.args.self.now.narrow c.args.self.now.wide) c.args.elements.now c.loop-e.e-index c.loop-e-test.true in
-    omega (arith, room, c.size.ensures, c.loop-e.invariant.ends)
+draw-pen-requires c = grind (arith, map_room)
 
 pub loop-e-preserved : goal.loop-e-preserved
 loop-e-preserved c =
@@ -17,6 +15,4 @@ loop-e-preserved c =
     (draws_then _ _ _ _ _ _ _ _ _ _ c.loop-e.invariant c.draw-pen.ensures)
 
 pub returns : goal.returns
-returns c =
-    let all = take_all c.loop-e.e-index c.args.elements.now c.loop-e-test.false in
-    rw (sym (to_z-of_z w64 c.args.at c.ranges.at)) (rw all at c.loop-e.invariant)
+returns c = grind (arith, take_all, to_z-of_z)

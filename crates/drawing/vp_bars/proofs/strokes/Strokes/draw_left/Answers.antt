@@ -9,10 +9,7 @@ use Rattle.vp_bars.proofs.Pieces.{handed_none, handed_then}
 use Rattle.vp_bars.proofs.strokes.Strokes.draw_left.Goals as goal
 
 pub draw-digit-requires : goal.draw-digit-requires
-draw-digit-requires c =
-    let s = c.args.self.now in
-    let room = left_room s.symbology s.narrow s.wide c.args.sets.now c.args.digits.now c.loop-i.i (omega arith) (omega arith) in
-    rw c.left_digit.ensures (omega (arith, room, c.loop-i.invariant.0.ends))
+draw-digit-requires c = grind (arith, left_room)
 
 pub loop-i-init : goal.loop-i-init
 loop-i-init c = (draws_none _ _ _ _, handed_none _ _ _, omega arith)
@@ -31,9 +28,7 @@ loop-i-preserved c =
     )
 
 pub returns-clause-strokes : goal.returns-clause-strokes
-returns-clause-strokes c =
-    let all = left_all c.args.sets.now c.args.digits.now c.loop-i.i (omega (arith, c.min-i-end.ensures)) in
-    rw (sym (to_z-of_z w64 c.args.at c.ranges.at)) (rw all at c.loop-i.invariant.0)
+returns-clause-strokes c = grind (arith, left_all, to_z-of_z)
 
 pub returns-clause-pieces : goal.returns-clause-pieces
 returns-clause-pieces c = rw (sym (to_z-of_z w64 c.args.at c.ranges.at)) c.loop-i.invariant.1

@@ -1,39 +1,20 @@
 use Rattle.std.proofs.Common.{◌≡◌, ℕ, ◌++◌, List, ap, ◌∙◌, sym, get_or, arith, w64}
 use Rattle.std.proofs.lemmas.Int.{to_z-of_z}
 use Rattle.std.proofs.lemmas.List.{take_all}
-use Rattle.vp_bars.specs.Symbologies.{gap_of, pattern_of}
+use Rattle.vp_bars.specs.Symbologies.{gap_of}
 use Rattle.vp_bars.specs.Widths.{sized, next_widths}
 use Rattle.vp_bars.proofs.Draws.{total-append, draws_none, draws_same, draws_then, flat_more, flat_room}
 use Rattle.vp_bars.proofs.Pieces.{handed_none, handed_then, handed_with}
 use Rattle.vp_bars.proofs.strokes.Strokes.draw_next.Goals as goal
 
 pub draw-gap-requires : goal.draw-gap-requires
-draw-gap-requires c =
-    let s = c.args.self.now in
-    let v = get_or c.args.values.now c.loop-v.v-index 0 in
-    let room = flat_room (next_widths s.symbology s.narrow s.wide) c.args.values.now c.loop-v.v-index c.loop-v-test.true in
-    let both = total-append (sized s.symbology s.narrow s.wide (gap_of s.symbology)) (sized s.symbology s.narrow s.wide (pattern_of s.symbology v)) in
-    rw c.gap_of.ensures (omega (arith, room, both, c.loop-v.invariant.0.ends))
+draw-gap-requires c = grind (arith, flat_room, total-append)
 
 pub character_width-width-requires : goal.character_width-width-requires
-character_width-width-requires c =
-    let s = c.args.self.now in
-    let v = get_or c.args.values.now c.loop-v.v-index 0 in
-    let room = flat_room (next_widths s.symbology s.narrow s.wide) c.args.values.now c.loop-v.v-index c.loop-v-test.true in
-    let both = total-append (sized s.symbology s.narrow s.wide (gap_of s.symbology)) (sized s.symbology s.narrow s.wide (pattern_of s.symbology v)) in
-    omega (arith, room, both, c.loop-v.invariant.0.ends)
+character_width-width-requires c = grind (arith, flat_room, total-append)
 
 pub draw_some-character-requires : goal.draw_some-character-requires
-draw_some-character-requires c =
-    let s = c.args.self.now in
-    let v = get_or c.args.values.now c.loop-v.v-index 0 in
-    let room = flat_room (next_widths s.symbology s.narrow s.wide) c.args.values.now c.loop-v.v-index c.loop-v-test.true in
-    let both = total-append (sized s.symbology s.narrow s.wide (gap_of s.symbology)) (sized s.symbology s.narrow s.wide (pattern_of s.symbology v)) in
-    let gap = rw c.gap_of.ensures at c.draw-gap.ensures.strokes.ends in
-    record {
-      width = rw c.pattern_of-elements.ensures c.character_width-width.ensures;
-      room = omega (arith, room, both, gap, c.loop-v.invariant.0.ends, c.character_width-width.ensures);
-    }
+draw_some-character-requires c = grind (arith, flat_room, total-append)
 
 pub loop-v-init : goal.loop-v-init
 loop-v-init c = (draws_none _ _ _ _, handed_none _ _ _, omega arith)
@@ -52,9 +33,7 @@ loop-v-preserved c =
     )
 
 pub returns-clause-strokes : goal.returns-clause-strokes
-returns-clause-strokes c =
-    let all = take_all c.loop-v.v-index c.args.values.now c.loop-v-test.false in
-    rw (sym (to_z-of_z w64 c.args.at c.ranges.at)) (rw all at c.loop-v.invariant.0)
+returns-clause-strokes c = grind (arith, take_all, to_z-of_z)
 
 pub returns-clause-pieces : goal.returns-clause-pieces
 returns-clause-pieces c = rw (sym (to_z-of_z w64 c.args.at c.ranges.at)) c.loop-v.invariant.1

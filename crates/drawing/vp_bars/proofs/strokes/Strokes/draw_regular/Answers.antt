@@ -1,4 +1,4 @@
-use Rattle.std.proofs.Common.{◌≡◌, ◌+◌, ◌-◌, ◌*◌, ◌^◌, ◌<◌, ◌≤◌, ap, sym, refl, arith, length, take, drop, w64}
+use Rattle.std.proofs.Common.{◌≡◌, ◌+◌, ◌-◌, ◌*◌, ◌^◌, ◌<◌, ◌≤◌, sym, refl, arith, length, take, drop, w64}
 use Rattle.std.proofs.Math.Nat.{mul-le-mul_left}
 use Rattle.std.proofs.lemmas.Int.{to_z-of_z}
 use Rattle.std.specs.List.{flat_map}
@@ -10,11 +10,7 @@ use Rattle.vp_bars.proofs.strokes.Strokes.draw_regular.Goals.{After-step-step, A
 
 -- all values have room
 room : (c : After-step-step) → c.args.pen.x + c.step-step.result * length c.args.values.now < 2 ^ 32
-room c =
-    let s = c.args.self.now in
-    let all = regular_total s.symbology s.narrow s.wide c.args.values.now c.requires.regular in
-    let step = ap (λ k. k * length c.args.values.now) c.step-step.ensures.step in
-    omega (arith, all, step, c.requires.room)
+room c = grind (arith, regular_total)
 
 pub seen-from-requires-clause-fits : goal.seen-from-requires-clause-fits
 seen-from-requires-clause-fits c = omega (arith, room (goal.at.seen-from-requires-clause-fits c).After-step-step)
@@ -36,10 +32,7 @@ overflow_add-first c =
 seen_together : (c : After-max-to) → c.step-step.result * c.seen-from.result.0
     + total (flat_map (next_widths c.args.self.now.symbology c.args.self.now.narrow c.args.self.now.wide) (take (c.max-to.result - c.seen-from.result.0) (drop c.seen-from.result.0 c.args.values.now)))
     ≡ c.step-step.result * c.max-to.result
-seen_together c =
-    let s = c.args.self.now in
-    regular_between s.symbology s.narrow s.wide c.step-step.result c.seen-from.result.0 c.max-to.result c.args.values.now c.step-step.ensures.step c.requires.regular
-    (omega (arith, c.max-to.ensures)) (omega (arith, c.max-to.ensures, c.seen-from.ensures.first, c.seen-from.ensures.last))
+seen_together c = grind (arith, regular_between)
 
 pub draw_next-pieces-requires : goal.draw_next-pieces-requires
 draw_next-pieces-requires c =

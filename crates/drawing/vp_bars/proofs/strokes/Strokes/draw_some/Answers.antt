@@ -1,4 +1,4 @@
-use Rattle.std.proofs.Common.{◌≤◌, arith, sym, ◌∙◌, refl, rules, w64, to_z, of_z}
+use Rattle.std.proofs.Common.{arith, sym, ◌∙◌, rules, w64, to_z, of_z}
 use mir.Val.{SFits}
 use Rattle.std.proofs.lemmas.Int.{to_z-of_z}
 use Rattle.vp_bars.proofs.Paints.{moved_same}
@@ -13,13 +13,10 @@ returns-then-not-is_shown-clause-strokes c =
     (not_reached _ _ _ _ (sym c.is_shown.ensures ∙ c.if-not-is_shown.true)))
 
 pub returns-then-not-is_shown-clause-pieces : goal.returns-then-not-is_shown-clause-pieces
-returns-then-not-is_shown-clause-pieces c =
-    let on : c.args.pen.x ≤ c.behind-next.result.x = omega (arith, c.behind-next.ensures.x) in
-    rw (sym (to_z-of_z w64 c.args.at c.ranges.at)) (handed_not _ _ _ _ on (sym c.is_shown.ensures ∙ c.if-not-is_shown.true))
+returns-then-not-is_shown-clause-pieces c = grind (arith, to_z-of_z, handed_not)
 
 pub returns-then-width-ge64-clause-pieces : goal.returns-then-width-ge64-clause-pieces
-returns-then-width-ge64-clause-pieces c =
-    rw (sym (to_z-of_z w64 c.args.at c.ranges.at)) (handed_shown _ _ _ _ _ (c.draw_each-then-width-ge64.ensures.ends ∙ sym c.behind-next.ensures.x) (sym c.is_shown.ensures ∙ c.if-not-is_shown.false))
+returns-then-width-ge64-clause-pieces c = grind (arith, to_z-of_z, handed_shown)
 
 pub returns-clause-strokes : goal.returns-clause-strokes
 returns-clause-strokes c =
@@ -29,5 +26,4 @@ returns-clause-strokes c =
     (moved_same _ _ _ _ _ _ c.word.ensures c.paint_word.ensures)
 
 pub returns-clause-pieces : goal.returns-clause-pieces
-returns-clause-pieces c =
-    rw (sym (to_z-of_z w64 c.args.at c.ranges.at)) (handed_shown _ _ _ _ _ refl (sym c.is_shown.ensures ∙ c.if-not-is_shown.false))
+returns-clause-pieces c = grind (arith, to_z-of_z, handed_shown)

@@ -9,16 +9,10 @@ pub loop-e-init : goal.loop-e-init
 loop-e-init c = marked_none c.args.bar
 
 pub marked-word-requires : goal.marked-word-requires
-marked-word-requires c =
-    let s = c.args.self.now in
-    let room = map_room (size_of s.symbology s.narrow s.wide) c.args.elements.now c.loop-e.e-index c.loop-e-test.true in
-    omega (arith, room, c.size-width.ensures, c.loop-e.invariant.x_is, c.requires)
+marked-word-requires c = grind (arith, map_room)
 
 pub moved-pen-requires : goal.moved-pen-requires
-moved-pen-requires c =
-    let s = c.args.self.now in
-    let room = map_room (size_of s.symbology s.narrow s.wide) c.args.elements.now c.loop-e.e-index c.loop-e-test.true in
-    omega (arith, room, c.size-width.ensures, c.loop-e.invariant.x_is, c.requires)
+moved-pen-requires c = grind (arith, map_room)
 
 pub loop-e-preserved : goal.loop-e-preserved
 loop-e-preserved c =
@@ -28,6 +22,4 @@ loop-e-preserved c =
     (marked_more c.args.bar _ c.loop-e.word c.loop-e.pen.x c.loop-e.pen.bar c.size-width.result c.marked-word.result c.loop-e.invariant c.marked-word.ensures)
 
 pub returns : goal.returns
-returns c = λ x.
-    let all = take_all c.loop-e.e-index c.args.elements.now c.loop-e-test.false in
-    rw all at (c.loop-e.invariant.dots_are x)
+returns c = grind (arith, take_all)

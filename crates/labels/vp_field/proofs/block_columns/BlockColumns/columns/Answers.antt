@@ -23,12 +23,10 @@ loop-i-preserved g c =
 pub returns-in-Some : goal.returns-in-Some
 returns-in-Some g c = λ i k l m h.
     let s = c.args.self.now in
-    let b = s.block.now in
-    let ink = λ (u v : ℕ). block_dot (layout_of b) b.text.now u v in
-    let line = λ (v : ℕ). at_place (λ u. ink u v) (dot_on s.rows (pos (s.first + k))) in
+    let ink = λ (u v : ℕ). block_dot (layout_of s.block.now) s.block.now.text.now u v in
     let place = c.in-Some.place + read_at s.columns 64 i in
     let found = c.in-Some.ensures in
     let below = s.to (c.args.x + i) (s.top + place) m (found.1 i l).0 (found.1 i l).1 in
     ap (λ w. half_dot w (read_at s.rows 32 k)) (c.halves_along.ensures i l)
     ∙ sym (s.falls (λ u. ink u (s.top + place)) (half_dot (get_or s.fronts.now place 0)) (λ d o. s.drawn place d (omega (arith, below)) (omega arith) (found.1 i l).0) k h)
-    ∙ sym (ap (at_place line) (found.1 i l).1)
+    ∙ sym (ap (at_place (λ (v : ℕ). at_place (λ u. ink u v) (dot_on s.rows (pos (s.first + k))))) (found.1 i l).1)

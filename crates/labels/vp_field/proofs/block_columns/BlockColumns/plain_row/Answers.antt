@@ -20,10 +20,9 @@ loop-j-init g c = record {
 pub loop-j-preserved : goal.loop-j-preserved
 loop-j-preserved g c =
     let s = c.args.self.now in
-    let b = s.block.now in
     let old = c.loop-j.invariant in
     let at = 64 * c.loop-j.j in
-    let shown = λ (x k : ℕ). laid Across s.columns s.rows (λ u v. block_dot (layout_of b) b.text.now u v) (pos x) (pos (s.first + k)) in
+    let shown = λ (x k : ℕ). laid Across s.columns s.rows (λ u v. block_dot (layout_of s.block.now) s.block.now.text.now u v) (pos x) (pos (s.first + k)) in
     record {
       count = c.add_word.ensures.length_is ∙ old.count;
       drawn = λ i k l w h. elim (cases_lt i at) [

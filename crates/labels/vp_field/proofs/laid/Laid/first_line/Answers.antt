@@ -1,4 +1,5 @@
 use Rattle.std.proofs.Common.{inl, inr, ◌≡◌, ◌+◌, ◌-◌, rules, arith, ap, ◌∙◌, w64, pos}
+use Rattle.vp_label_size.specs.declared.TheConstants.{BAND_ROWS}
 use Rattle.vp_field.specs.Axes.{dot_on}
 use mir.Val.{SFits}
 use Rattle.std.proofs.lemmas.Int.{ints, to_z-of_z}
@@ -9,8 +10,7 @@ pub returns-in-Along-clause-along : goal.returns-in-Along-clause-along
 returns-in-Along-clause-along c o k v l m e =
     let line = c.first_line in
     let fits : SFits w64 line.result = search (rules, line.ensures.low, line.ensures.high) in
-    let low = c.clamped.ensures.above v (rw (to_z-of_z w64 line.result fits) (line.ensures.from k v l e)) in
-    omega (arith, low)
+    omega (arith, c.clamped.ensures.above v (rw (to_z-of_z w64 line.result fits) (line.ensures.from k v l e)))
 
 pub returns-in-Across-clause-across : goal.returns-in-Across-clause-across
 returns-in-Across-clause-across c o x v l m e =
@@ -35,7 +35,7 @@ returns-in-Along-clause-near c o k v l m e =
     let line = c.first_line in
     let fits : SFits w64 line.result = search (rules, line.ensures.low, line.ensures.high) in
     let before = line.ensures.to k v l e in
-    elim (cases_lt v 32) [
+    elim (cases_lt v BAND_ROWS) [
       | inl k ↦ omega arith
-      | inr k ↦ (let n = c.clamped.ensures.below (v - 32) (omega arith) (rw (to_z-of_z w64 line.result fits) (omega (arith, ints, before))) in omega arith)
+      | inr k ↦ (let n = c.clamped.ensures.below (v - BAND_ROWS) (omega arith) (rw (to_z-of_z w64 line.result fits) (omega (arith, ints, before))) in omega arith)
     ]
