@@ -1,7 +1,7 @@
 -- Rows of a raster, laid on the page as many at once as go.
-use Rattle.std.proofs.Common.{◌≡◌, ℕ, ◌+◌, ◌-◌, ◌/◌, ◌%◌, ◌*◌, ◌<◌, ◌≤◌, Bool, ltb, ◌&&◌, ◌++◌, take, drop, min, replicate, List, length, arith, [], get_or, set, get_or-set_same, get_or-set_other}
+use Rattle.std.proofs.Common.{◌≡◌, ℕ, ◌+◌, ◌-◌, ◌/◌, ◌%◌, ◌*◌, ◌<◌, ◌≤◌, Bool, ltb, ◌&&◌, ◌++◌, take, min, replicate, List, length, arith, [], get_or, set, get_or-set_same, get_or-set_other}
 use Rattle.std.proofs.lemmas.Bool.{lt-ltb, le-ltb}
-use Rattle.std.proofs.lemmas.List.{length-take-le, get_or-replicate, get_or_past, get_or-take, get_or-drop, get_or_append_left, get_or-append_right}
+use Rattle.std.proofs.lemmas.List.{length-take, length-append, length-replicate, get_or-replicate, get_or_past, get_or-take, get_or_append_left, get_or-append_right}
 use Rattle.vp_dots.specs.Dots.{dot}
 use Rattle.vp_esc.specs.declared.item.RasterScale.{RasterScale}
 use Rattle.vp_esc.specs.declared.item.RasterScale.TheVariants.{Normal}
@@ -12,9 +12,10 @@ use Rattle.vp_dots.specs.declared.square.TheConstants.{SIDE}
 use Rattle.vp_page.specs.declared.line.TheConstants.{LINE_BYTES, LINE_DOTS}
 
 -- a row, and white bytes behind it
-pub lengthened : (row : List ℕ) (m n u : ℕ) → m ≡ LINE_BYTES → n ≡ min (length row) m → u < LINE_DOTS → dot (take n row ++ drop n (replicate m 0)) u ≡ dot row u
+pub lengthened : (row front behind white rest : List ℕ) (n m u : ℕ) → n ≡ min (length row) LINE_BYTES → front ≡ take n row → white ≡ replicate m 0 → m ≡ LINE_BYTES - n → u < LINE_DOTS
+    → dot (take n (front ++ behind) ++ (white ++ rest)) u ≡ dot row u
 unfolding dot
-lengthened row m n u wide e h = grind (arith, length-take-le, get_or_append_left, get_or-take, get_or-append_right, get_or-drop, get_or-replicate, get_or_past)
+lengthened row front behind white rest n m u e f w l h = grind (arith, length-take, length-append, length-replicate, get_or_append_left, get_or-take, get_or-append_right, get_or-replicate, get_or_past)
 
 -- a row that is drawn once each way, or none
 pub once_dots : (scale : RasterScale) (wide n : ℕ) (bytes : List ℕ) (y u : ℕ) → scale ≡ Normal → (ltb y n && dot (row_at bytes wide y) u) ≡ rows_dot scale wide n bytes u y

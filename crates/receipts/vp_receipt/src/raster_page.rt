@@ -78,8 +78,8 @@ fn write_row(row: &[u8], line: &mut [u8; LINE_BYTES])
     ensures { (u : ℕ) → u < LINE_DOTS → dot line.new u ≡ dot row.now u }
 {
     let n = row.len().min(LINE_BYTES);
-    *line = [0; LINE_BYTES];
     line[..n].copy_from_slice(&row[..n]);
+    line[n..].fill(0);
 }
 
 /// Writes a row on a line as a scale draws it across.
