@@ -134,9 +134,30 @@ fn work_on<'a, I: Read, O: Write>(
             Ok(mut session) => pump(&mut session, input, output),
             Err(_) => Err(Stop::Memory),
         },
-        Work::List => pump(&mut Session::listing(language), input, output),
-        Work::ListWithOffsets => pump(&mut Session::listing_with_offsets(language), input, output),
+        Work::List => list(language, input, output),
+        Work::ListWithOffsets => list_with_offsets(language, input, output),
     }
+}
+
+/// Lists what is read.
+// Apart, as the next one, since a session's room would be cleared where none is needed.
+#[inline(never)]
+fn list<'a, I: Read, O: Write>(
+    language: Language,
+    input: &mut I,
+    output: &mut O,
+) -> Result<(), Stop<'a>> {
+    pump(&mut Session::listing(language), input, output)
+}
+
+/// Lists what is read, each item with its place.
+#[inline(never)]
+fn list_with_offsets<'a, I: Read, O: Write>(
+    language: Language,
+    input: &mut I,
+    output: &mut O,
+) -> Result<(), Stop<'a>> {
+    pump(&mut Session::listing_with_offsets(language), input, output)
 }
 
 /// Does what a session does, between the input and the output.
