@@ -1,5 +1,5 @@
 -- The table of blocks, checked row by row.
-use Rattle.std.proofs.Common.{◌≡◌, ℕ, ◌+◌, ◌<◌, ◌≤◌, ◌&&◌, ◌||◌, Bool, true, eqb, ltb, refl, arith}
+use Rattle.std.proofs.Common.{◌≡◌, ℕ, ◌+◌, ◌≤◌, ◌&&◌, ◌||◌, Bool, true, eqb, ltb, refl, arith}
 use Rattle.std.proofs.lemmas.Bool.{and_parts, eqb-true, ltb-true}
 use Rattle.vp_qr.specs.declared.level.Level.{Level}
 use Rattle.vp_qr.specs.declared.level.Level.TheVariants.{L, M, Q, H}
@@ -28,38 +28,11 @@ every_version M = refl
 every_version Q = refl
 every_version H = refl
 
-long_short : (n w : ℕ) → (eqb n 0 || ltb w 116) ≡ true → 0 < n → w < 116
-long_short n w h some = grind arith
-
 pub codewords_add : (level : Level) (v : ℕ) → 1 ≤ v → v ≤ 10 → codewords_of (blocks_of level v) ≡ total v
 codewords_add level v low high = eqb-true _ _ (and_parts _ _ (and_parts _ _ (for_version (holds level) (every_version level) v low high)).0).0
 
 pub sound : (level : Level) (v : ℕ) → 1 ≤ v → v ≤ 10 → IsSound (blocks_of level v)
-sound level v low high =
-    let b : Blocks = blocks_of level v in
-    let h = and_parts _ _ (for_version (holds level) (every_version level) v low high) in
-    let sums = and_parts _ _ h.0 in
-    let h9 = and_parts _ _ sums.1 in
-    let h8 = and_parts _ _ h9.0 in
-    let h7 = and_parts _ _ h8.0 in
-    let h6 = and_parts _ _ h7.0 in
-    let h5 = and_parts _ _ h6.0 in
-    let h4 = and_parts _ _ h5.0 in
-    let h3 = and_parts _ _ h4.0 in
-    let h2 = and_parts _ _ h3.0 in
-    let check : b.check < 31 = ltb-true _ _ h2.1 in
-    let words : b.words < 117 = ltb-true _ _ h4.1 in
-    let blocks : b.short + b.long < 9 = ltb-true _ _ h7.1 in
-    let data_words : words_of b < 275 = ltb-true _ _ h8.1 in
-    let all : codewords_of b < 347 = ltb-true _ _ h9.1 in
-    record {
-      check_some = ltb-true _ _ h2.0;
-      check_most = omega arith;
-      words_some = ltb-true _ _ h3.1;
-      words_most = omega arith;
-      long_most = long_short b.long b.words h.1;
-      blocks_some = ltb-true _ _ h6.1;
-      blocks_most = omega arith;
-      data_most = omega arith;
-      all_most = omega arith;
-    }
+sound level v low high = of_tests (blocks_of level v) (for_version (holds level) (every_version level) v low high)
+  where
+    of_tests : (b : Blocks) → (codewords_add_up v b && sizes_hold b && long_holds b) ≡ true → IsSound b
+    of_tests b h = grind (arith, ltb-true)

@@ -1,8 +1,8 @@
 -- The least penalty, and symbols that differ only where no data stands.
 use Rattle.std.proofs.Common.{◌≡◌, ℕ, zero, suc, ◌-◌, ◌<◌, ◌≤◌, ◌&&◌, Bool, true, false, eqb, leb, cond, List, [], ◌∷◌, length, get_or, map, refl, sym, ap, ◌∙◌, inl, inr, arith}
 use Rattle.std.specs.List.{list_all, position_or_len}
-use Rattle.std.proofs.lemmas.Bool.{eqb-true, lt-leb, le-leb, cases_lt}
-use Rattle.std.proofs.lemmas.List.{ext_get_or, length-map, get_or-map}
+use Rattle.std.proofs.lemmas.Bool.{lt-leb, le-leb, cases_lt}
+use Rattle.std.proofs.lemmas.List.{ext_get_or}
 use Rattle.std.proofs.lemmas.List.Sums.{position_or_len_is, fails_before_first}
 use Rattle.vp_qr.specs.Places.{size, corner, alignment, version_area, reserved}
 use Rattle.vp_qr.specs.Walk.{dark}
@@ -12,7 +12,6 @@ use Rattle.vp_qr.specs.declared.symbol.Grid.{Grid}
 use Rattle.vp_qr.specs.Grids.{IsGridOf}
 use Rattle.vp_qr.specs.Codes.{format_code, version_code}
 use Rattle.vp_qr.specs.Encoding.{least_place, masks, masked, best_mask}
-use Rattle.vp_qr.proofs.FieldLaws.{passes_below, passes_at}
 
 all_least : (x : ℕ) (xs : List ℕ) → ((m : ℕ) → m < length xs → x ≤ get_or xs m 0) → list_all (leb x) xs ≡ true
 all_least x [] h = refl
@@ -22,40 +21,21 @@ all_least x (y ∷ ys) h =
 not_least : (x : ℕ) (xs : List ℕ) (b : ℕ) → b < length xs → get_or xs b 0 < x → list_all (leb x) xs ≡ false
 not_least x [] b lt h = absurd (omega arith)
 not_least x (y ∷ ys) zero lt h = ap (λ t. t && list_all (leb x) ys) (lt-leb x y h)
-not_least x (y ∷ ys) (suc b) lt h = ap (λ t. leb x y && t) (not_least x ys b (omega arith) h) ∙ nothing (leb x y)
-  where
-    nothing : (t : Bool) → (t && false) ≡ false
-    nothing true = refl
-    nothing false = refl
+not_least x (y ∷ ys) (suc b) lt h = grind (arith, not_least x ys b)
 
 pub least_place_is : (xs : List ℕ) (b : ℕ) → b < length xs → ((m : ℕ) → m < length xs → get_or xs b 0 ≤ get_or xs m 0) → ((m : ℕ) → m < b → get_or xs b 0 < get_or xs m 0) → b ≡ least_place xs
 unfolding least_place
 least_place_is xs b lt least lowest = grind (arith, all_least, not_least, position_or_len_is)
 
-masks_are : passes_below 8 (λ k. eqb (get_or masks k 0) k) ≡ true
-masks_are = refl
-
 -- the penalties of the eight masks
 pub penalties_are : (penalties : List ℕ) (f : ℕ → ℕ) → length penalties ≡ 8 → ((k : ℕ) → k < 8 → get_or penalties k 0 ≡ f k) → penalties ≡ map f masks
-penalties_are penalties f e h =
-    ext_get_or 0 penalties (map f masks) (e ∙ sym (length-map masks f))
-    (λ k lt.
-    let below : k < 8 = omega (arith, e) in
-    h k below ∙ ap f (sym (eqb-true (get_or masks k 0) k (passes_at 8 (λ k. eqb (get_or masks k 0) k) masks_are k below)))
-    ∙ sym (get_or-map f masks k 0 0 below))
+penalties_are penalties f e h = grind (arith, ext_get_or 0 penalties (map f masks))
 
 -- what is tested last counts only where no test before it holds
 last_only : (a b c d e f g : Bool) (p q r s t u v x y : Bool)
     → (b ≡ false → c ≡ false → d ≡ false → e ≡ false → g ≡ false → x ≡ y)
     → cond a p (cond b q (cond c r (cond d s (cond e t (cond f u (cond g v x)))))) ≡ cond a p (cond b q (cond c r (cond d s (cond e t (cond f u (cond g v y))))))
-last_only true b c d e f g p q r s t u v x y h = refl
-last_only false true c d e f g p q r s t u v x y h = refl
-last_only false false true d e f g p q r s t u v x y h = refl
-last_only false false false true e f g p q r s t u v x y h = refl
-last_only false false false false true f g p q r s t u v x y h = refl
-last_only false false false false false true g p q r s t u v x y h = refl
-last_only false false false false false false true p q r s t u v x y h = refl
-last_only false false false false false false false p q r s t u v x y h = h refl refl refl refl refl
+last_only a b c d e f g p q r s t u v x y h = grind arith
 
 no_reserve : (v i j : ℕ) → eqb i 6 ≡ false → eqb j 6 ≡ false → alignment v i j ≡ false → version_area v i j ≡ false → corner (size v) i j ≡ false → reserved v i j ≡ false
 unfolding reserved

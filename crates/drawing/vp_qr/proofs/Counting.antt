@@ -1,10 +1,10 @@
 -- Sums over the modules of a row, and the ones among a number's bits.
-use Rattle.std.proofs.Common.{◌≡◌, ℕ, zero, suc, ◌+◌, ◌-◌, ◌*◌, ◌/◌, ◌%◌, ◌^◌, ◌<◌, ◌≤◌, Bool, ◌&&◌, eqb, cond, List, get_or, refl, sym, ap, ◌∙◌, subst, arith, ◌∷◌, bit_and, pow-suc, add_assoc}
+use Rattle.std.proofs.Common.{◌≡◌, ℕ, zero, suc, ◌+◌, ◌-◌, ◌*◌, ◌/◌, ◌%◌, ◌^◌, ◌<◌, ◌≤◌, Bool, eqb, cond, List, get_or, refl, sym, ap, ◌∙◌, arith, ◌∷◌, bit_and, pow-suc, add_assoc}
 use lib.Count.{ones}
 use Rattle.std.specs.Int.{bit_at}
 use Rattle.std.proofs.lemmas.Nat.{div_below, ones_cat, one_shl, and_mask, div-add-mod', mod_below, pow_pos}
 use Rattle.std.proofs.lemmas.Nat.Bits.{bit_at-lt, bit_at_cat_low}
-use Rattle.vp_qr.specs.Penalty.{is_set, sum_below, line_from, line_penalty, lines_penalty, same, square_at, squares_penalty, dark_modules, balance_penalty, penalty}
+use Rattle.vp_qr.specs.Penalty.{is_set, sum_below, line_from, lines_penalty, squares_penalty, dark_modules, penalty}
 use Rattle.vp_qr.specs.Walk.{dark}
 
 pub sum_more : (n : ℕ) (f : ℕ → ℕ) → sum_below (n + 1) f ≡ sum_below n f + f n
@@ -53,27 +53,13 @@ unfolding ones
 ones_none = refl
 
 ones_sum : (k n : ℕ) → n < 2 ^ k → ones n ≡ sum_below k (bit_at n)
-ones_sum zero n h =
-    let e : 0 ≡ n = omega arith in
-    subst (λ m. ones m ≡ 0) e ones_none
+ones_sum zero n h = grind (arith, ones_none)
 ones_sum (suc k) n h =
-    let q : ℕ = n / 2 ^ k in
-    let r : ℕ = n % 2 ^ k in
-    let whole : q * 2 ^ k + r ≡ n = div-add-mod' n (2 ^ k) in
-    let r_lt : r < 2 ^ k = mod_below n (2 ^ k) (pow_pos k) in
-    let q_lt : q < 2 = div_below n (2 ^ k) 2 (pow_pos k) (omega (arith, pow-suc 2 k)) in
-    let high : ones q ≡ bit_at n k = ones_bit q q_lt ∙ sym (mod_small q q_lt) in
-    sym (ap ones whole)
-    ∙ ones_cat k q r r_lt
-    ∙ ap (λ m. m + ones r) high
-    ∙ ap (λ m. bit_at n k + m) (ones_sum k r r_lt ∙ sum_same k (bit_at r) (bit_at n) (λ j lt. sym (bit_at_cat_low q k r j lt) ∙ ap (λ m. bit_at m j) whole))
-    ∙ swapped (bit_at n k) (sum_below k (bit_at n))
-  where
-    mod_small : (m : ℕ) → m < 2 → m % 2 ≡ m
-    mod_small m h = omega arith
-
-    swapped : (a b : ℕ) → a + b ≡ b + a
-    swapped a b = omega arith
+    let whole : n / 2 ^ k * 2 ^ k + n % 2 ^ k ≡ n = div-add-mod' n (2 ^ k) in
+    let low : n % 2 ^ k < 2 ^ k = mod_below n (2 ^ k) (pow_pos k) in
+    let high : n / 2 ^ k < 2 = div_below n (2 ^ k) 2 (pow_pos k) (omega (arith, pow-suc 2 k)) in
+    let same = sum_same k (bit_at (n % 2 ^ k)) (bit_at n) (λ j lt. sym (bit_at_cat_low (n / 2 ^ k) k (n % 2 ^ k) j lt) ∙ ap (λ m. bit_at m j) whole) in
+    omega (arith, ap ones whole, ones_cat k (n / 2 ^ k) (n % 2 ^ k) low, ones_bit (n / 2 ^ k) high, ones_sum k (n % 2 ^ k) low, same)
 
 pub ones_masked : (row n : ℕ) → n ≤ 57 → ones (bit_and row (1 * 2 ^ n % 2 ^ 64 - 1)) ≡ sum_below n (λ j. bit_at row j)
 ones_masked row n h =
@@ -114,32 +100,14 @@ dark_in_row rows i n = sum_same n (λ j. bit_at (get_or rows i 0) j) (λ j. cond
 -- symbols that are the same below a size have the same penalty
 module _ (f g : ℕ → ℕ → Bool) (s : ℕ) (h : (i j : ℕ) → i < s → j < s → f i j ≡ g i j) where
   lines_same : lines_penalty f s ≡ lines_penalty g s
-  lines_same =
-      sum_same s (λ i. line_penalty (line_from (f i) 0 s)) (λ i. line_penalty (line_from (g i) 0 s))
-      (λ i lt. ap line_penalty (line_same (f i) (g i) s 0 (λ j _ below. h i j lt (omega arith))))
-
-  square_same : (i j : ℕ) → i < s - 1 → j < s - 1 → square_at (f i) (f (i + 1)) j ≡ square_at (g i) (g (i + 1)) j
-  square_same i j hi hj =
-      ap (λ b. cond (same b (f i (j + 1)) && same b (f (i + 1) j) && same b (f (i + 1) (j + 1))) 1 0) (h i j (omega arith) (omega arith))
-      ∙ ap (λ b. cond (same (g i j) b && same (g i j) (f (i + 1) j) && same (g i j) (f (i + 1) (j + 1))) 1 0) (h i (j + 1) (omega arith) (omega arith))
-      ∙ ap (λ b. cond (same (g i j) (g i (j + 1)) && same (g i j) b && same (g i j) (f (i + 1) (j + 1))) 1 0) (h (i + 1) j (omega arith) (omega arith))
-      ∙ ap (λ b. cond (same (g i j) (g i (j + 1)) && same (g i j) (g (i + 1) j) && same (g i j) b) 1 0) (h (i + 1) (j + 1) (omega arith) (omega arith))
+  lines_same = grind (arith, sum_same, line_same)
 
   pub squares_same : squares_penalty f s ≡ squares_penalty g s
-  squares_same =
-      ap (λ m. 3 * m)
-      (sum_same (s - 1) (λ i. sum_below (s - 1) (square_at (f i) (f (i + 1)))) (λ i. sum_below (s - 1) (square_at (g i) (g (i + 1))))
-      (λ i hi. sum_same (s - 1) (square_at (f i) (f (i + 1))) (square_at (g i) (g (i + 1))) (λ j hj. square_same i j hi hj)))
+  squares_same = grind (arith, sum_same)
 
   pub dark_same : dark_modules f s ≡ dark_modules g s
-  dark_same =
-      sum_same s (λ i. sum_below s (λ j. cond (f i j) 1 0)) (λ i. sum_below s (λ j. cond (g i j) 1 0))
-      (λ i hi. sum_same s (λ j. cond (f i j) 1 0) (λ j. cond (g i j) 1 0) (λ j hj. ap (λ b. cond b 1 0) (h i j hi hj)))
+  dark_same = grind (arith, sum_same)
 
 pub penalty_same : (f g : ℕ → ℕ → Bool) (s : ℕ) → ((i j : ℕ) → i < s → j < s → f i j ≡ g i j) → penalty f s ≡ penalty g s
 unfolding penalty
-penalty_same f g s h =
-    ap (λ m. m + lines_penalty (λ i j. f j i) s + squares_penalty f s + balance_penalty (dark_modules f s) (s * s)) (lines_same f g s h)
-    ∙ ap (λ m. lines_penalty g s + m + squares_penalty f s + balance_penalty (dark_modules f s) (s * s)) (lines_same (λ i j. f j i) (λ i j. g j i) s (λ i j hi hj. h j i hj hi))
-    ∙ ap (λ m. lines_penalty g s + lines_penalty (λ i j. g j i) s + m + balance_penalty (dark_modules f s) (s * s)) (squares_same f g s h)
-    ∙ ap (λ m. lines_penalty g s + lines_penalty (λ i j. g j i) s + squares_penalty g s + balance_penalty m (s * s)) (dark_same f g s h)
+penalty_same f g s h = grind (arith, lines_same, squares_same, dark_same)

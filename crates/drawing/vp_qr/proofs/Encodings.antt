@@ -1,7 +1,7 @@
 -- The parts of a symbol make the whole.
 use Rattle.std.proofs.Common.{arith}
-use Rattle.std.proofs.Common.{◌≡◌, ℕ, ◌<◌, List, Some, refl, ap, ◌∙◌, subst}
-use Rattle.std.specs.Prelude.{unwrap_or, is_none, Option, false, None}
+use Rattle.std.proofs.Common.{◌≡◌, ℕ, ◌<◌, List, Some, ap, ◌∙◌}
+use Rattle.std.specs.Prelude.{unwrap_or, Option, None}
 use Rattle.vp_qr.specs.declared.level.Level.{Level}
 use Rattle.vp_qr.specs.declared.segment.Mode.{Mode}
 use Rattle.vp_qr.specs.declared.segment.Kind.{Kind}
@@ -22,9 +22,7 @@ module _ (level : Level) (mode : Mode) (src : List ℕ) (kind : Kind) (v : ℕ) 
 
   same_words : words ≡ data_words level mode src
   unfolding data_words
-  same_words =
-      words_are ∙ ap (λ k. padded (capacity level v) (message k v src)) kind_is
-      ∙ ap (λ n. padded (capacity level n) (message (kind_of mode src) n src)) same_version
+  same_words = grind arith
 
   same_codewords : codewords ≡ codewords_of level mode src
   unfolding codewords_of
@@ -32,30 +30,17 @@ module _ (level : Level) (mode : Mode) (src : List ℕ) (kind : Kind) (v : ℕ) 
 
   same_module : (m : ℕ) → m ≡ mask_of level mode src → (i j : ℕ) → masked level v codewords m i j ≡ symbol_module level mode src i j
   unfolding symbol_module
-  same_module m em i j =
-      ap (λ m. masked level v codewords m i j) em
-      ∙ ap (λ n. masked level n codewords (mask_of level mode src) i j) same_version
-      ∙ ap (λ l. masked level (version_of level mode src) l (mask_of level mode src) i j) same_codewords
+  same_module m em i j = grind (arith, same_codewords)
 
   -- with the mask that is chosen for these bytes
   pub encodes : (m : ℕ) → m ≡ mask_of level mode src → (qr : QrSymbol) → qr.version ≡ v → qr.codewords ≡ codewords → qr.mask ≡ m
       → ((i j : ℕ) → i < size v → j < size v → dark qr.rows i j ≡ masked level v codewords m i j)
       → Encodes level mode src qr
-  encodes m em qr ev ec same modules = record {
-    version_is = ev ∙ same_version;
-    codewords_are = ec ∙ same_codewords;
-    mask_is = same ∙ em;
-    modules_are = λ (i j : ℕ) (hi : i < size qr.version) (hj : j < size qr.version).
-        modules i j (subst (λ n. i < size n) ev hi) (subst (λ n. j < size n) ev hj) ∙ same_module m em i j;
-  }
+  encodes m em qr ev ec same modules = grind (arith, same_codewords, same_module)
 
   -- which is the one that is chosen for their codewords
   pub same_mask : best_mask level v codewords ≡ mask_of level mode src
   same_mask = ap (λ n. best_mask level n codewords) same_version ∙ ap (best_mask level (version_of level mode src)) same_codewords
-
-found : (o : Option ℕ) → is_none o ≡ false → Some (unwrap_or o 0) ≡ o
-found (Some v) e = refl
-found None e = cc
 
 -- bytes that aren't refused have a version
 pub accepted_version : (level : Level) (mode : Mode) (src : List ℕ) → refusal level mode src ≡ None → Some (version_of level mode src) ≡ smallest level (kind_of mode src) src

@@ -1,6 +1,5 @@
 -- The columns in which a mask's formula is 0 repeat after six, and its rows after twelve.
-use Rattle.std.proofs.Common.{◌≡◌, ℕ, ◌+◌, ◌*◌, ◌/◌, ◌%◌, ◌<◌, true, eqb, ltb, [], get_or, refl, sym, ap, ◌∙◌, arith}
-use Rattle.std.proofs.Math.Nat.{mul_comm}
+use Rattle.std.proofs.Common.{◌≡◌, ℕ, ◌*◌, ◌%◌, ◌<◌, true, eqb, ltb, [], get_or, refl, sym, ap, ◌∙◌, arith}
 use mathlib.Core.Bool.{beq}
 use Rattle.std.proofs.lemmas.Bool.{ltb-true}
 use Rattle.std.proofs.lemmas.Nat.{mul-mod_second}
@@ -11,21 +10,7 @@ use Rattle.vp_qr.specs.declared.symbol.TheConstants.{FLIPS}
 use Rattle.vp_qr.proofs.Modules.{beq_same}
 
 formula_repeats : (m i j : ℕ) → formula m i j ≡ formula m i (j % 6)
-formula_repeats m i j =
-    let product : (i * (j % 6)) % 6 ≡ (i * j) % 6 = mul-mod_second i j 6 in
-    let e0 : (i + j) % 2 ≡ (i + j % 6) % 2 = omega arith in
-    let e2 : j % 3 ≡ j % 6 % 3 = omega arith in
-    let e3 : (i + j) % 3 ≡ (i + j % 6) % 3 = omega arith in
-    let e4 : (i / 2 + j / 3) % 2 ≡ (i / 2 + j % 6 / 3) % 2 = omega arith in
-    let two : (i * j) % 2 ≡ (i * (j % 6)) % 2 = even _ _ product in
-    let three : (i * j) % 3 ≡ (i * (j % 6)) % 3 = third _ _ product in
-    rw (e0, e2, e3, e4, two, three) refl
-  where
-    even : (a b : ℕ) → a % 6 ≡ b % 6 → b % 2 ≡ a % 2
-    even a b h = omega arith
-
-    third : (a b : ℕ) → a % 6 ≡ b % 6 → b % 3 ≡ a % 3
-    third a b h = omega arith
+formula_repeats m i j = grind (arith, mul-mod_second i j 6)
 
 six_again : passes_below 64 (λ six. passes_below 57 (λ j. beq (is_set (six * 18300341342965825) j) (is_set six (j % 6)))) ≡ true
 six_again = refl
@@ -37,21 +22,7 @@ repeated m i six j h first lt =
     ∙ ap (λ n. eqb n 0) (sym (formula_repeats m i j))
 
 formula_rows : (m i j : ℕ) → formula m (i % 12) j ≡ formula m i j
-formula_rows m i j =
-    let product : (j * (i % 12)) % 12 ≡ (j * i) % 12 = mul-mod_second j i 12 in
-    let e0 : (i % 12 + j) % 2 ≡ (i + j) % 2 = omega arith in
-    let e1 : i % 12 % 2 ≡ i % 2 = omega arith in
-    let e3 : (i % 12 + j) % 3 ≡ (i + j) % 3 = omega arith in
-    let e4 : (i % 12 / 2 + j / 3) % 2 ≡ (i / 2 + j / 3) % 2 = omega arith in
-    let two : (i % 12 * j) % 2 ≡ (i * j) % 2 = rw (mul_comm (i % 12) j, mul_comm i j) (even _ _ product) in
-    let three : (i % 12 * j) % 3 ≡ (i * j) % 3 = rw (mul_comm (i % 12) j, mul_comm i j) (third _ _ product) in
-    rw (e0, e1, e3, e4, two, three) refl
-  where
-    even : (a b : ℕ) → a % 12 ≡ b % 12 → a % 2 ≡ b % 2
-    even a b h = omega arith
-
-    third : (a b : ℕ) → a % 12 ≡ b % 12 → a % 3 ≡ b % 3
-    third a b h = omega arith
+formula_rows m i j = grind (arith, mul-mod_second j i 12)
 
 -- what the table has of a mask and a row
 abbrev pub in_table : ℕ → ℕ → ℕ

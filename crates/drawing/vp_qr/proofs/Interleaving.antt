@@ -1,8 +1,7 @@
 -- Blocks of codewords, and codewords block by block.
-use Rattle.std.proofs.Common.{◌≡◌, ℕ, zero, suc, ◌+◌, ◌-◌, ◌*◌, ◌<◌, ◌≤◌, List, [], ◌∷◌, ◌++◌, length, get_or, map, take, drop, refl, sym, ap, ◌∙◌, subst, inl, inr, arith, append-nil, cond, mul-le-mul_right}
+use Rattle.std.proofs.Common.{◌≡◌, ℕ, zero, suc, ◌+◌, ◌-◌, ◌*◌, ◌<◌, ◌≤◌, List, [], ◌∷◌, ◌++◌, length, get_or, map, take, drop, refl, sym, ap, ◌∙◌, subst, inl, inr, arith, append-nil, mul-le-mul_right}
 use Rattle.std.specs.List.{flat_map}
 use Rattle.std.proofs.lemmas.List.{length-append, length-drop, length-take, length-take-le, drop-drop, drop_more, drop_all, get_or-drop, get_or-take, get_or_append_left, get_or-append_right, take_at, drop_at}
-use Rattle.std.proofs.lemmas.Bool.Decides.{nat_tests}
 use Rattle.std.proofs.lemmas.Bool.{cases_lt, lt-ltb, le-ltb}
 use Rattle.vp_qr.specs.declared.level.Blocks.{Blocks}
 use Rattle.vp_qr.specs.Polynomial.{check_of}
@@ -17,12 +16,8 @@ length-pieces (suc n) k ws = omega (arith, length-pieces n k (drop k ws))
 pub pieces_at : (n k i : ℕ) (ws : List ℕ) → i < n → get_or (pieces n k ws) i [] ≡ take k (drop (i * k) ws)
 unfolding pieces
 pieces_at zero k i ws h = absurd (omega arith)
-pieces_at (suc n) k zero ws h =
-    let e : 0 ≡ 0 * k = omega arith in
-    ap (λ m. take k (drop m ws)) e
-pieces_at (suc n) k (suc i) ws h =
-    let e : k + i * k ≡ suc i * k = omega arith in
-    pieces_at n k i (drop k ws) (omega arith) ∙ ap (take k) (drop-drop (i * k) k ws ∙ ap (λ m. drop m ws) e)
+pieces_at (suc n) k zero ws h = grind arith
+pieces_at (suc n) k (suc i) ws h = grind (arith, drop-drop, pieces_at n k i (drop k ws))
 
 pub length-data_blocks : (b : Blocks) (ws : List ℕ) → length (data_blocks b ws) ≡ b.short + b.long
 unfolding data_blocks
@@ -34,37 +29,25 @@ unfolding data_blocks
 block_at b ws i h =
     let rest : List ℕ = drop (b.short * b.words) ws in
     elim (cases_lt i b.short) [
-      | inl lt ↦
-          let e : i * b.words ≡ i * b.words + (i - b.short) = omega arith in
-          get_or_append_left (pieces b.short b.words ws) (pieces b.long (b.words + 1) rest) [] i (omega (arith, length-pieces b.short b.words ws))
-          ∙ pieces_at b.short b.words i ws lt
-          ∙ ap (λ m. take b.words (drop m ws)) e
-          ∙ ap (λ t. take (cond t b.words (b.words + 1)) (drop (block_start b i) ws)) (sym (lt-ltb i b.short lt))
+      | inl lt ↦ grind (arith, get_or_append_left (pieces b.short b.words ws) (pieces b.long (b.words + 1) rest) [] i, length-pieces b.short b.words ws, pieces_at b.short b.words i ws lt)
       | inr le ↦
-          let j : ℕ = i - b.short in
-          let ei : i ≡ b.short + j = omega arith in
-          let e : b.short * b.words + j * (b.words + 1) ≡ i * b.words + (i - b.short) =
-          subst (λ m. b.short * b.words + j * (b.words + 1) ≡ m * b.words + j) (sym ei) (omega arith) in
-          get_or-append_right (pieces b.short b.words ws) (pieces b.long (b.words + 1) rest) b.short i [] (length-pieces b.short b.words ws) le
-          ∙ pieces_at b.long (b.words + 1) j rest (omega arith)
-          ∙ ap (take (b.words + 1)) (drop-drop (j * (b.words + 1)) (b.short * b.words) ws ∙ ap (λ m. drop m ws) e)
-          ∙ ap (λ t. take (cond t b.words (b.words + 1)) (drop (block_start b i) ws)) (sym (le-ltb i b.short le))
+          let ei : i ≡ b.short + (i - b.short) = omega arith in
+          let e : b.short * b.words + (i - b.short) * (b.words + 1) ≡ i * b.words + (i - b.short) = subst (λ m. b.short * b.words + (i - b.short) * (b.words + 1) ≡ m * b.words + (i - b.short)) (sym ei) (omega arith) in
+          grind (
+            arith,
+            get_or-append_right (pieces b.short b.words ws) (pieces b.long (b.words + 1) rest) b.short i [],
+            length-pieces b.short b.words ws,
+            pieces_at b.long (b.words + 1) (i - b.short),
+            drop-drop ((i - b.short) * (b.words + 1)) (b.short * b.words) ws,
+          )
     ]
 
 -- it ends among the codewords
 pub block_fits : (b : Blocks) (i : ℕ) → i < b.short + b.long → block_start b i + block_length b i ≤ words_of b
-block_fits b i h =
-    elim (cases_lt i b.short) [
-      | inl lt ↦
-          let le : i + 1 ≤ b.short = omega arith in
-          subst (λ t. block_start b i + cond t b.words (b.words + 1) ≤ words_of b) (sym (lt-ltb i b.short lt)) (omega (arith, mul-le-mul_right b.words le))
-      | inr le ↦
-          let j : ℕ = i - b.short in
-          let ei : i ≡ b.short + j = omega arith in
-          let lt : j + 1 ≤ b.long = omega arith in
-          subst (λ t. block_start b i + cond t b.words (b.words + 1) ≤ words_of b) (sym (le-ltb i b.short le))
-          (subst (λ m. m * b.words + j + (b.words + 1) ≤ words_of b) (sym ei) (omega (arith, mul-le-mul_right (b.words + 1) lt)))
-    ]
+block_fits b i h = elim (cases_lt i b.short) [
+  | inl lt ↦ rw (lt-ltb i b.short lt) (omega (arith, mul-le-mul_right {m = i + 1} {n = b.short} b.words (omega arith)))
+  | inr le ↦ (let ei : i ≡ b.short + (i - b.short) = omega arith in rw (le-ltb i b.short le, ei) (omega (arith, mul-le-mul_right {m = i - b.short + 1} {n = b.long} (b.words + 1) (omega arith))))
+]
 
 pub column_front : (at i : ℕ) (blocks : List (List ℕ)) → i < length blocks → column at (drop i blocks) ≡ take 1 (drop at (get_or blocks i [])) ++ column at (drop (i + 1) blocks)
 unfolding column
@@ -108,13 +91,8 @@ length-column k (b ∷ bs) = omega (arith, length-append (take 1 (drop k b)) (co
 
 pub length-columns : (k n : ℕ) (blocks : List (List ℕ)) → length (columns k n blocks) + above (k + n) blocks ≡ above k blocks
 unfolding columns
-length-columns k zero blocks =
-    let e : k + 0 ≡ k = omega arith in
-    subst (λ m. 0 + above m blocks ≡ above k blocks) (sym e) (omega arith)
-length-columns k (suc n) blocks =
-    let e : k + suc n ≡ k + 1 + n = omega arith in
-    subst (λ m. length (column k blocks ++ columns (k + 1) n blocks) + above m blocks ≡ above k blocks) (sym e)
-    (omega (arith, length-append (column k blocks) (columns (k + 1) n blocks), length-columns (k + 1) n blocks, length-column k blocks))
+length-columns k zero blocks = grind arith
+length-columns k (suc n) blocks = grind (arith, length-append, length-column, length-columns (k + 1) n blocks)
 
 above-append : (k : ℕ) (bs cs : List (List ℕ)) → above k (bs ++ cs) ≡ above k bs + above k cs
 above-append k [] cs = omega arith
@@ -123,9 +101,7 @@ above-append k (b ∷ bs) cs = omega (arith, above-append k bs cs)
 above-pieces : (j n k : ℕ) (ws : List ℕ) → n * k ≤ length ws → above j (pieces n k ws) ≡ n * (k - j)
 unfolding pieces
 above-pieces j zero k ws h = omega arith
-above-pieces j (suc n) k ws h =
-    let enough : n * k ≤ length (drop k ws) = omega (arith, length-drop k ws) in
-    omega (arith, length-take-le k ws (omega arith), above-pieces j n k (drop k ws) enough)
+above-pieces j (suc n) k ws h = grind (arith, length-drop k ws, length-take-le k ws, above-pieces j n k (drop k ws))
 
 pub above-data_blocks : (j : ℕ) (b : Blocks) (ws : List ℕ) → length ws ≡ words_of b → above j (data_blocks b ws) ≡ b.short * (b.words - j) + b.long * (b.words + 1 - j)
 unfolding data_blocks
@@ -142,10 +118,10 @@ column_lacks b ws i at n h f le = grind (arith, block_lacks, column_front, lengt
 
 -- a block is neither empty nor too long
 pub block_some : (b : Blocks) (i : ℕ) → IsSound b → 0 < block_length b i
-block_some b i s = grind (arith, nat_tests, s.words_some)
+block_some b i s = grind arith
 
 pub block_most : (b : Blocks) (i : ℕ) → IsSound b → i < b.short + b.long → block_length b i ≤ 116
-block_most b i s h = grind (arith, nat_tests, s.words_most, s.long_most)
+block_most b i s h = grind arith
 
 pub ruleset block_ends = (block_fits, block_some, block_most)
 
@@ -167,10 +143,7 @@ checks_end b ws i h = ap (flat_map (λ block. check_of block b.check)) (drop_all
 pub pieces-flat_map : (f : List ℕ → List ℕ) (n : ℕ) → ((b : List ℕ) → length (f b) ≡ n) → (bs : List (List ℕ)) → pieces (length bs) n (flat_map f bs) ≡ map f bs
 unfolding pieces
 pieces-flat_map f n h [] = refl
-pieces-flat_map f n h (b ∷ bs) =
-    let front : take n (f b ++ flat_map f bs) ≡ f b = take_at (f b) (flat_map f bs) n (h b) in
-    let back : drop n (f b ++ flat_map f bs) ≡ flat_map f bs = drop_at (f b) (flat_map f bs) n (h b) in
-    rw (front, back) (ap (λ l. f b ∷ l) (pieces-flat_map f n h bs))
+pieces-flat_map f n h (b ∷ bs) = grind (arith, take_at, drop_at, pieces-flat_map f n h bs)
 
 -- the check codewords as blocks of their own
 abbrev pub behind : Blocks → Blocks
@@ -181,21 +154,14 @@ unfolding data_blocks pieces
 no_long n k ws = append-nil (pieces n k ws)
 
 pub behind_blocks : (b : Blocks) (ws : List ℕ) → data_blocks (behind b) (flat_map (λ block. check_of block b.check) (data_blocks b ws)) ≡ map (λ block. check_of block b.check) (data_blocks b ws)
-behind_blocks b ws =
-    let f : List ℕ → List ℕ = λ block. check_of block b.check in
-    no_long (b.short + b.long) b.check (flat_map f (data_blocks b ws))
-    ∙ ap (λ m. pieces m b.check (flat_map f (data_blocks b ws))) (sym (length-data_blocks b ws))
-    ∙ pieces-flat_map f b.check (λ block. length_check b.check block) (data_blocks b ws)
+behind_blocks b ws = grind (arith, no_long (b.short + b.long) b.check, length-data_blocks b ws, pieces-flat_map, length_check b.check)
 
 -- all codewords stand in the columns up to the longest block's end
 nothing_above : (a m n : ℕ) → m ≤ n → a * (m - n) ≡ 0
 nothing_above a m n h = grind arith
 
-less_nothing : (n : ℕ) → n - 0 ≡ n
-less_nothing n = omega arith
-
 pub length-all_columns : (b : Blocks) (ws : List ℕ) (n : ℕ) → length ws ≡ words_of b → b.words ≤ n → b.long * (b.words + 1 - n) ≡ 0 → length (columns 0 n (data_blocks b ws)) ≡ words_of b
-length-all_columns b ws n e le none = grind (arith, above-data_blocks, length-columns, less_nothing, nothing_above)
+length-all_columns b ws n e le none = grind (arith, above-data_blocks, length-columns)
 
 pub length-data_columns : (b : Blocks) (ws : List ℕ) → length ws ≡ words_of b → length (columns 0 (b.words + 1) (data_blocks b ws)) ≡ words_of b
 length-data_columns b ws e = length-all_columns b ws (b.words + 1) e (omega arith) (nothing_above b.long (b.words + 1) (b.words + 1) (omega arith))

@@ -6,7 +6,7 @@ use Rattle.std.proofs.lemmas.List.Sums.{position_or_len_is}
 use Rattle.vp_qr.specs.Strings.{bits}
 use Rattle.vp_qr.specs.declared.segment.Kind.{Kind}
 use Rattle.vp_qr.specs.declared.segment.Kind.TheVariants.{Numeric, Alphanumeric, Byte}
-use Rattle.vp_qr.specs.Segments.{message, count_bits, data_bits, numeric_bits, alphanumeric_bits, byte_bits, digit_value, alnum_value, three_digits, two_digits, pair_value}
+use Rattle.vp_qr.specs.Segments.{message, count_bits, data_bits, numeric_bits, alphanumeric_bits, byte_bits, digit_value, alnum_value, two_digits}
 use Rattle.vp_qr.proofs.Writing.{length-bits}
 
 differs : (a b : ℕ) → (a ≡ b → ⊥) → eqb a b ≡ false
@@ -24,15 +24,13 @@ unfolding numeric_bits
 length_numeric [] = refl
 length_numeric (a ∷ []) = sym (length-bits 4 (digit_value a))
 length_numeric (a ∷ b ∷ []) = sym (length-bits 7 (two_digits a b))
-length_numeric (a ∷ b ∷ c ∷ rest) =
-    omega (arith, length-append (bits 10 (three_digits a b c)) (numeric_bits rest), length-bits 10 (three_digits a b c), length_numeric rest)
+length_numeric (a ∷ b ∷ c ∷ rest) = grind (arith, length-append, length-bits, length_numeric rest)
 
 pub length_alphanumeric : (xs : List ℕ) → (11 * length xs + 1) / 2 ≡ length (alphanumeric_bits xs)
 unfolding alphanumeric_bits
 length_alphanumeric [] = refl
 length_alphanumeric (a ∷ []) = sym (length-bits 6 (alnum_value a))
-length_alphanumeric (a ∷ b ∷ rest) =
-    omega (arith, length-append (bits 11 (pair_value a b)) (alphanumeric_bits rest), length-bits 11 (pair_value a b), length_alphanumeric rest)
+length_alphanumeric (a ∷ b ∷ rest) = grind (arith, length-append, length-bits, length_alphanumeric rest)
 
 pub length_byte : (xs : List ℕ) → length xs * 8 ≡ length (byte_bits xs)
 unfolding byte_bits

@@ -1,35 +1,25 @@
 -- The bits of words as modules.
-use Rattle.std.proofs.Common.{◌≡◌, ℕ, zero, suc, ◌+◌, ◌-◌, ◌*◌, ◌/◌, ◌%◌, ◌^◌, ◌<◌, ◌&&◌, ◌||◌, not, Bool, true, false, eqb, List, [], ◌∷◌, get_or, refl, sym, ap, ◌∙◌, arith, bit_and, bit_or, bit_xor, w64}
+use Rattle.std.proofs.Common.{◌≡◌, ℕ, zero, suc, ◌+◌, ◌-◌, ◌*◌, ◌/◌, ◌%◌, ◌^◌, ◌<◌, ◌&&◌, ◌||◌, not, Bool, true, false, eqb, List, [], ◌∷◌, get_or, ap, ◌∙◌, arith, bit_and, bit_or, bit_xor, w64}
 use mathlib.Core.Bool.{beq}
 use Rattle.std.specs.Int.{bit_at}
-use Rattle.std.proofs.lemmas.Nat.{shr-shr, div-add-mod', xor_lt}
-use Rattle.std.proofs.lemmas.Nat.Bits.{bit_at_and, bit_at_or, bit_at_xor, bit_at_not, bit_at-lt, bit_at-suc, bit_at-zero, bit_at_cat_low}
+use Rattle.std.proofs.lemmas.Nat.{shr-shr, xor_lt}
+use Rattle.std.proofs.lemmas.Nat.Bits.{bit_at_and, bit_at_or, bit_at_xor, bit_at_not, bit_at-suc, bit_at-zero, bit_at_cat_low}
 use Rattle.vp_qr.specs.Penalty.{is_set, same}
-use Rattle.vp_qr.proofs.FieldLaws.{passes_below, passes_at}
 
 pub beq_same : (a b : Bool) → beq a b ≡ true → a ≡ b
-beq_same true true e = refl
-beq_same true false e = cc
-beq_same false true e = cc
-beq_same false false e = refl
-
--- what holds of all bits
-two_bits : (p : ℕ → ℕ → Bool) → passes_below 2 (λ a. passes_below 2 (p a)) ≡ true → (a b : ℕ) → a < 2 → b < 2 → p a b ≡ true
-two_bits p all a b ha hb = passes_at 2 (p a) (passes_at 2 (λ m. passes_below 2 (p m)) all a ha) b hb
+beq_same a b e = grind arith
 
 pub is_set_and : (a b j : ℕ) → is_set (bit_and a b) j ≡ (is_set a j && is_set b j)
-is_set_and a b j = grind (arith, beq, beq_same, bit_at-lt, bit_at_and, two_bits)
+is_set_and a b j = grind (arith, bit_at_and)
 
 pub is_set_or : (a b j : ℕ) → is_set (bit_or a b) j ≡ (is_set a j || is_set b j)
-is_set_or a b j = grind (arith, beq, beq_same, bit_at-lt, bit_at_or, two_bits)
+is_set_or a b j = grind (arith, bit_at_or)
 
 pub is_set_xor : (a b j : ℕ) → is_set (bit_xor a b) j ≡ not (same (is_set a j) (is_set b j))
-is_set_xor a b j = grind (arith, beq, beq_same, bit_at-lt, bit_at_xor, two_bits)
+is_set_xor a b j = grind (arith, bit_at_xor)
 
 pub is_set_not : (a j : ℕ) → a < 2 ^ 64 → j < 64 → is_set (2 ^ 64 - 1 - a) j ≡ not (is_set a j)
-is_set_not a j ha hj =
-    ap (λ n. eqb n 1) (bit_at_not w64 a j ha hj)
-    ∙ beq_same _ _ (two_bits (λ x y. beq (eqb (1 - x) 1) (not (eqb x 1))) refl (bit_at a j) 0 (bit_at-lt a j) (omega arith))
+is_set_not a j ha hj = grind (arith, bit_at_not w64 a j ha hj)
 
 pub is_set_zero : (j : ℕ) → is_set 0 j ≡ false
 is_set_zero j = ap (λ n. eqb n 1) (bit_at-zero j)
@@ -39,8 +29,7 @@ is_set_shr a k j = grind (arith, shr-shr)
 
 -- the bits of a word that is moved up by one
 fits : (a j : ℕ) → j < 64 → bit_at (a * 2 % 2 ^ 64) j ≡ bit_at (a * 2) j
-fits a j h =
-    sym (bit_at_cat_low (a * 2 / 2 ^ 64) 64 (a * 2 % 2 ^ 64) j h) ∙ ap (λ n. bit_at n j) (div-add-mod' (a * 2) (2 ^ 64))
+fits a j h = grind (arith, bit_at_cat_low (a * 2 / 2 ^ 64) 64 (a * 2 % 2 ^ 64) j h)
 
 halved : (a : ℕ) → a * 2 / 2 ≡ a
 halved a = omega arith
@@ -63,11 +52,7 @@ module _ (j : ℕ) (hj : j < 64) where
   other x p h hx = is_set_not x j h hj ∙ ap not hx
 
   pub equal : (x y : ℕ) → x < 2 ^ 64 → y < 2 ^ 64 → is_set (2 ^ 64 - 1 - bit_xor x y) j ≡ same (is_set x j) (is_set y j)
-  equal x y hx hy = is_set_not (bit_xor x y) j (xor_lt 64 x y hx hy) hj ∙ ap not (is_set_xor x y j) ∙ twice (same (is_set x j) (is_set y j))
-    where
-      twice : (b : Bool) → not (not b) ≡ b
-      twice true = refl
-      twice false = refl
+  equal x y hx hy = grind (arith, is_set_not (bit_xor x y) j, xor_lt 64 x y hx hy, is_set_xor x y j)
 
 -- a line without its first k modules, for k from `first` on
 abbrev shifts : ℕ → ℕ → ℕ → List ℕ
@@ -76,17 +61,9 @@ shifts line first (suc n) = line / 2 ^ first ∷ shifts line (first + 1) n
 
 shift_at : (line first n i : ℕ) → i < n → get_or (shifts line first n) i 0 ≡ line / 2 ^ (first + i)
 shift_at line first zero i h = absurd (omega arith)
-shift_at line first (suc n) zero h =
-    let e : first ≡ first + 0 = omega arith in
-    ap (λ k. line / 2 ^ k) e
-shift_at line first (suc n) (suc i) h =
-    let e : first + 1 + i ≡ first + suc i = omega arith in
-    shift_at line (first + 1) n i (omega arith) ∙ ap (λ k. line / 2 ^ k) e
+shift_at line first (suc n) zero h = grind arith
+shift_at line first (suc n) (suc i) h = grind (arith, shift_at line (first + 1) n i)
 
 pub shifted_at : (line k j : ℕ) → k < 11 → is_set (get_or (line ∷ shifts line 1 10) k 0) j ≡ is_set line (j + k)
-shifted_at line zero j h =
-    let e : j ≡ j + 0 = omega arith in
-    ap (λ n. is_set line n) e
-shifted_at line (suc i) j h =
-    let e : 1 + i ≡ suc i = omega arith in
-    ap (λ n. is_set n j) (shift_at line 1 10 i (omega arith) ∙ ap (λ k. line / 2 ^ k) e) ∙ is_set_shr line (suc i) j
+shifted_at line zero j h = grind arith
+shifted_at line (suc i) j h = grind (arith, shift_at line 1 10 i, is_set_shr line (suc i) j)

@@ -1,14 +1,13 @@
 -- Polynomials in rows of 32 coefficients, zeros behind their last, and their multiples.
-use Rattle.std.proofs.Common.{◌≡◌, ℕ, zero, suc, ◌+◌, ◌-◌, ◌*◌, ◌/◌, ◌%◌, ◌<◌, ◌≤◌, List, [], ◌∷◌, ◌++◌, length, replicate, drop, take, refl, sym, ap, ◌∙◌, subst, arith, bit_xor, get_or, set, get_or-set_same, get_or-set_other, cond, eqb, inl, inr, length-append, append_assoc, length-set}
-use Rattle.std.proofs.lemmas.List.{length-replicate, get_or-drop, drop_all, length-drop, ext_get_or, drop-append-le, replicate-append-replicate}
-use Rattle.std.proofs.lemmas.Bool.{cases_eq}
+use Rattle.std.proofs.Common.{◌≡◌, ℕ, zero, suc, ◌+◌, ◌-◌, ◌*◌, ◌/◌, ◌%◌, ◌<◌, ◌≤◌, List, [], ◌∷◌, ◌++◌, length, replicate, drop, take, refl, sym, ap, ◌∙◌, subst, arith, bit_xor, get_or, set, get_or-set_same, get_or-set_other, cond, eqb, length-append, append_assoc, length-set}
+use Rattle.std.proofs.lemmas.List.{length-replicate, drop_all, ext_get_or, replicate-append-replicate}
 use Rattle.std.proofs.Math.Seq.{take-append_seam}
 use Rattle.std.specs.Int.Bits.{xor_zero_l, xor_zero_r}
 use Rattle.vp_qr.specs.Field.{doubled, times, power}
 use Rattle.vp_qr.specs.Polynomial.{plus, scaled, generator, divided, check_of}
 use Rattle.vp_qr.specs.Divisors.{low_row}
 use Rattle.vp_qr.proofs.FieldLaws.{times_zero, zero_times, times_comm, times_half}
-use Rattle.vp_qr.proofs.Division.{Bytes, Monic, generator_monic, generator_more, length_scaled, length-plus_second, plus_zeros, zeros_plus, Registers, registers_all, length_check, length_step, length-monic}
+use Rattle.vp_qr.proofs.Division.{Bytes, Monic, generator_monic, generator_more, length_scaled, length-plus_second, plus_zeros, zeros_plus, Registers, registers_all, length_check, length_step}
 
 -- zeros behind the last term
 
@@ -47,30 +46,21 @@ plus_padded m [] (y ∷ ys) h = absurd (omega arith)
 plus_padded m (x ∷ xs) [] h = plus_zeros m (x ∷ (xs ++ replicate m 0)) (omega (arith, length-append xs (replicate m 0), length-replicate {A = ℕ} m 0))
 plus_padded m (x ∷ xs) (y ∷ ys) h = ap (λ (k : List ℕ). bit_xor x y ∷ k) (plus_padded m xs ys (omega arith))
 
-plus_some : (x : ℕ) (xs ys : List ℕ) → 1 ≤ length (plus (x ∷ xs) ys)
-plus_some x xs [] = omega arith
-plus_some x xs (y ∷ ys) = omega arith
-
 step_padded : (m x : ℕ) (g xs : List ℕ) → length g ≤ length (x ∷ xs)
     → drop 1 (plus ((x ∷ xs) ++ replicate m 0) (scaled x (g ++ replicate m 0))) ≡ drop 1 (plus (x ∷ xs) (scaled x g)) ++ replicate m 0
-step_padded m x g xs h =
-    ap (λ (k : List ℕ). drop 1 (plus ((x ∷ xs) ++ replicate m 0) k)) (scaled_padded x m g)
-    ∙ ap (drop 1) (plus_padded m (x ∷ xs) (scaled x g) (omega (arith, length_scaled x g)))
-    ∙ drop-append-le 1 (plus (x ∷ xs) (scaled x g)) (replicate m 0) (plus_some x xs (scaled x g))
+step_padded m x g xs h = grind (arith, scaled_padded x m g, plus_padded m (x ∷ xs) (scaled x g), length_scaled x g)
 
 -- they change no remainder
 divided_padded : (m n k : ℕ) (g xs : List ℕ) → Monic g n → n + k ≤ length xs → divided (g ++ replicate m 0) k (xs ++ replicate m 0) ≡ divided g k xs ++ replicate m 0
 unfolding divided
 divided_padded m n zero g xs monic room = refl
 divided_padded m n (suc k) g [] monic room = absurd (omega arith)
-divided_padded m n (suc k) g (x ∷ xs) monic room =
-    ap (divided (g ++ replicate m 0) k) (step_padded m x g xs (omega (arith, length-monic n g monic)))
-    ∙ divided_padded m n k g (drop 1 (plus (x ∷ xs) (scaled x g))) monic (omega (arith, length_step n x g xs monic (omega arith)))
+divided_padded m n (suc k) g (x ∷ xs) monic room = grind (arith, step_padded, length_step, divided_padded m n k g (drop 1 (plus (x ∷ xs) (scaled x g))) monic)
 
 -- a row whose first terms are those of a function, and one more
 pub term_made : {A : Type 0} (f : ℕ → A) (xs : List A) (i : ℕ) (x d : A) → i < length xs → x ≡ f i → ((j : ℕ) → j < i → get_or xs j d ≡ f j)
     → (j : ℕ) → j < i + 1 → get_or (set xs i x) j d ≡ f j
-term_made f xs i x d lt here before j h = grind (arith, cases_eq, get_or-set_other, get_or-set_same)
+term_made f xs i x d lt here before j h = grind (arith, get_or-set_other, get_or-set_same)
 
 -- the generator in a row
 
@@ -90,40 +80,24 @@ row_none = refl
 root_term : (i root k : ℕ) (row : List ℕ) → row ≡ low_row i
     → bit_xor (get_or row k 0) (times root (get_or (1 ∷ row) k 0)) ≡ get_or (plus (drop 1 (generator i) ++ 0 ∷ []) (scaled root (1 ∷ drop 1 (generator i)))) k 0
 root_term i root k row is =
-    let low : List ℕ = drop 1 (generator i) in
-    let first : get_or row k 0 ≡ get_or (low ++ 0 ∷ []) k 0 = ap (λ (r : List ℕ). get_or r k 0) is ∙ get_or-padded (32 - i) k low ∙ sym (get_or-padded 1 k low) in
-    let second : get_or (1 ∷ row) k 0 ≡ get_or (1 ∷ low) k 0 = ap (λ (r : List ℕ). get_or (1 ∷ r) k 0) is ∙ get_or-padded (32 - i) k (1 ∷ low) in
-    ap (λ (a : ℕ). bit_xor a (times root (get_or (1 ∷ row) k 0))) first
-    ∙ ap (λ (a : ℕ). bit_xor (get_or (low ++ 0 ∷ []) k 0) (times root a)) second
-    ∙ ap (bit_xor (get_or (low ++ 0 ∷ []) k 0)) (sym (get_or-scaled root (1 ∷ low) k))
-    ∙ sym (get_or-plus (low ++ 0 ∷ []) (scaled root (1 ∷ low)) k)
+    grind (arith, get_or-padded (32 - i) k (drop 1 (generator i)), get_or-padded 1 k (drop 1 (generator i)), get_or-padded (32 - i) k (1 ∷ drop 1 (generator i)), get_or-scaled root (1 ∷ drop 1 (generator i)) k, get_or-plus)
 
 pub row_more : (i root : ℕ) (row new : List ℕ) → i < 30 → row ≡ low_row i → root ≡ power i → length new ≡ 32
     → ((k : ℕ) → k < 32 → get_or new k 0 ≡ bit_xor (get_or row k 0) (times root (get_or (1 ∷ row) k 0))) → new ≡ low_row (i + 1)
 row_more i root row new h is at len terms =
     let low : List ℕ = drop 1 (generator i) in
-    let next : List ℕ = plus (low ++ 0 ∷ []) (scaled root (1 ∷ low)) in
-    let e : 1 ∷ next ≡ generator (i + 1) = generator_more i root low next (one_before i) at refl in
-    let d : next ≡ drop 1 (generator (i + 1)) = ap (drop 1) e in
+    let e = generator_more i root low (plus (low ++ 0 ∷ []) (scaled root (1 ∷ low))) (one_before i) at refl in
     ext_get_or 0 new (low_row (i + 1)) (len ∙ sym (length_row (i + 1) (omega arith)))
-    (λ (k : ℕ) (lt : k < length new).
-    terms k (omega arith) ∙ root_term i root k row is ∙ ap (λ (l : List ℕ). get_or l k 0) d ∙ sym (get_or-padded (32 - (i + 1)) k (drop 1 (generator (i + 1)))))
-
-byte_behind : (low : List ℕ) → ((k : ℕ) → get_or low k 0 < 256) → (k : ℕ) → get_or (1 ∷ low) k 0 < 256
-byte_behind low h zero = omega arith
-byte_behind low h (suc k) = h k
+    (λ k lt. rw (terms k (omega arith), root_term i root k row is, get_or-padded (32 - (i + 1)) k (drop 1 (generator (i + 1))), ← e) refl)
 
 pub root_product : (low : List ℕ) (root above k product : ℕ) → ((i : ℕ) → get_or low i 0 < 256) → root < 256 → above ≡ get_or (1 ∷ low) k 0
     → product ≡ times above root → product ≡ times root (get_or (1 ∷ low) k 0)
-root_product low root above k product bytes hr is e = grind (arith, byte_behind, times_comm)
+root_product low root above k product bytes hr is e = grind (arith, times_comm)
 
 -- its multiples
 
-pub by_parity : (f x : ℕ) → cond (eqb (f % 2) 1) x 0 ≡ f % 2 * x
-by_parity f x = grind arith
-
 pub multiple_none : (n : ℕ) → n ≤ 32 → replicate 32 0 ≡ scaled 0 (low_row n)
-multiple_none n h = by_term (low_row n) 32 (length_row n h)
+multiple_none n h = grind (arith, by_term (low_row n) 32, length_row n h)
   where
     by_term : (xs : List ℕ) (m : ℕ) → length xs ≡ m → replicate m 0 ≡ scaled 0 xs
     by_term [] zero e = refl
@@ -147,14 +121,7 @@ row_byte n k =
 pub multiple_more : (f : ℕ) (half low new : List ℕ) → f < 256 → length low ≡ 32 → length new ≡ 32
     → ((k : ℕ) → get_or low k 0 < 256) → half ≡ scaled (f / 2) low
     → ((k : ℕ) → k < 32 → get_or new k 0 ≡ bit_xor (doubled (get_or half k 0)) (cond (eqb (f % 2) 1) (get_or low k 0) 0)) → new ≡ scaled f low
-multiple_more f half low new hf hl hn bytes is terms =
-    ext_get_or 0 new (scaled f low) (hn ∙ sym (length_scaled f low ∙ hl))
-    (λ (k : ℕ) (lt : k < length new).
-    terms k (omega arith)
-    ∙ ap (bit_xor (doubled (get_or half k 0))) (by_parity f (get_or low k 0))
-    ∙ ap (λ (l : List ℕ). bit_xor (doubled (get_or l k 0)) (f % 2 * get_or low k 0)) is
-    ∙ ap (λ (a : ℕ). bit_xor (doubled a) (f % 2 * get_or low k 0)) (get_or-scaled (f / 2) low k)
-    ∙ sym (times_half f (get_or low k 0) hf (bytes k)) ∙ sym (get_or-scaled f low k))
+multiple_more f half low new hf hl hn bytes is terms = grind (arith, ext_get_or 0 new (scaled f low), length_scaled f low, get_or-scaled (f / 2) low, times_half f, get_or-scaled f low)
 
 -- the multiples of twice an element and of the next one
 pub two_multiples : (half : ℕ) (low : List ℕ) (rows : List (List ℕ)) (even odd : List ℕ) → half < 128 → length rows ≡ 256 → length low ≡ 32 → ((k : ℕ) → get_or low k 0 < 256)
@@ -164,34 +131,21 @@ pub two_multiples : (half : ℕ) (low : List ℕ) (rows : List (List ℕ)) (even
     → (g : ℕ) → g < 2 * (half + 1) → get_or (set (set rows (2 * half) even) (2 * half + 1) odd) g [] ≡ scaled g low
 two_multiples half low rows even odd hf long size bytes none before even_long even_terms odd_long odd_terms =
     let row : List ℕ = get_or rows half [] in
-    let f : ℕ → List ℕ = λ g. scaled g low in
-    let row_is : row ≡ scaled half low = elim (cases_eq half 0) [
-      | inl e ↦ ap (λ g. get_or rows g []) e ∙ none ∙ ap f (sym e)
-      | inr ne ↦ before half (omega arith)
-    ] in
-    let even_half : half ≡ 2 * half / 2 = omega arith in
-    let odd_half : half ≡ (2 * half + 1) / 2 = omega arith in
-    let even_rest : 0 ≡ 2 * half % 2 = omega arith in
-    let odd_rest : 1 ≡ (2 * half + 1) % 2 = omega arith in
-    let even_is : even ≡ scaled (2 * half) low = multiple_more (2 * half) row low even (omega arith) size even_long bytes (row_is ∙ ap f even_half)
-    (λ k lt. even_terms k lt ∙ sym (xor_zero_r (doubled (get_or row k 0))) ∙ ap (λ n. bit_xor (doubled (get_or row k 0)) (cond (eqb n 1) (get_or low k 0) 0)) even_rest) in
-    let odd_is : odd ≡ scaled (2 * half + 1) low = multiple_more (2 * half + 1) row low odd (omega arith) size odd_long bytes (row_is ∙ ap f odd_half)
-    (λ k lt. odd_terms k lt ∙ ap (λ n. bit_xor n (get_or low k 0)) (even_terms k lt) ∙ ap (λ n. bit_xor (doubled (get_or row k 0)) (cond (eqb n 1) (get_or low k 0) 0)) odd_rest) in
-    let one = term_made f rows (2 * half) even [] (omega arith) even_is before in
-    λ g h. term_made f (set rows (2 * half) even) (2 * half + 1) odd [] (omega (arith, length-set rows (2 * half) even)) odd_is one g (omega arith)
+    let row_is : row ≡ scaled half low = grind arith in
+    let even_half : 2 * half / 2 ≡ half = omega arith in
+    let odd_half : (2 * half + 1) / 2 ≡ half = omega arith in
+    let even_rest : 2 * half % 2 ≡ 0 = omega arith in
+    let odd_rest : (2 * half + 1) % 2 ≡ 1 = omega arith in
+    let even_is : even ≡ scaled (2 * half) low = multiple_more (2 * half) row low even (omega arith) size even_long bytes (rw even_half row_is) (λ k lt. rw (even_rest, xor_zero_r) (even_terms k lt)) in
+    let odd_is : odd ≡ scaled (2 * half + 1) low = multiple_more (2 * half + 1) row low odd (omega arith) size odd_long bytes (rw odd_half row_is) (λ k lt. rw odd_rest (rw (even_terms k lt) at (odd_terms k lt))) in
+    λ g h. term_made (λ g. scaled g low) (set rows (2 * half) even) (2 * half + 1) odd [] (omega (arith, length-set rows (2 * half) even)) odd_is
+    (term_made (λ g. scaled g low) rows (2 * half) even [] (omega arith) even_is before) g (omega arith)
 
 -- the register
 
 pub moved : (register row new : List ℕ) → length register ≡ 32 → length row ≡ 32 → length new ≡ 32
     → ((k : ℕ) → k < 32 → get_or new k 0 ≡ bit_xor (get_or register (k + 1) 0) (get_or row k 0)) → new ≡ plus (drop 1 register) row
-moved register row new hr hl hn terms =
-    let len : length (plus (drop 1 register) row) ≡ 32 = length-plus_second (drop 1 register) row (omega (arith, length-drop 1 register)) ∙ hl in
-    ext_get_or 0 new (plus (drop 1 register) row) (hn ∙ sym len)
-    (λ (k : ℕ) (lt : k < length new).
-    terms k (omega arith)
-    ∙ ap (λ (i : ℕ). bit_xor (get_or register i 0) (get_or row k 0)) (omega arith)
-    ∙ ap (λ (a : ℕ). bit_xor a (get_or row k 0)) (sym (get_or-drop 1 register k 0))
-    ∙ sym (get_or-plus (drop 1 register) row k))
+moved register row new hr hl hn terms = grind (arith, ext_get_or 0 new (plus (drop 1 register) row), length-plus_second (drop 1 register) row, get_or-plus)
 
 -- its first n terms are the check
 pub check_first : (n i : ℕ) (src register : List ℕ) → n ≤ 30 → length src ≤ i

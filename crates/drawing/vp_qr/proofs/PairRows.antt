@@ -1,18 +1,16 @@
 -- The data bits ahead in a word, and two of them placed at once.
-use Rattle.std.proofs.Common.{◌≡◌, ℕ, zero, suc, ◌+◌, ◌-◌, ◌*◌, ◌/◌, ◌%◌, ◌^◌, ◌<◌, ◌≤◌, ◌&&◌, ◌||◌, Bool, true, false, eqb, leb, cond, List, length, get_or, set, get_or-set_same, get_or-set_other, refl, sym, ap, ◌∙◌, arith, bit_and, bit_or, count_ones}
+use Rattle.std.proofs.Common.{◌≡◌, ℕ, zero, suc, ◌+◌, ◌-◌, ◌*◌, ◌/◌, ◌%◌, ◌^◌, ◌<◌, ◌≤◌, ◌&&◌, ◌||◌, Bool, true, false, eqb, leb, cond, List, length, get_or, set, refl, sym, ◌∙◌, arith, bit_and, bit_or, count_ones}
 use lib.Count.{ones}
-use Rattle.std.proofs.lemmas.Bool.{lt-ltb, le-leb, eqb-true}
-use Rattle.std.proofs.lemmas.Bool.Decides.{eqb_tells}
-use Rattle.std.proofs.lemmas.Nat.{div_below}
+use Rattle.std.proofs.lemmas.Bool.{eqb-true}
 use Rattle.vp_dots.specs.Dots.{bit, dot}
 use Rattle.vp_dots.specs.Words.{word_dot}
 use Rattle.vp_dots.proofs.Cuts.{bit_low64}
 use Rattle.vp_dots.proofs.Words.{bit_shl}
 use Rattle.vp_qr.specs.Penalty.{is_set}
 use Rattle.vp_qr.specs.Walk.{dark, data_bit}
-use Rattle.vp_qr.proofs.Bits.{no_bit}
+use Rattle.vp_qr.proofs.Bits.{no_bit, row_or}
 use Rattle.vp_qr.proofs.FieldLaws.{passes_below, passes_at}
-use Rattle.vp_qr.proofs.Modules.{is_set_and, is_set_or, is_set_shr}
+use Rattle.vp_qr.proofs.Modules.{is_set_and, is_set_shr}
 use Rattle.vp_qr.proofs.ShapeLines.{is_set_shl}
 
 -- a dot of the codewords is a data bit
@@ -21,7 +19,7 @@ unfolding dot bit data_bit
 bits_ahead bytes word k h x lt = h x lt
 
 pub bits_behind : (word n left x : ℕ) → n ≤ left → left ≤ 64 → x < left - n → word_dot (word * 2 ^ n % 2 ^ 64) x ≡ word_dot word (n + x)
-bits_behind word n left x most all lt = grind (arith, bit_low64, bit_shl, le-leb, lt-ltb)
+bits_behind word n left x most all lt = grind (arith, bit_low64, bit_shl)
 
 -- the two bits of a pair
 abbrev pub two_placed : ℕ → ℕ → ℕ → Bool
@@ -36,8 +34,7 @@ unfolding bit
 second_bit word = refl
 
 or_none : (b : Bool) → (b || false) ≡ b
-or_none true = refl
-or_none false = refl
+or_none b = grind arith
 
 neither : (j : ℕ) (a b : Bool) → 2 ≤ j → ((eqb j 1 && a) || (eqb j 0 && b)) ≡ false
 neither j a b h = grind arith
@@ -48,54 +45,28 @@ both_placed word (suc zero) h = is_set_shr word 62 1 ∙ sym (or_none (word_dot 
 both_placed word (suc (suc j)) h =
     is_set_shr word 62 (suc (suc j)) ∙ no_bit word (suc (suc j) + 62) h (omega arith) ∙ sym (neither (suc (suc j)) (is_set 3 1 && word_dot word 0) (is_set 3 0 && word_dot word (cond (is_set 3 1) 1 0)) (omega arith))
 
-top_bit : (word : ℕ) → word < 2 ^ 64 → word / 2 ^ 63 < 2
-top_bit word h = div_below word (2 ^ 63) 2 (omega arith) (omega arith)
-
 one_bit : (word j : ℕ) → word < 2 ^ 64 → 1 ≤ j → is_set (word / 2 ^ 63) j ≡ false
 one_bit word j h some = is_set_shr word 63 j ∙ no_bit word (j + 63) h (omega arith)
 
 right_placed : (word j : ℕ) → word < 2 ^ 64 → j < 64 → is_set (word / 2 ^ 63 * 2 ^ 1 % 2 ^ 64) j ≡ two_placed 2 word j
-right_placed word zero h lt = grind (arith, is_set_shl)
-right_placed word (suc zero) h lt = grind (arith, first_bit, is_set_shl, is_set_shr, or_none)
-right_placed word (suc (suc j)) h lt = grind (arith, is_set_shl, le-leb, neither, one_bit)
+right_placed word zero h lt = grind arith
+right_placed word (suc zero) h lt = grind (arith, first_bit)
+right_placed word (suc (suc j)) h lt = grind arith
 
 left_placed : (word j : ℕ) → word < 2 ^ 64 → is_set (word / 2 ^ 63) j ≡ two_placed 1 word j
-left_placed word zero h = grind (arith, first_bit, is_set_shr)
-left_placed word (suc zero) h = grind (arith, one_bit)
-left_placed word (suc (suc j)) h = grind (arith, neither, one_bit)
-
-none_placed : (word j : ℕ) → is_set 0 j ≡ two_placed 0 word j
-none_placed word zero = refl
-none_placed word (suc zero) = refl
-none_placed word (suc (suc j)) = grind arith
+left_placed word j h = grind (arith, first_bit, one_bit)
 
 pub one_placed : (word free j : ℕ) → word < 2 ^ 64 → free < 3 → j < 64 → is_set (word / 2 ^ 63 * free) j ≡ two_placed free word j
-one_placed word zero j h few lt =
-    let e : word / 2 ^ 63 * 0 ≡ 0 = omega arith in
-    ap (λ n. is_set n j) e ∙ none_placed word j
-one_placed word (suc zero) j h few lt =
-    let e : word / 2 ^ 63 * 1 ≡ word / 2 ^ 63 = omega arith in
-    ap (λ n. is_set n j) e ∙ left_placed word j h
-one_placed word (suc (suc zero)) j h few lt =
-    let e : word / 2 ^ 63 * 2 ≡ word / 2 ^ 63 * 2 ^ 1 % 2 ^ 64 = omega (arith, top_bit word h) in
-    ap (λ n. is_set n j) e ∙ right_placed word j h lt
+one_placed word zero j h few lt = grind arith
+one_placed word (suc zero) j h few lt = grind (arith, left_placed word j h)
+one_placed word (suc (suc zero)) j h few lt = grind (arith, right_placed word j h lt)
 one_placed word (suc (suc (suc n))) j h few lt = absurd (omega arith)
 
--- which of the two are free, and how many
-whole : (b : Bool) → (b && true) ≡ b
-whole true = refl
-whole false = refl
-
 pub right_free : (row left column : ℕ) → column ≡ left + 1 → is_set (bit_and (row / 2 ^ left) 3) 1 ≡ is_set row column
-right_free row left column e =
-    let place : 1 + left ≡ column = omega arith in
-    is_set_and (row / 2 ^ left) 3 1 ∙ whole (is_set (row / 2 ^ left) 1) ∙ is_set_shr row left 1 ∙ ap (is_set row) place
+right_free row left column e = grind (arith, is_set_and (row / 2 ^ left) 3 1, is_set_shr row left 1)
 
 pub left_free : (row left : ℕ) → is_set (bit_and (row / 2 ^ left) 3) 0 ≡ is_set row left
-left_free row left = is_set_and (row / 2 ^ left) 3 0 ∙ whole (is_set (row / 2 ^ left) 0) ∙ is_set_shr row left 0 ∙ ap (is_set row) at_left
-  where
-    at_left : 0 + left ≡ left
-    at_left = omega arith
+left_free row left = grind (arith, is_set_and (row / 2 ^ left) 3 0)
 
 ones_of_two : passes_below 4 (λ t. eqb (count_ones t) (cond (is_set t 1) 1 0 + cond (is_set t 0) 1 0)) ≡ true
 unfolding ones
@@ -103,11 +74,6 @@ ones_of_two = refl
 
 pub two_ones : (t : ℕ) → t < 4 → count_ones t ≡ cond (is_set t 1) 1 0 + cond (is_set t 0) 1 0
 two_ones t h = eqb-true _ _ (passes_at 4 (λ t. eqb (count_ones t) (cond (is_set t 1) 1 0 + cond (is_set t 0) 1 0)) ones_of_two t h)
-
--- a row with more modules
-row_or : (rows : List ℕ) (row word i j : ℕ) → row < length rows → dark (set rows row (bit_or (get_or rows row 0) word)) i j ≡ (dark rows i j || (eqb i row && is_set word j))
-unfolding dark
-row_or rows row word i j h = grind (arith, bit_or, eqb_tells, get_or-set_other, get_or-set_same, is_set_or, or_none)
 
 in_place : (j left column : ℕ) (a b : Bool) → column ≡ left + 1
     → (leb left j && ((eqb (j - left) 1 && a) || (eqb (j - left) 0 && b))) ≡ ((eqb j column && a) || (eqb j (column - 1) && b))

@@ -10,8 +10,7 @@ part_written out new whole rest front behind e f h = ap (λ l. l ++ behind) e �
 
 -- the front of what is still to be written has room
 pub room_for : {X : Type 0} (out rest front behind start all : List X) (n most : ℕ) → length start + length all ≤ most → out ++ rest ≡ start ++ all → rest ≡ front ++ behind → length front ≡ n → length out + n ≤ most
-room_for out rest front behind start all n most le h e f =
-    omega (arith, ap length h, length-append start all, length-append out rest, ap length e, length-append front behind)
+room_for out rest front behind start all n most le h e f = grind (arith, length-append start all, length-append out rest, length-append front behind)
 
 -- and so has as much as is left
 pub room_left : {X : Type 0} (out rest start all : List X) (n : ℕ) → out ++ rest ≡ start ++ all → length start + length all ≤ 2192 → n ≤ length rest → length out + n ≤ 2192
@@ -26,21 +25,15 @@ three_more (a ∷ b ∷ c ∷ rest) h = ap (λ l. bits 10 (three_digits a b c) +
 
 pub two_last : (xs : List ℕ) → 2 ≤ length xs → length xs < 3 → numeric_bits xs ≡ bits 7 (two_digits (get_or xs 0 0) (get_or xs 1 0))
 unfolding numeric_bits
-two_last [] h lt = absurd (omega arith)
-two_last (a ∷ []) h lt = absurd (omega arith)
-two_last (a ∷ b ∷ []) h lt = refl
-two_last (a ∷ b ∷ c ∷ rest) h lt = absurd (omega arith)
+two_last xs h lt = grind arith
 
 pub one_last : (xs : List ℕ) → 1 ≤ length xs → length xs < 2 → numeric_bits xs ≡ bits 4 (digit_value (get_or xs 0 0))
 unfolding numeric_bits
-one_last [] h lt = absurd (omega arith)
-one_last (a ∷ []) h lt = refl
-one_last (a ∷ b ∷ rest) h lt = absurd (omega arith)
+one_last xs h lt = grind arith
 
 pub no_digit : (xs : List ℕ) → length xs < 1 → numeric_bits xs ≡ []
 unfolding numeric_bits
-no_digit [] h = refl
-no_digit (a ∷ rest) h = absurd (omega arith)
+no_digit xs h = grind arith
 
 pub two_more : (xs : List ℕ) → 2 ≤ length xs → alphanumeric_bits xs ≡ bits 11 (pair_value (get_or xs 0 0) (get_or xs 1 0)) ++ alphanumeric_bits (take (length xs - 2) (drop 2 xs))
 unfolding alphanumeric_bits
@@ -50,14 +43,11 @@ two_more (a ∷ b ∷ rest) h = ap (λ l. bits 11 (pair_value a b) ++ alphanumer
 
 pub character_last : (xs : List ℕ) → 1 ≤ length xs → length xs < 2 → alphanumeric_bits xs ≡ bits 6 (alnum_value (get_or xs 0 0))
 unfolding alphanumeric_bits
-character_last [] h lt = absurd (omega arith)
-character_last (a ∷ []) h lt = refl
-character_last (a ∷ b ∷ rest) h lt = absurd (omega arith)
+character_last xs h lt = grind arith
 
 pub no_character : (xs : List ℕ) → length xs < 1 → alphanumeric_bits xs ≡ []
 unfolding alphanumeric_bits
-no_character [] h = refl
-no_character (a ∷ rest) h = absurd (omega arith)
+no_character xs h = grind arith
 
 pub byte_more : (xs : List ℕ) → 1 ≤ length xs → byte_bits xs ≡ bits 8 (get_or xs 0 0) ++ byte_bits (take (length xs - 1) (drop 1 xs))
 unfolding byte_bits
@@ -68,10 +58,6 @@ pub no_byte : (xs : List ℕ) → length xs < 1 → byte_bits xs ≡ []
 unfolding byte_bits
 no_byte [] h = refl
 no_byte (a ∷ rest) h = absurd (omega arith)
-
--- the last part is written
-pub last_written : {X : Type 0} (out new whole rest front : List X) → new ≡ out ++ front → rest ≡ front → out ++ rest ≡ whole → new ≡ whole
-last_written out new whole rest front e f h = e ∙ ap (λ l. out ++ l) (sym f) ∙ h
 
 pub room_for_one : {X : Type 0} (out rest behind start all : List X) (x : X) (most : ℕ) → length start + length all ≤ most → out ++ rest ≡ start ++ all → rest ≡ (x ∷ []) ++ behind → length out + 1 ≤ most
 room_for_one out rest behind start all x most le h e = room_for out rest (x ∷ []) behind start all 1 most le h e refl

@@ -1,7 +1,6 @@
 -- The remainder of a number as a polynomial, step by step.
-use Rattle.std.proofs.Common.{◌≡◌, ℕ, ◌+◌, ◌-◌, ◌*◌, ◌/◌, ◌%◌, ◌^◌, ◌<◌, ◌≤◌, sym, subst, arith, bit_and, bit_xor, eq-eqb}
-use Rattle.std.proofs.lemmas.Bool.Decides.{eqb_tells}
-use Rattle.std.proofs.lemmas.Nat.{shl_whole, shl_below, xor_lt, pow_below}
+use Rattle.std.proofs.Common.{◌≡◌, ℕ, ◌+◌, ◌-◌, ◌*◌, ◌/◌, ◌%◌, ◌^◌, ◌<◌, ◌≤◌, sym, subst, arith, bit_and, bit_xor}
+use Rattle.std.proofs.lemmas.Nat.{shl_whole, xor_lt, pow_below}
 use Rattle.std.proofs.lemmas.Nat.Bits.{shr_and_one}
 use Rattle.vp_qr.specs.Codes.{reduced, remainder}
 
@@ -9,13 +8,13 @@ whole : (g k : ℕ) → g < 2 ^ 16 → k < 16 → g * 2 ^ k % 2 ^ 64 ≡ g * 2 ^
 whole g k hg hk = shl_whole g 16 k 64 hg (omega arith)
 
 small : (g k : ℕ) → g < 2 ^ 16 → k < 16 → g * 2 ^ k < 2 ^ 32
-small g k hg hk = grind (arith, pow_below, shl_below)
+small g k hg hk = grind (arith, pow_below)
 
 pub reduced_set : (g d k n : ℕ) → g < 2 ^ 16 → k < 16 → bit_and (n / 2 ^ (d + k)) 1 ≡ 1 → bit_xor n (g * 2 ^ k % 2 ^ 64) ≡ reduced g d k n
-reduced_set g d k n hg hk h = grind (arith, bit_xor, eq-eqb, shr_and_one, whole)
+reduced_set g d k n hg hk h = grind (arith, shr_and_one, whole)
 
 pub reduced_clear : (g d k n : ℕ) → (bit_and (n / 2 ^ (d + k)) 1 ≡ 1 → ⊥) → n ≡ reduced g d k n
-reduced_clear g d k n h = grind (arith, bit_xor, eqb_tells, shr_and_one)
+reduced_clear g d k n h = grind (arith, shr_and_one)
 
 pub reduced_small : (g k n : ℕ) → g < 2 ^ 16 → k < 16 → n < 2 ^ 32 → bit_xor n (g * 2 ^ k % 2 ^ 64) < 2 ^ 32
 reduced_small g k n hg hk hn = subst (λ m. bit_xor n m < 2 ^ 32) (sym (whole g k hg hk)) (xor_lt 32 n (g * 2 ^ k) hn (small g k hg hk))

@@ -1,10 +1,9 @@
 -- The walk by lists is the walk by arithmetic, version by version.
-use Rattle.std.proofs.Common.{◌≡◌, ℕ, zero, suc, ◌+◌, ◌-◌, ◌*◌, ◌/◌, ◌%◌, ◌<◌, ◌≤◌, ◌&&◌, ◌||◌, Bool, true, false, cond, eqb, ltb, List, [], ◌∷◌, length, get_or, take, refl, sym, ap, ◌∙◌, subst, inl, inr, arith, leb}
-use Rattle.std.proofs.Math.Nat.{mul-add-mod_self_left, mul-le-mul_left, mul-suc, mul_comm, mul_assoc, mod-eq_of_lt}
+use Rattle.std.proofs.Common.{◌≡◌, ℕ, zero, suc, ◌+◌, ◌-◌, ◌*◌, ◌/◌, ◌%◌, ◌<◌, ◌≤◌, ◌&&◌, ◌||◌, Bool, true, false, cond, eqb, ltb, List, [], ◌∷◌, length, get_or, take, refl, ap, ◌∙◌, arith, leb}
+use Rattle.std.proofs.Math.Nat.{mul-add-mod_self_left, mul-le-mul_left, mul-suc, mul_comm, mod-eq_of_lt}
 use Rattle.std.proofs.lemmas.Nat.{div-mul-add}
 use Rattle.std.specs.List.{filter, position_or_len}
-use Rattle.std.proofs.lemmas.Bool.Decides.{eqb_tells}
-use Rattle.std.proofs.lemmas.Bool.{eq-eqb, cases_Bool, and_parts, eqb-true, ltb-true, leb-true}
+use Rattle.std.proofs.lemmas.Bool.{eq-eqb, and_parts, eqb-true, leb-true}
 use Rattle.vp_qr.specs.declared.walk.Place.{Place}
 use Rattle.vp_qr.specs.Places.{size}
 use Rattle.vp_qr.specs.Walk.{walk, pairs, upwards, downwards, place, rank, steps, right_column, is_free, is_at, number_of, free_places}
@@ -55,9 +54,6 @@ module _ (v : ℕ) (low : 1 ≤ v) (high : v ≤ 10) where
   pub rank_place : (m : ℕ) → m < steps (size v) → rank (size v) (place (size v) m).row (place (size v) m).column ≡ m
   rank_place m lt = eqb-true _ _ (and_parts _ _ (and_parts _ _ (and_parts _ _ (and_parts _ _ (back m lt)).0).0).0).0
 
-  pub place_row : (m : ℕ) → m < steps (size v) → (place (size v) m).row < size v
-  place_row m lt = ltb-true _ _ (and_parts _ _ (and_parts _ _ (and_parts _ _ (and_parts _ _ (back m lt)).0).0).0).1
-
   there : (i j : ℕ) → i < size v → j < size v → goes_there (size v) i j ≡ true
   there i j hi hj =
       passes_at (size v) (goes_there (size v) i)
@@ -68,19 +64,12 @@ module _ (v : ℕ) (low : 1 ≤ v) (high : v ≤ 10) where
 numbered_at : (s m : ℕ) (ps : List Place) (n : ℕ) (d : Place) → numbered s m ps ≡ true → n < length ps
     → ((get_or ps n d).row ≡ (place s (m + n)).row) × ((get_or ps n d).column ≡ (place s (m + n)).column)
 numbered_at s m [] n d h lt = absurd (omega arith)
-numbered_at s m (p ∷ ps) zero d h lt =
-    let parts = and_parts _ _ (and_parts _ _ h).0 in
-    let e : m ≡ m + 0 = omega arith in
-    subst (λ (k : ℕ). (p.row ≡ (place s k).row) × (p.column ≡ (place s k).column)) e (eqb-true _ _ parts.0, eqb-true _ _ parts.1)
-numbered_at s m (p ∷ ps) (suc n) d h lt =
-    let rest = numbered_at s (m + 1) ps n d (and_parts _ _ h).1 (omega arith) in
-    let e : m + 1 + n ≡ m + suc n = omega arith in
-    subst (λ (k : ℕ). ((get_or ps n d).row ≡ (place s k).row) × ((get_or ps n d).column ≡ (place s k).column)) e rest
+numbered_at s m (p ∷ ps) zero d h lt = grind arith
+numbered_at s m (p ∷ ps) (suc n) d h lt = grind (arith, numbered_at s (m + 1) ps n d)
 
 among_more : (t f : Place → Bool) (p : Place) (ps : List Place) (m : ℕ) (b : Bool) → t p ≡ false → position_or_len t (filter f ps) ≡ length (filter f (take m ps))
     → position_or_len t (cond b (p ∷ filter f ps) (filter f ps)) ≡ length (cond b (p ∷ filter f (take m ps)) (filter f (take m ps)))
-among_more t f p ps m true here rest = rw here (ap (λ (k : ℕ). 1 + k) rest ∙ omega arith)
-among_more t f p ps m false here rest = rest
+among_more t f p ps m b here rest = grind arith
 
 -- the first element that passes t, among those that pass f
 pub first_among : (t f : Place → Bool) (ps : List Place) (m : ℕ) (d : Place) → m < length ps → t (get_or ps m d) ≡ true → f (get_or ps m d) ≡ true
@@ -96,50 +85,21 @@ first_among t f (p ∷ ps) (suc m) d lt ht hf before =
 -- where the walk comes to a place
 module _ (v : ℕ) (low : 1 ≤ v) (high : v ≤ 10) where
   pub rank_there : (i j : ℕ) → i < size v → j < size v → (j ≡ 6 → ⊥) → (place (size v) (rank (size v) i j)).row ≡ i
-  rank_there i j hi hj ne =
-      elim (eqb_tells j 6) [
-        | inl h ↦ absurd (ne h.1)
-        | inr h ↦ eqb-true _ _ (and_parts _ _ (and_parts _ _ (rw h.0 at (there v low high i j hi hj))).0).0
-      ]
+  rank_there i j hi hj ne = grind (arith, there v low high i j hi hj)
 
   pub rank_there_column : (i j : ℕ) → i < size v → j < size v → (j ≡ 6 → ⊥) → (place (size v) (rank (size v) i j)).column ≡ j
-  rank_there_column i j hi hj ne =
-      elim (eqb_tells j 6) [
-        | inl h ↦ absurd (ne h.1)
-        | inr h ↦ eqb-true _ _ (and_parts _ _ (and_parts _ _ (rw h.0 at (there v low high i j hi hj))).0).1
-      ]
+  rank_there_column i j hi hj ne = grind (arith, there v low high i j hi hj)
 
   pub rank_below : (i j : ℕ) → i < size v → j < size v → (j ≡ 6 → ⊥) → rank (size v) i j < steps (size v)
-  rank_below i j hi hj ne =
-      elim (eqb_tells j 6) [
-        | inl h ↦ absurd (ne h.1)
-        | inr h ↦ ltb-true _ _ (and_parts _ _ (rw h.0 at (there v low high i j hi hj))).1
-      ]
+  rank_below i j hi hj ne = grind (arith, there v low high i j hi hj)
 
   -- the walk's module number m is the one by arithmetic
   pub walk_at : (m : ℕ) (d : Place) → m < steps (size v) → ((get_or (walk (size v)) m d).row ≡ (place (size v) m).row) × ((get_or (walk (size v)) m d).column ≡ (place (size v) m).column)
-  walk_at m d lt =
-      let e : 0 + m ≡ m = omega arith in
-      subst (λ (n : ℕ). ((get_or (walk (size v)) m d).row ≡ (place (size v) n).row) × ((get_or (walk (size v)) m d).column ≡ (place (size v) n).column)) e
-      (numbered_at (size v) 0 (walk (size v)) m d (walk_same v low high) (omega (arith, walk_length v low high)))
+  walk_at m d lt = grind (arith, numbered_at (size v) 0 (walk (size v)) m d, walk_same v low high, walk_length v low high)
 
   -- no earlier module of the walk is that of number m
   pub not_before : (m n : ℕ) (d : Place) → m < steps (size v) → n < m → is_at (place (size v) m).row (place (size v) m).column (get_or (walk (size v)) n d) ≡ false
-  not_before m n d lt h =
-      let w : Place = get_or (walk (size v)) n d in
-      let p : Place = place (size v) m in
-      let q : Place = place (size v) n in
-      let same = walk_at n d (omega arith) in
-      elim (cases_Bool (is_at p.row p.column w)) [
-        | inr apart ↦ apart
-        | inl met ↦
-            let parts = and_parts _ _ met in
-            let row : q.row ≡ p.row = sym same.0 ∙ eqb-true _ _ parts.0 in
-            let column : q.column ≡ p.column = sym same.1 ∙ eqb-true _ _ parts.1 in
-            let ranks : n ≡ m =
-            sym (rank_place v low high n (omega arith)) ∙ ap (λ (k : ℕ). rank (size v) k q.column) row ∙ ap (λ (k : ℕ). rank (size v) p.row k) column ∙ rank_place v low high m lt in
-            absurd (omega arith)
-      ]
+  not_before m n d lt h = grind (arith, walk_at n d, rank_place v low high n, rank_place v low high m lt)
 
   -- a free module's number is how many free ones the walk met before it
   pub number_is : (m : ℕ) (d : Place) → m < steps (size v) → is_free v (place (size v) m) ≡ true
@@ -162,9 +122,7 @@ module _ (v : ℕ) (low : 1 ≤ v) (high : v ≤ 10) (pair step : ℕ) (hp : pai
   step_of = mul-add-mod_self_left (2 * size v) pair step ∙ mod-eq_of_lt hs
 
   half_of : (2 * size v * pair + step) % 2 ≡ step % 2
-  half_of =
-      let e : 2 * size v * pair ≡ 2 * (size v * pair) = mul_assoc 2 (size v) pair in
-      omega (arith, e)
+  half_of = grind arith
 
   abbrev made : Place → Place
   made p = p
@@ -176,10 +134,7 @@ module _ (v : ℕ) (low : 1 ≤ v) (high : v ≤ 10) (pair step : ℕ) (hp : pai
 
   pub place_here : (up : Bool) (right : ℕ) → right ≡ right_column ((size v - 1) / 2 - 1 - pair) → eqb (((size v - 1) / 2 - 1 - pair) % 2) 1 ≡ up
       → ◌≡◌ {A = Place} (record { row = cond up (size v - 1 - step / 2) (step / 2); column = right - step % 2 }) (place (size v) (2 * size v * pair + step))
-  place_here up right e f =
-      ap (λ n. made (record { row = cond up (size v - 1 - step / 2) (step / 2); column = n - step % 2 })) e
-      ∙ ap (λ b. made (record { row = cond b (size v - 1 - step / 2) (step / 2); column = right_column ((size v - 1) / 2 - 1 - pair) - step % 2 })) (sym f)
-      ∙ sym place_of
+  place_here up right e f = grind (arith, place_of)
 
   pub step_within : 2 * size v * pair + step < steps (size v)
   step_within =
@@ -193,17 +148,10 @@ module _ (v : ℕ) (low : 1 ≤ v) (high : v ≤ 10) (pair half : ℕ) (hp : pai
   in_row rows column = record { row = cond up (size v - 1 - rows) rows; column = column }
 
   pub right_here : in_row half right ≡ place (size v) (2 * size v * pair + 2 * half)
-  right_here =
-      let rows : half ≡ 2 * half / 2 = omega arith in
-      let column : right ≡ right - 2 * half % 2 = omega arith in
-      ap (λ n. in_row n right) rows ∙ ap (in_row (2 * half / 2)) column ∙ place_here v low high pair (2 * half) hp (omega arith) up right e f
+  right_here = grind (arith, place_here v low high pair (2 * half) hp)
 
   pub left_here : in_row half (right - 1) ≡ place (size v) (2 * size v * pair + 2 * half + 1)
-  left_here =
-      let rows : half ≡ (2 * half + 1) / 2 = omega arith in
-      let column : right - 1 ≡ right - (2 * half + 1) % 2 = omega arith in
-      let number : 2 * size v * pair + (2 * half + 1) ≡ 2 * size v * pair + 2 * half + 1 = omega arith in
-      ap (λ n. in_row n (right - 1)) rows ∙ ap (in_row ((2 * half + 1) / 2)) column ∙ place_here v low high pair (2 * half + 1) hp (omega arith) up right e f ∙ ap (place (size v)) number
+  left_here = grind (arith, place_here v low high pair (2 * half + 1) hp)
 
 pub steps_of_pairs : (v : ℕ) → 1 ≤ v → v ≤ 10 → steps (size v) ≤ 2 * size v * ((size v - 1) / 2)
 steps_of_pairs v low high = leb-true _ _ (for_version (λ n. leb (steps (size n)) (2 * size n * ((size n - 1) / 2))) refl v low high)

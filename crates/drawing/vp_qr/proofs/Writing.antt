@@ -1,5 +1,5 @@
 -- Bit strings as they are written.
-use Rattle.std.proofs.Common.{◌≡◌, ℕ, zero, suc, ◌+◌, ◌-◌, ◌*◌, ◌^◌, ◌<◌, ◌≤◌, Bool, true, false, eqb, List, [], ◌∷◌, ◌++◌, length, take, drop, refl, sym, ap, ◌∙◌, arith, append_assoc, append-nil, cond, pow-suc, add-one, get_or, drop-cons}
+use Rattle.std.proofs.Common.{◌≡◌, ℕ, zero, suc, ◌+◌, ◌-◌, ◌*◌, ◌^◌, ◌<◌, ◌≤◌, Bool, false, eqb, List, [], ◌∷◌, ◌++◌, length, take, drop, refl, sym, ap, ◌∙◌, arith, append_assoc, append-nil, cond, pow-suc, add-one, get_or, drop-cons}
 use Rattle.std.proofs.Math.ListN.{drop_of_length-le}
 use Rattle.std.specs.Int.{bit_at}
 use Rattle.vp_qr.specs.Strings.{bits, number_behind, bytes_of, pads, pad}
@@ -33,15 +33,7 @@ bytes_more (a ∷ b ∷ c ∷ d ∷ e ∷ f ∷ g ∷ h ∷ rest) le = refl
 
 pub bytes_none : (string : List Bool) → length string < 8 → bytes_of string ≡ []
 unfolding bytes_of
-bytes_none [] h = refl
-bytes_none (a ∷ []) h = refl
-bytes_none (a ∷ b ∷ []) h = refl
-bytes_none (a ∷ b ∷ c ∷ []) h = refl
-bytes_none (a ∷ b ∷ c ∷ d ∷ []) h = refl
-bytes_none (a ∷ b ∷ c ∷ d ∷ e ∷ []) h = refl
-bytes_none (a ∷ b ∷ c ∷ d ∷ e ∷ f ∷ []) h = refl
-bytes_none (a ∷ b ∷ c ∷ d ∷ e ∷ f ∷ g ∷ []) h = refl
-bytes_none (a ∷ b ∷ c ∷ d ∷ e ∷ f ∷ g ∷ h ∷ rest) le = absurd (omega arith)
+bytes_none string h1 = grind arith
 
 -- one bit more of a number
 pub number_more : (n : ℕ) (bit : Bool) (rest : List Bool) → number_behind n (bit ∷ rest) ≡ number_behind (2 * n + cond bit 1 0) rest
@@ -81,8 +73,7 @@ pub number_step : (eight : List Bool) (n k b : ℕ) → k < length eight → b �
 number_step eight n k b lt e h = grind (arith, drop-cons, number_more)
 
 pub bit_small : (bit : Bool) (b : ℕ) → b ≡ cond bit 1 0 → b < 2
-bit_small true b e = omega arith
-bit_small false b e = omega arith
+bit_small bit b e = grind arith
 
 pub number_end : (eight : List Bool) (n k : ℕ) → length eight ≤ k → number_behind n (drop k eight) ≡ number_behind 0 eight → n ≡ number_behind 0 eight
 number_end eight n k le h = sym (number_all n) ∙ ap (number_behind n) (sym (drop_of_length-le eight le)) ∙ h

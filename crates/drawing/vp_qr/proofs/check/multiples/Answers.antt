@@ -1,5 +1,5 @@
 use Rattle.std.proofs.Common.{ℕ, arith, ◌∙◌, length-set, replicate}
-use Rattle.vp_qr.proofs.Multiples.{multiples_none, two_multiples, length_row, row_byte}
+use Rattle.vp_qr.proofs.Multiples.{multiples_none, two_multiples, row_byte}
 use Rattle.vp_qr.proofs.check.multiples.Goals as goal
 
 pub loop-half-init : goal.loop-half-init
@@ -10,7 +10,7 @@ loop-half-init c = record {
 }
 
 pub loop-half-preserved : goal.loop-half-preserved
-loop-half-preserved c = grind (arith, length-set, length_row, row_byte, two_multiples)
+loop-half-preserved c = grind (arith, length-set, row_byte, two_multiples)
 
 pub returns : goal.returns
 returns c = grind arith

@@ -1,4 +1,4 @@
-use Rattle.std.proofs.Common.{◌≤◌, ◌+◌, ◌*◌, arith, mul-le-mul_right}
+use Rattle.std.proofs.Common.{arith}
 use Rattle.vp_qr.proofs.InkLines.{no_modules, module_more}
 use Rattle.vp_qr.proofs.ink.modules_word.Goals as goal
 
@@ -6,7 +6,4 @@ pub loop-column-init : goal.loop-column-init
 loop-column-init c = no_modules c.args.line c.args.scale
 
 pub loop-column-preserved : goal.loop-column-preserved
-loop-column-preserved c =
-    let below : (c.loop-column.column + 1) * c.args.scale ≤ c.args.modules * c.args.scale = mul-le-mul_right c.args.scale (omega arith) in
-    module_more c.args.line c.loop-column.column c.args.scale c.loop-column.word c.first_dots-module.result c.only-word.result c.is_dark-has.result c.requires.some (omega arith)
-    c.first_dots-module.type_inv c.first_dots-module.ensures c.is_dark-has.ensures c.only-word.ensures c.loop-column.invariant
+loop-column-preserved c = grind (arith, module_more c.args.line c.loop-column.column c.args.scale c.loop-column.word c.first_dots-module.result c.only-word.result c.is_dark-has.result c.requires.some)

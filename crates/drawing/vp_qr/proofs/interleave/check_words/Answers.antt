@@ -1,13 +1,11 @@
 use Rattle.std.proofs.Common.{◌++◌, ap, ◌∙◌, arith, length, length-append}
-use Rattle.std.proofs.lemmas.Nat.{row_fits}
 use Rattle.vp_qr.proofs.Parts.{part_written}
 use Rattle.vp_qr.proofs.Writing.{written_all}
 use Rattle.vp_qr.proofs.Interleaving.{checks_more, checks_end}
 use Rattle.vp_qr.proofs.interleave.check_words.Goals as goal
 
 pub push_all-requires : goal.push_all-requires
-push_all-requires c =
-    omega (arith, row_fits c.loop-block.block c.args.blocks.check 8 30 (omega arith) (omega arith), c.loop-block.invariant.1, ap length c.as_slice.ensures.value, c.check_block-check.ensures.count)
+push_all-requires c = grind arith
 
 pub loop-block-preserved : goal.loop-block-preserved
 loop-block-preserved c = (

@@ -1,7 +1,6 @@
 use Rattle.std.proofs.Common.{arith}
 use Rattle.vp_qr.proofs.Modules.{either}
-use Rattle.vp_qr.proofs.RowParts.{corner_span, first_columns}
 use Rattle.vp_qr.proofs.lines.corners.Goals as goal
 
 pub returns : goal.returns
-returns c = grind (arith, corner_span, either, first_columns)
+returns c = grind (arith, either)

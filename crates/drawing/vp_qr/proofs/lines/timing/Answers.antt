@@ -1,7 +1,6 @@
 use Rattle.std.proofs.Common.{arith}
 use Rattle.vp_qr.proofs.Modules.{either}
-use Rattle.vp_qr.proofs.RowParts.{one_column, all_columns}
 use Rattle.vp_qr.proofs.lines.timing.Goals as goal
 
 pub returns : goal.returns
-returns c = grind (arith, all_columns, either, one_column)
+returns c = grind (arith, either)

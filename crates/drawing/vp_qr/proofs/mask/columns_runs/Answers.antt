@@ -1,5 +1,5 @@
 use Rattle.std.proofs.Common.{◌≡◌, ℕ, suc, ◌+◌, ◌-◌, ◌*◌, ◌&&◌, not, ap, sym, ◌∙◌, arith}
-use Rattle.vp_qr.specs.Penalty.{sum_below, line_from, runs_penalty, runs}
+use Rattle.vp_qr.specs.Penalty.{sum_below}
 use Rattle.vp_qr.specs.Walk.{dark}
 use Rattle.vp_qr.proofs.Counting.{sum_more, sum_same, sum_set, sum_swap}
 use Rattle.vp_qr.proofs.Modules.{both, other, is_set_zero}
@@ -31,11 +31,6 @@ loop-at-preserved c =
 
 pub returns-clause-penalty : goal.returns-clause-penalty
 returns-clause-penalty c =
-    let rows = c.args.rows.now in
-    let s : ℕ = c.args.size in
-    let end : c.loop-at.at ≡ s - 4 = omega (arith, c.loop-at-test.false, c.loop-at.auto.at-end) in
-    c.loop-at.invariant.0
-    ∙ ap (λ n. sum_below n (λ p. sum_below s (λ j. five_penalty (λ i. dark rows i j) p))) end
-    ∙ sum_swap (s - 4) s (λ p j. five_penalty (λ i. dark rows i j) p)
-    ∙ sum_same s (λ j. sum_below (s - 4) (five_penalty (λ i. dark rows i j))) (λ j. runs_penalty (runs (line_from (λ i. dark rows i j) 0 s)))
-    (λ j _. sym (runs_are (λ i. dark rows i j) s (omega arith)))
+    let end : c.loop-at.at ≡ c.args.size - 4 = omega (arith, c.loop-at-test.false, c.loop-at.auto.at-end) in
+    rw (c.loop-at.invariant.0, end, sum_swap (c.args.size - 4) c.args.size (λ p j. five_penalty (λ i. dark c.args.rows.now i j) p))
+    (sum_same c.args.size (λ j. sum_below (c.args.size - 4) (five_penalty (λ i. dark c.args.rows.now i j))) _ (λ j _. sym (runs_are (λ i. dark c.args.rows.now i j) c.args.size (omega arith))))

@@ -1,4 +1,4 @@
-use Rattle.std.proofs.Common.{ℕ, ◌<◌, get_or-set_same, get_or-set_other, length-set, ap, ◌∙◌, arith, below_more}
+use Rattle.std.proofs.Common.{ℕ, ◌<◌, get_or-set_same, get_or-set_other, length-set, ap, ◌∙◌, arith}
 use Rattle.vp_qr.specs.Places.{size}
 use Rattle.vp_qr.specs.Penalty.{penalty}
 use Rattle.vp_qr.specs.Encoding.{masked, least_place, best_mask}
@@ -7,7 +7,7 @@ use Rattle.vp_qr.proofs.Choosing.{penalties_are}
 use Rattle.vp_qr.proofs.qr.best_mask.Goals as goal
 
 pub loop-mask-preserved : goal.loop-mask-preserved
-loop-mask-preserved c = grind (arith, below_more, get_or-set_other, get_or-set_same, length-set, penalty_same)
+loop-mask-preserved c = grind (arith, get_or-set_other, get_or-set_same, length-set, penalty_same)
 
 pub returns-clause-mask : goal.returns-clause-mask
 unfolding best_mask

@@ -1,7 +1,6 @@
 use Rattle.std.proofs.Common.{arith}
 use Rattle.vp_qr.proofs.Modules.{both, either, other}
-use Rattle.vp_qr.proofs.ShapeLines.{chosen_is}
 use Rattle.vp_qr.proofs.shapes.chosen.Goals as goal
 
 pub returns : goal.returns
-returns c = grind (arith, both, chosen_is, either, other)
+returns c = grind (arith, both, either, other)

@@ -1,5 +1,4 @@
-use Rattle.std.proofs.Common.{ℕ, ◌-◌, ◌<◌, bit_and, arith}
-use Rattle.std.proofs.lemmas.Nat.{and_le_r}
+use Rattle.std.proofs.Common.{ℕ, ◌-◌, ◌<◌, arith}
 use Rattle.std.proofs.lemmas.Nat.Bits.{shr_and_one}
 use Rattle.vp_qr.specs.Penalty.{is_set}
 use Rattle.vp_qr.proofs.FreeModules.{made_none, made_all}
@@ -10,7 +9,7 @@ pub loop-at-init : goal.loop-at-init
 loop-at-init c = made_none (λ j. is_set c.args.format (14 - j))
 
 pub loop-at-preserved : goal.loop-at-preserved
-loop-at-preserved c = grind (arith, and_le_r, bit_and, made_bit, shr_and_one)
+loop-at-preserved c = grind (arith, made_bit, shr_and_one)
 
 pub returns : goal.returns
 returns c = λ (j : ℕ) (h : j < 15). made_all (λ j. is_set c.args.format (14 - j)) c.loop-at.bits c.loop-at.at c.loop-at.invariant j (omega arith) (omega arith)
