@@ -1,9 +1,8 @@
 -- Data of a known length.
-use Rattle.std.proofs.Common.{◌≡◌, ℕ, ◌+◌, ◌-◌, ◌*◌, ◌<◌, ◌≤◌, true, false, ltb, eqb, Option, Some, Ok, List, [], ◌∷◌, ◌++◌, length, get_or, refl, sym, ap, subst, ◌∙◌, append_assoc, arith, ⊎_elim, is_some, is_none}
+use Rattle.std.proofs.Common.{◌≡◌, ℕ, ◌+◌, ◌-◌, ◌*◌, true, false, ltb, eqb, Option, Some, Ok, List, [], ◌∷◌, ◌++◌, length, get_or, refl, sym, ap, subst, ◌∙◌, append_assoc, arith}
 use Rattle.std.proofs.lemmas.Grind.{common_steps}
 use Rattle.std.specs.Prelude.{option_to_list}
 use Rattle.std.proofs.lemmas.Bool.Decides.{nat_tests}
-use Rattle.std.proofs.lemmas.Bool.{cases_lt}
 use Rattle.arrayvec.specs.ArrayVec.{ArrayVec}
 use Rattle.vp_esc.specs.declared.item.EscItem.{EscItem}
 use Rattle.vp_esc.specs.declared.item.EscItem.TheVariants as items
@@ -17,9 +16,9 @@ use Rattle.vp_esc.specs.declared.reader.Data.TheVariants as kinds
 use Rattle.vp_esc.specs.declared.reader.Phase.TheVariants as phases
 use Rattle.vp_esc.specs.Values.{spelled, scale_of}
 use Rattle.vp_esc.specs.Command.{head_len}
-use Rattle.vp_esc.specs.Units.{given_by, given_behind, is_counted, is_short, data_len, raster_bytes, unused, prints_rows, is_skipped, stores_bytes}
+use Rattle.vp_esc.specs.Units.{given_by, given_behind, is_counted, data_len, raster_bytes, unused, prints_rows, is_skipped, stores_bytes}
 use Rattle.vp_esc.specs.Reader.{StandsIn, in_phase, Begun, Advances, Lands, InBytes, data_item, data_items, bytes_or_ground, raster_data, are_rows, give_nothing, are_stored}
-use Rattle.vp_esc.proofs.Fronts.{lands_open, lands_whole, continues, completes, begun_longer}
+use Rattle.vp_esc.proofs.Fronts.{lands_by, advances_by, stands_before, begun_longer}
 use Rattle.vp_esc.proofs.Heads.{given_is, needs_counted, IsPushed, pushed}
 
 -- The head, behind which so many bytes come.
@@ -31,27 +30,19 @@ pub land_bytes : (r : EscReader) (command : Command) (kind : Data) (left : ℕ) 
     → given_by r.lead r.name command r.kept.items ≡ item ∷ []
     → ((more : List ℕ) → given_by r.lead r.name command (r.kept.items ++ more) ≡ item ∷ data_items kind more)
     → Lands (Some item) rest (record r { phase = bytes_or_ground kind left; kept = final })
-land_bytes r command kind left rest item final b enough counted l rows skipped stored g behind = ⊎_elim
-    (λ (h : left < 1).
-    let z : eqb left 0 ≡ true = grind (arith, nat_tests) in
-    let s : is_short command r.kept.items ≡ false = grind (arith, nat_tests) in
-    rw z (lands_whole (Some item) (record r { phase = phases.Ground; kept = final }) b (needs_counted command r.kept.items counted ∙ s) g refl))
-    (λ (h : 1 ≤ left).
-    let z : eqb left 0 ≡ false = grind (arith, nat_tests) in
-    let s : is_short command r.kept.items ≡ true = grind (arith, nat_tests) in
-    let new : EscReader = record r { phase = phases.Bytes kind left; kept = final } in
-    rw z (lands_open (Some item) new b (needs_counted command r.kept.items counted ∙ s) g (record {
+land_bytes r command kind left rest item final b enough counted l rows skipped stored g behind =
+    lands_by (ltb 0 left) _ _ b (grind (arith, needs_counted, nat_tests)) g
+    (stands_before (record r { kept = final }) (phases.Bytes kind left) left rest (λ h. record {
       command = command;
       args = r.kept.items;
       begun = b;
       counted = counted;
-      left_is = record { head = omega arith; some_left = omega arith; count = omega arith };
+      left_is = record { head = omega arith; some_left = h; count = omega arith };
       rows = rows;
       skipped = skipped;
       stored = stored;
       gives = λ more. behind more ∙ ap (λ xs. xs ++ data_items kind more) (sym g);
-    })))
-    (cases_lt left 1)
+    }))
 
 -- the items of one byte, and of one more
 pub one_item : (kind : Data) (c : ℕ) → data_items kind (c ∷ []) ≡ option_to_list (data_item kind c)
@@ -65,19 +56,9 @@ pub bytes_step : (r : EscReader) (kind : Data) (left c : ℕ) (rest : List ℕ) 
     → Advances (Ok (data_item kind c)) rest c (record r { phase = bytes_or_ground kind (left - 1) })
 bytes_step r kind left c rest hand =
     let p : IsPushed hand.command hand.args left c = pushed hand.command hand.args left c hand.begun.listed hand.counted hand.left_is in
-    let g : given_by r.lead r.name hand.command (hand.args ++ c ∷ [])
-    ≡ given_by r.lead r.name hand.command hand.args ++ option_to_list (data_item kind c) =
-    hand.gives (c ∷ []) ∙ ap (λ xs. given_by r.lead r.name hand.command hand.args ++ xs) (one_item kind c) in
-    ⊎_elim
-    (λ (h : left < 2).
-    let z : eqb (left - 1) 0 ≡ true = grind (arith, nat_tests) in
-    let s : ltb 1 left ≡ false = grind (arith, nat_tests) in
-    rw z (completes c (data_item kind c) (record r { phase = phases.Ground }) hand.begun p.listed (p.needs ∙ s) g refl))
-    (λ (h : 2 ≤ left).
-    let z : eqb (left - 1) 0 ≡ false = grind (arith, nat_tests) in
-    let s : ltb 1 left ≡ true = grind (arith, nat_tests) in
-    let new : EscReader = record r { phase = phases.Bytes kind (left - 1) } in
-    rw z (continues c (data_item kind c) new hand.begun p.listed (p.needs ∙ s) g (record {
+    advances_by _ c (data_item kind c) _ hand.begun p.listed p.needs
+    (hand.gives (c ∷ []) ∙ ap (λ xs. given_by r.lead r.name hand.command hand.args ++ xs) (one_item kind c))
+    (stands_before r (phases.Bytes kind (left - 1)) (left - 1) (rest ++ c ∷ []) (λ h. record {
       command = hand.command;
       args = hand.args ++ c ∷ [];
       begun = begun_longer c hand.begun p.listed;
@@ -87,8 +68,7 @@ bytes_step r kind left c rest hand =
       skipped = p.skipped ∙ hand.skipped;
       stored = λ more. ap (stores_bytes hand.command) (append_assoc hand.args (c ∷ []) more) ∙ hand.stored (c ∷ more);
       gives = grind (arith, append_assoc, next_item);
-    })))
-    (cases_lt left 2)
+    }))
 
 -- a byte of a raster
 pub raster_step : (r : EscReader) (left c : ℕ) (rest : List ℕ) → r.phase ≡ phases.Bytes kinds.Raster left → StandsIn r rest
@@ -101,26 +81,14 @@ pub six : (xs : List ℕ) → length xs ≡ 6
     → xs ≡ get_or xs 0 0 ∷ get_or xs 1 0 ∷ get_or xs 2 0 ∷ get_or xs 3 0 ∷ get_or xs 4 0 ∷ get_or xs 5 0 ∷ []
 six xs h = grind (arith, common_steps)
 
-raster_items : (scale : Option RasterScale) (bytes : List ℕ) → raster_bytes scale bytes ≡ data_items (raster_data scale) bytes
-raster_items scale bytes = grind arith
-
 raster_given : (lead : Lead) (name z m xl xh yl yh : ℕ) (more : List ℕ)
     → given_by lead name Raster (z ∷ m ∷ xl ∷ xh ∷ yl ∷ yh ∷ more)
     ≡ items.Raster (spelled m (scale_of m)) (xl + 256 * xh) (yl + 256 * yh) ∷ raster_bytes (scale_of m) more
 unfolding given_behind
 raster_given lead name z m xl xh yl yh more = given_is lead name Raster (z ∷ m ∷ xl ∷ xh ∷ yl ∷ yh ∷ more) (omega arith)
 
-rows_are : (scale : Option RasterScale) → is_some scale ≡ are_rows (raster_data scale)
-rows_are scale = grind arith
-
-skipped_are : (scale : Option RasterScale) → is_none scale ≡ give_nothing (raster_data scale)
-skipped_are scale = grind arith
-
 none_stored : (scale : Option RasterScale) → false ≡ are_stored (raster_data scale)
 none_stored scale = grind arith
-
-no_bytes : (scale : Option RasterScale) → raster_bytes scale [] ≡ []
-no_bytes scale = grind arith
 
 pub land_raster : (r : EscReader) (z m xl xh yl yh left : ℕ) (rest : List ℕ) → Begun r.lead r.name Raster r.kept.items rest
     → r.kept.items ≡ z ∷ m ∷ xl ∷ xh ∷ yl ∷ yh ∷ [] → left ≡ (xl + 256 * xh) * (yl + 256 * yh)
@@ -128,10 +96,9 @@ pub land_raster : (r : EscReader) (z m xl xh yl yh left : ℕ) (rest : List ℕ)
     (record r { phase = bytes_or_ground (raster_data (scale_of m)) left })
 land_raster r z m xl xh yl yh left rest b k l =
     let item : EscItem = items.Raster (spelled m (scale_of m)) (xl + 256 * xh) (yl + 256 * yh) in
-    let b' : Begun r.lead r.name Raster (z ∷ m ∷ xl ∷ xh ∷ yl ∷ yh ∷ []) rest = rw k at b in
-    land_bytes r Raster (raster_data (scale_of m)) left rest item r.kept b (rw k refl) refl (rw k l) (rw k (rows_are (scale_of m))) (rw k (skipped_are (scale_of m))) (λ more. none_stored (scale_of m))
-    (rw k (raster_given r.lead r.name z m xl xh yl yh [] ∙ ap (λ xs. item ∷ xs) (no_bytes (scale_of m))))
-    (λ more. rw k (raster_given r.lead r.name z m xl xh yl yh more ∙ ap (λ xs. item ∷ xs) (raster_items (scale_of m) more)))
+    land_bytes r Raster (raster_data (scale_of m)) left rest item r.kept b (rw k refl) refl (rw k l) (rw k (grind arith)) (rw k (grind arith)) (λ more. none_stored (scale_of m))
+    (rw k (raster_given r.lead r.name z m xl xh yl yh [] ∙ ap (λ xs. item ∷ xs) (grind arith)))
+    (λ more. rw k (raster_given r.lead r.name z m xl xh yl yh more ∙ ap (λ xs. item ∷ xs) (grind arith)))
 
 -- Functions without effect, and graphics.
 
@@ -141,28 +108,20 @@ three xs h = grind (arith, common_steps)
 pub five : (xs : List ℕ) → length xs ≡ 5 → xs ≡ get_or xs 0 0 ∷ get_or xs 1 0 ∷ get_or xs 2 0 ∷ get_or xs 3 0 ∷ get_or xs 4 0 ∷ []
 five xs h = grind (arith, common_steps)
 
-function_given : (lead : Lead) (name x pl ph : ℕ) (more : List ℕ) → eqb x 107 ≡ false
-    → given_by lead name Function (x ∷ pl ∷ ph ∷ more) ≡ unused lead name (x ∷ pl ∷ ph ∷ []) ∷ []
-unfolding given_behind
-function_given lead name x pl ph more e = given_is lead name Function (x ∷ pl ∷ ph ∷ more) (omega arith) ∙ rw e refl
-
 pub land_function : (r : EscReader) (x pl ph left : ℕ) (rest : List ℕ) → Begun r.lead r.name Function r.kept.items rest
     → r.kept.items ≡ x ∷ pl ∷ ph ∷ [] → left ≡ pl + 256 * ph → eqb x 107 ≡ false
     → Lands (Some (unused r.lead r.name r.kept.items)) rest (record r { phase = bytes_or_ground kinds.Skipped left })
+unfolding given_behind
 land_function r x pl ph left rest b k l e =
     land_bytes r Function kinds.Skipped left rest (unused r.lead r.name r.kept.items) r.kept b (rw k refl) refl (rw k l) refl (rw k (rw e refl)) (λ more. rw k (rw e refl))
-    (rw k (function_given r.lead r.name x pl ph [] e))
-    (λ more. rw k (function_given r.lead r.name x pl ph more e))
-
-graphics_given : (lead : Lead) (name l a b c d : ℕ) (more : List ℕ)
-    → given_by lead name Graphics (l ∷ a ∷ b ∷ c ∷ d ∷ more) ≡ unused lead name (l ∷ a ∷ b ∷ c ∷ d ∷ []) ∷ []
-unfolding given_behind
-graphics_given lead name l a b c d more = given_is lead name Graphics (l ∷ a ∷ b ∷ c ∷ d ∷ more) (omega arith)
+    (rw k (grind (arith, given_is)))
+    (λ more. rw k (grind (arith, given_is)))
 
 pub land_graphics : (r : EscReader) (l p q s t left : ℕ) (rest : List ℕ) → Begun r.lead r.name Graphics r.kept.items rest
     → r.kept.items ≡ l ∷ p ∷ q ∷ s ∷ t ∷ [] → left ≡ p + 256 * q + 65536 * (s + 256 * t)
     → Lands (Some (unused r.lead r.name r.kept.items)) rest (record r { phase = bytes_or_ground kinds.Skipped left })
+unfolding given_behind
 land_graphics r l p q s t left rest b k e =
     land_bytes r Graphics kinds.Skipped left rest (unused r.lead r.name r.kept.items) r.kept b (rw k refl) refl (rw k e) refl refl (λ more. refl)
-    (rw k (graphics_given r.lead r.name l p q s t []))
-    (λ more. rw k (graphics_given r.lead r.name l p q s t more))
+    (rw k (grind (arith, given_is)))
+    (λ more. rw k (grind (arith, given_is)))

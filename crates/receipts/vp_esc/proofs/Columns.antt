@@ -1,13 +1,11 @@
 -- Columns of ESC *.
-use Rattle.std.proofs.Common.{◌≡◌, ◌≢◌, ℕ, ◌+◌, ◌-◌, ◌*◌, ◌<◌, ◌≤◌, true, false, ltb, eqb, Option, Some, None, Ok, List, [], ◌∷◌, ◌++◌, length, take, drop, get_or, refl, sym, ap, ◌∙◌, arith, ⊎_elim}
+use Rattle.std.proofs.Common.{◌≡◌, ◌≢◌, ℕ, ◌+◌, ◌-◌, ◌*◌, ◌<◌, ◌≤◌, ltb, Option, Some, None, Ok, List, [], ◌∷◌, ◌++◌, length, take, drop, get_or, refl, sym, ap, ◌∙◌, arith}
 use Rattle.std.proofs.lemmas.Grind.{common_steps}
 use Rattle.std.specs.Prelude.{option_to_list}
 use Rattle.std.proofs.lemmas.Bool.Decides.{nat_tests}
-use Rattle.std.proofs.lemmas.Bool.{cases_lt}
 use Rattle.arrayvec.specs.ArrayVec.{ArrayVec}
 use Rattle.vp_esc.specs.declared.item.EscItem.{EscItem}
 use Rattle.vp_esc.specs.declared.item.EscItem.TheVariants as items
-use Rattle.vp_esc.specs.declared.item.Lead.{Lead}
 use Rattle.vp_esc.specs.declared.item.ColumnMode.{ColumnMode}
 use Rattle.vp_esc.specs.declared.item.ColumnMode.TheVariants.{Single8, Double8, Single24, Double24}
 use Rattle.vp_esc.specs.declared.command.Command.TheVariants.{Columns}
@@ -15,54 +13,39 @@ use Rattle.vp_esc.specs.declared.reader.EscReader.{EscReader}
 use Rattle.vp_esc.specs.declared.reader.Data.TheVariants as kinds
 use Rattle.vp_esc.specs.declared.reader.Phase.TheVariants as phases
 use Rattle.vp_esc.specs.Values.{column_mode_of, column_bytes}
-use Rattle.vp_esc.specs.Units.{needs_more, given_by, given_behind, columns, tall_columns}
+use Rattle.vp_esc.specs.Units.{given_by, given_behind, columns, tall_columns}
 use Rattle.vp_esc.specs.Reader.{Begun, Advances, Lands, InTallColumns, data_items, tall_or_ground, bytes_or_ground, columns_or_ground, part_of_column}
-use Rattle.vp_esc.proofs.Fronts.{lands_open, lands_whole, continues, completes, begun_longer}
+use Rattle.vp_esc.proofs.Fronts.{lands_by, advances_by, stands_before, begun_longer}
 use Rattle.vp_esc.proofs.Heads.{given_is, needs_counted, IsPushed, pushed}
 use Rattle.vp_esc.proofs.Phases.{kept_whole}
 use Rattle.vp_esc.proofs.Bytes.{land_bytes}
-
-pub columns_given : (lead : Lead) (name m nl nh : ℕ) (more : List ℕ)
-    → given_by lead name Columns (m ∷ nl ∷ nh ∷ more) ≡ items.Columns (column_mode_of m) (nl + 256 * nh) ∷ columns (column_mode_of m) more
-unfolding given_behind
-columns_given lead name m nl nh more = given_is lead name Columns (m ∷ nl ∷ nh ∷ more) (omega arith)
 
 land_short : (r : EscReader) (m nl nh : ℕ) (mode : ColumnMode) (rest : List ℕ) (final : ArrayVec ℕ)
     → Begun r.lead r.name Columns r.kept.items rest → r.kept.items ≡ m ∷ nl ∷ nh ∷ [] → column_mode_of m ≡ mode
     → column_bytes mode ≡ 1 → ((more : List ℕ) → columns mode more ≡ data_items kinds.Columns more)
     → Lands (Some (items.Columns mode (nl + 256 * nh))) rest (record r { phase = bytes_or_ground kinds.Columns (nl + 256 * nh); kept = final })
+unfolding given_behind
 land_short r m nl nh mode rest final b k e one behind =
     let item : EscItem = items.Columns mode (nl + 256 * nh) in
-    let g : (more : List ℕ) → given_by r.lead r.name Columns (m ∷ nl ∷ nh ∷ more) ≡ item ∷ data_items kinds.Columns more = grind (arith, columns_given) in
-    let l : nl + 256 * nh ≡ column_bytes (column_mode_of m) * (nl + 256 * nh) = rw e (rw one (omega arith)) in
-    land_bytes r Columns kinds.Columns (nl + 256 * nh) rest item final b (rw k refl) refl (rw k l) refl refl (λ more. refl) (rw k (g [])) (λ more. rw k (g more))
+    let g : (more : List ℕ) → given_by r.lead r.name Columns (m ∷ nl ∷ nh ∷ more) ≡ item ∷ data_items kinds.Columns more = grind (arith, given_is) in
+    land_bytes r Columns kinds.Columns (nl + 256 * nh) rest item final b (rw k refl) refl (rw k (rw e (rw one (omega arith)))) refl refl (λ more. refl) (rw k (g [])) (λ more. rw k (g more))
 
 land_tall : (r : EscReader) (m nl nh : ℕ) (mode : ColumnMode) (rest : List ℕ) (final : ArrayVec ℕ)
     → Begun r.lead r.name Columns r.kept.items rest → r.kept.items ≡ m ∷ nl ∷ nh ∷ [] → column_mode_of m ≡ mode
     → column_bytes mode ≡ 3 → columns mode [] ≡ [] → final.items ≡ []
     → Lands (Some (items.Columns mode (nl + 256 * nh))) rest (record r { phase = tall_or_ground (3 * (nl + 256 * nh)); kept = final })
+unfolding given_behind
 land_tall r m nl nh mode rest final b k e three none empty =
-    let item : EscItem = items.Columns mode (nl + 256 * nh) in
     let b' : Begun r.lead r.name Columns (m ∷ nl ∷ nh ∷ []) rest = rw k at b in
-    let g : given_by r.lead r.name Columns (m ∷ nl ∷ nh ∷ []) ≡ item ∷ [] = grind (arith, columns_given) in
-    let n : needs_more Columns (m ∷ nl ∷ nh ∷ []) ≡ ltb 3 (3 + 3 * (nl + 256 * nh)) = grind (arith, needs_counted) in
-    ⊎_elim
-    (λ (h : nl + 256 * nh < 1).
-    let z : eqb (3 * (nl + 256 * nh)) 0 ≡ true = grind (arith, nat_tests) in
-    let s : ltb 3 (3 + 3 * (nl + 256 * nh)) ≡ false = grind (arith, nat_tests) in
-    rw z (lands_whole (Some item) (record r { phase = phases.Ground; kept = final }) b' (n ∙ s) g refl))
-    (λ (h : 1 ≤ nl + 256 * nh).
-    let z : eqb (3 * (nl + 256 * nh)) 0 ≡ false = grind (arith, nat_tests) in
-    let s : ltb 3 (3 + 3 * (nl + 256 * nh)) ≡ true = grind (arith, nat_tests) in
-    let new : EscReader = record r { phase = phases.TallColumns (3 * (nl + 256 * nh)); kept = final } in
-    rw z (lands_open (Some item) new b' (n ∙ s) g (record {
+    let left : ℕ = 3 * (nl + 256 * nh) in
+    lands_by (ltb 0 left) _ _ b' (grind (arith, needs_counted, nat_tests)) (grind (arith, given_is))
+    (stands_before (record r { kept = final }) (phases.TallColumns left) left rest (λ h. record {
       args = m ∷ nl ∷ nh ∷ [];
       begun = b';
-      left_is = record { head = omega arith; some_left = omega arith; count = rw e (rw three refl) };
+      left_is = record { head = omega arith; some_left = h; count = rw e (rw three refl) };
       tall = rw e three;
       part = empty;
-    })))
-    (cases_lt (nl + 256 * nh) 1)
+    }))
 
 pub land_columns : (r : EscReader) (m nl nh : ℕ) (mode : ColumnMode) (rest : List ℕ) (final : ArrayVec ℕ)
     → Begun r.lead r.name Columns r.kept.items rest → r.kept.items ≡ m ∷ nl ∷ nh ∷ [] → column_mode_of m ≡ mode → final.items ≡ []
@@ -81,21 +64,12 @@ more_next : (x y z : ℕ) (xs : List ℕ) (c : ℕ) (item : Option EscItem) (par
 more_next x y z xs c item part n = record { gives = ap (λ ys. items.Column24 (x ∷ y ∷ z ∷ []) ∷ ys) n.gives; part_is = n.part_is }
 
 part_next : (xs : List ℕ) (c : ℕ) → length (part_of_column xs) ≢ 2 → IsNext xs c None (part_of_column xs ++ c ∷ [])
-part_next [] c h = record { gives = refl; part_is = refl }
-part_next (x ∷ []) c h = record { gives = refl; part_is = refl }
-part_next (x ∷ y ∷ []) c h = absurd (h refl)
 part_next (x ∷ y ∷ z ∷ xs) c h = more_next x y z xs c None _ (part_next xs c h)
+part_next xs c h = grind arith
 
 whole_next : (xs : List ℕ) (a b c : ℕ) → part_of_column xs ≡ a ∷ b ∷ [] → IsNext xs c (Some (items.Column24 (a ∷ b ∷ c ∷ []))) []
-whole_next [] a b c h = cc
-whole_next (x ∷ []) a b c h = cc
-whole_next (x ∷ y ∷ []) a b c h = grind arith
 whole_next (x ∷ y ∷ z ∷ xs) a b c h = more_next x y z xs c _ _ (whole_next xs a b c h)
-
-given_next : (lead : Lead) (name : ℕ) (args : List ℕ) (c : ℕ) (item : Option EscItem) (part : List ℕ) → 3 ≤ length args
-    → column_bytes (column_mode_of (get_or args 0 0)) ≡ 3 → IsNext (drop 3 args) c item part
-    → given_by lead name Columns (args ++ c ∷ []) ≡ given_by lead name Columns args ++ option_to_list item
-given_next lead name args c item part h t n = grind (arith, columns_given)
+whole_next xs a b c h = grind arith
 
 drop_push : (args : List ℕ) (c : ℕ) → 3 ≤ length args → drop 3 (args ++ c ∷ []) ≡ drop 3 args ++ c ∷ []
 drop_push args c h = grind arith
@@ -106,40 +80,27 @@ first_push args c h = grind (arith, common_steps)
 tall_step : (r : EscReader) (left c : ℕ) (rest : List ℕ) (item : Option EscItem) (final : ArrayVec ℕ) (hand : InTallColumns r left rest)
     → IsNext (drop 3 hand.args) c item final.items
     → Advances (Ok item) rest c (record r { phase = tall_or_ground (left - 1); kept = final })
+unfolding given_behind
 tall_step r left c rest item final hand next =
     let p : IsPushed Columns hand.args left c = pushed Columns hand.args left c hand.begun.listed refl hand.left_is in
-    let g : given_by r.lead r.name Columns (hand.args ++ c ∷ []) ≡ given_by r.lead r.name Columns hand.args ++ option_to_list item =
-    given_next r.lead r.name hand.args c item final.items hand.left_is.head hand.tall next in
-    ⊎_elim
-    (λ (h : left < 2).
-    let z : eqb (left - 1) 0 ≡ true = grind (arith, nat_tests) in
-    let s : ltb 1 left ≡ false = grind (arith, nat_tests) in
-    rw z (completes c item (record r { phase = phases.Ground; kept = final }) hand.begun p.listed (p.needs ∙ s) g refl))
-    (λ (h : 2 ≤ left).
-    let z : eqb (left - 1) 0 ≡ false = grind (arith, nat_tests) in
-    let s : ltb 1 left ≡ true = grind (arith, nat_tests) in
-    let new : EscReader = record r { phase = phases.TallColumns (left - 1); kept = final } in
-    rw z (continues c item new hand.begun p.listed (p.needs ∙ s) g (record {
+    advances_by _ c item _ hand.begun p.listed p.needs (grind (arith, given_is))
+    (stands_before (record r { kept = final }) (phases.TallColumns (left - 1)) (left - 1) (rest ++ c ∷ []) (λ h. record {
       args = hand.args ++ c ∷ [];
       begun = begun_longer c hand.begun p.listed;
       left_is = p.left_is (omega arith);
       tall = ap (λ m. column_bytes (column_mode_of m)) (first_push hand.args c hand.left_is.head) ∙ hand.tall;
       part = sym next.part_is ∙ ap part_of_column (sym (drop_push hand.args c hand.left_is.head));
-    })))
-    (cases_lt left 2)
+    }))
 
 part_small : (xs : List ℕ) → length (part_of_column xs) < 3
-part_small [] = omega arith
-part_small (x ∷ []) = omega arith
-part_small (x ∷ y ∷ []) = omega arith
 part_small (x ∷ y ∷ z ∷ xs) = part_small xs
+part_small xs = omega arith
 
 pub tall_part : (r : EscReader) (left c : ℕ) (rest : List ℕ) (final : ArrayVec ℕ) → InTallColumns r left rest → length r.kept.items ≢ 2
     → final.items ≡ take 255 (r.kept.items ++ c ∷ [])
     → Advances (Ok None) rest c (record r { phase = tall_or_ground (left - 1); kept = final })
 tall_part r left c rest final hand other k =
-    let small : length r.kept.items < 255 = rw hand.part (omega (arith, part_small (drop 3 hand.args))) in
-    let w : final.items ≡ part_of_column (drop 3 hand.args) ++ c ∷ [] = grind (arith, drop, kept_whole) in
+    let w : final.items ≡ part_of_column (drop 3 hand.args) ++ c ∷ [] = grind (arith, kept_whole, part_small, drop) in
     tall_step r left c rest None final hand (rw w (part_next (drop 3 hand.args) c (rw (← hand.part) other)))
 
 two : (xs : List ℕ) → length xs ≡ 2 → xs ≡ get_or xs 0 0 ∷ get_or xs 1 0 ∷ []

@@ -26,10 +26,7 @@ along : (us : List (List ℕ)) (r : List ℕ) (x : ℕ) (xs : List ℕ)
 unfolding split_on
 along us r x [] each = refl
 along us r x (y ∷ ys) each =
-    let here : is_unfinished (r ++ x ∷ []) ≡ true = each (x ∷ []) (y ∷ ys) refl (λ e. cc e) (λ e. cc e) in
-    let on : (a b : List ℕ) → y ∷ ys ≡ a ++ b → a ≢ [] → b ≢ [] → is_unfinished ((r ++ x ∷ []) ++ a) ≡ true =
-    λ a b e na nb. rw append_assoc (each (x ∷ a) b (ap (λ z. x ∷ z) e) (λ e. cc e) nb) in
-    rw here (along us (r ++ x ∷ []) y ys on ∙ rw append_assoc refl)
+    rw (each (x ∷ []) (y ∷ ys) refl (λ e. cc e) (λ e. cc e)) (along us (r ++ x ∷ []) y ys (λ a b e na nb. rw append_assoc (each (x ∷ a) b (ap (λ z. x ∷ z) e) (λ e. cc e) nb)) ∙ rw append_assoc refl)
 
 -- what was read before doesn't matter
 shifted : List (List ℕ) → Split → Split

@@ -9,7 +9,7 @@ use Rattle.vp_dots.specs.declared.fault.Fault.TheVariants.{Unknown}
 use Rattle.vp_esc.specs.declared.item.Lead.{Lead}
 use Rattle.vp_esc.specs.declared.item.Lead.TheVariants.{Esc, Gs, Fs, Dle}
 use Rattle.vp_esc.specs.declared.command.Command.{Command}
-use Rattle.vp_esc.specs.declared.command.Command.TheVariants.{Plain, TabStops, Raster, Symbol, Graphics}
+use Rattle.vp_esc.specs.declared.command.Command.TheVariants.{Plain, TabStops, Raster, Graphics}
 use Rattle.vp_esc.specs.declared.command.Plain.{Plain as PlainCommand}
 use Rattle.vp_esc.specs.declared.command.Plain.TheVariants.{Sensor}
 use Rattle.vp_esc.specs.Command.{lead_of, command_of, head_len, is_listed}
@@ -37,18 +37,11 @@ plain_listed : (p : PlainCommand) → is_listed (Plain p) (first_of (Plain p) �
 unfolding first_of
 plain_listed p = grind arith
 
-first_listed : (k : Command) → is_listed k (first_of k ∷ []) ≡ true
-unfolding first_of
-first_listed k = grind (arith, plain_listed)
-
-counted_first : (k : Command) (a : ℕ) (xs ys : List ℕ) → is_counted k (a ∷ xs) ≡ true → is_counted k (a ∷ ys) ≡ true
-counted_first k a xs ys e = grind arith
-
 -- counted data, of zeros
 end_counted : (k : Command) (a : ℕ) (args : List ℕ) → is_listed k (a ∷ args) ≡ true → is_counted k (a ∷ args) ≡ true → CanEnd k (a ∷ args)
 end_counted k a args l e =
     let zeros : List ℕ = replicate (data_len k (a ∷ args ++ replicate 8 0)) 0 in
-    let c : is_counted k (a ∷ args ++ replicate 8 0) ≡ true = counted_first k a args _ e in
+    let c : is_counted k (a ∷ args ++ replicate 8 0) ≡ true = grind arith in
     let h : head_len k (a ∷ args ++ replicate 8 0) ≤ length (a ∷ args ++ replicate 8 0) =
     omega (arith, head_small k (a ∷ args ++ replicate 8 0), length-append args (replicate 8 0), length-replicate {A = ℕ} 8 0) in
     let s : IsSame k (a ∷ args ++ replicate 8 0) zeros = same k (a ∷ args ++ replicate 8 0) zeros c h in
@@ -65,8 +58,7 @@ stops_end args = grind (arith, nat_tests, rises_push)
 zero_whole : (k : Command) (a : ℕ) (args : List ℕ) → is_counted k (a ∷ args) ≡ false → needs_more k (a ∷ args ++ 0 ∷ []) ≡ false
 unfolding needs_more
 zero_whole TabStops a args e = stops_end (a ∷ args)
-zero_whole Symbol a args e = grind (arith, list_any-append)
-zero_whole _ a args e = cc
+zero_whole k a args e = grind (arith, list_any-append)
 
 end_begun : (k : Command) (a : ℕ) (args : List ℕ) → is_listed k (a ∷ args) ≡ true → CanEnd k (a ∷ args)
 end_begun k a args l = ⊎_elim
@@ -75,8 +67,9 @@ end_begun k a args l = ⊎_elim
     (cases_Bool (is_counted k (a ∷ args)))
 
 can_end : (k : Command) (args : List ℕ) → is_listed k args ≡ true → CanEnd k args
+unfolding first_of
 can_end k [] l =
-    let c : CanEnd k (first_of k ∷ []) = end_begun k (first_of k) [] (first_listed k) in
+    let c : CanEnd k (first_of k ∷ []) = end_begun k (first_of k) [] (grind (arith, plain_listed)) in
     record { more = first_of k ∷ c.more; listed = c.listed; whole = c.whole }
 can_end k (a ∷ args) l = end_begun k a args l
 
@@ -100,8 +93,7 @@ close_named : (lead : Lead) (b name : ℕ) (args : List ℕ) (o : Option Command
 unfolding is_unfinished
 close_named lead b name args None e f g = let u : Some (Unknown b name) ≡ None = rw f at g in cc
 close_named lead b name args (Some k) e f g =
-    let l : is_listed k args ≡ true = listed_of (is_listed k args) (Unknown b name) (rw f at g) in
-    let c : CanEnd k args = can_end k args l in
+    let c : CanEnd k args = can_end k args (listed_of (is_listed k args) (Unknown b name) (rw f at g)) in
     record { more = c.more; whole = rw e (rw f (rw c.listed c.whole)) }
 
 close_after : (o : Option Lead) (b : ℕ) (bytes : List ℕ) → lead_of b ≡ o → is_unfinished_after o bytes ≡ true → fault_after o b bytes ≡ None

@@ -21,13 +21,10 @@ no_row bytes more f e r =
     let whole : is_unfinished ((split bytes).rest ++ more) ≡ false = (row_is_unit ((split bytes).rest ++ more) r).whole in
     cc
 
-byte_stays : (s : Split) (c : ℕ) (f : Fault) → fault_in s.rest ≡ Some f → fault_in (with_byte s c).rest ≡ Some f
-byte_stays s c f e = grind (arith, stuck)
-
 split_stays : (s : Split) (bytes : List ℕ) (f : Fault) → fault_in s.rest ≡ Some f → fault_in (split_on s bytes).rest ≡ Some f
 unfolding split_on
 split_stays s [] f e = e
-split_stays s (b ∷ bytes) f e = split_stays (with_byte s b) bytes f (byte_stays s b f e)
+split_stays s (b ∷ bytes) f e = split_stays (with_byte s b) bytes f (grind (arith, stuck))
 
 pub fault_stays_lem : (bytes more : List ℕ) (f : Fault) → fault_of bytes ≡ Some f → fault_of (bytes ++ more) ≡ Some f
 unfolding fault_of split

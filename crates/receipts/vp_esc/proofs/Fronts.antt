@@ -1,5 +1,5 @@
 -- What is open, given and refused, by the command that a rest begins.
-use Rattle.std.proofs.Common.{◌≡◌, ℕ, true, false, cond, Option, Some, None, Ok, Err, List, [], ◌∷◌, ◌++◌, refl, sym, ap, arith}
+use Rattle.std.proofs.Common.{◌≡◌, ℕ, ◌<◌, Bool, eqb, ltb, true, false, cond, Option, Some, None, Ok, Err, List, [], ◌∷◌, ◌++◌, refl, sym, ap, arith}
 use Rattle.std.specs.Prelude.{option_to_list}
 use Rattle.std.proofs.lemmas.Bool.Decides.{nat_tests}
 use Rattle.vp_esc.specs.declared.item.EscItem.{EscItem}
@@ -8,6 +8,7 @@ use Rattle.vp_dots.specs.declared.fault.Fault.TheVariants.{Unknown}
 use Rattle.vp_esc.specs.declared.item.Lead.{Lead}
 use Rattle.vp_esc.specs.declared.command.Command.{Command}
 use Rattle.vp_esc.specs.declared.reader.EscReader.{EscReader}
+use Rattle.vp_esc.specs.declared.reader.Phase.{Phase}
 use Rattle.vp_esc.specs.declared.reader.Phase.TheVariants.{Stopped, Ground, AfterLead}
 use Rattle.vp_esc.specs.Command.{lead_of, lead_byte, command_of, is_listed}
 use Rattle.vp_esc.specs.Units.{is_unfinished, given, fault_in, needs_more, given_by, single_item}
@@ -40,31 +41,14 @@ pub begun_longer : {lead : Lead} {name : ℕ} {command : Command} {args rest : L
     → is_listed command (args ++ c ∷ []) ≡ true → Begun lead name command (args ++ c ∷ []) (rest ++ c ∷ [])
 begun_longer c b l = record { named = b.named; bytes = longer c b; listed = l }
 
--- one more argument, and the command needs more
-pub continues : {lead : Lead} {name : ℕ} {command : Command} {args rest : List ℕ} (c : ℕ) (item : Option EscItem) (new : EscReader)
-    → Begun lead name command args rest → is_listed command (args ++ c ∷ []) ≡ true → needs_more command (args ++ c ∷ []) ≡ true
+-- one more argument, and the command needs more, or is whole
+pub advances_by : {lead : Lead} {name : ℕ} {command : Command} {args rest : List ℕ} (more : Bool) (c : ℕ) (item : Option EscItem) (new : EscReader)
+    → Begun lead name command args rest → is_listed command (args ++ c ∷ []) ≡ true → needs_more command (args ++ c ∷ []) ≡ more
     → given_by lead name command (args ++ c ∷ []) ≡ given_by lead name command args ++ option_to_list item
-    → StandsIn new (rest ++ c ∷ []) → Advances (Ok item) rest c new
-continues {lead} {name} {command} {args} {rest} c item new b l n g s =
-    let before : Front rest lead name command args = front_is lead name command args rest b.named b.bytes in
+    → StandsIn new (cond more (rest ++ c ∷ []) []) → Advances (Ok item) rest c new
+advances_by {lead} {name} {command} {args} {rest} more c item new b l n g s =
     let after : Front (rest ++ c ∷ []) lead name command (args ++ c ∷ []) = front_is lead name command _ _ b.named (longer c b) in
-    record {
-      gives = (rw after.fault (rw l refl), rw (after.gives, before.gives) (rw (l, b.listed) g));
-      stands = rw after.opens (rw l (rw n s));
-    }
-
--- one more argument, and the command is whole
-pub completes : {lead : Lead} {name : ℕ} {command : Command} {args rest : List ℕ} (c : ℕ) (item : Option EscItem) (new : EscReader)
-    → Begun lead name command args rest → is_listed command (args ++ c ∷ []) ≡ true → needs_more command (args ++ c ∷ []) ≡ false
-    → given_by lead name command (args ++ c ∷ []) ≡ given_by lead name command args ++ option_to_list item
-    → StandsIn new [] → Advances (Ok item) rest c new
-completes {lead} {name} {command} {args} {rest} c item new b l n g s =
-    let before : Front rest lead name command args = front_is lead name command args rest b.named b.bytes in
-    let after : Front (rest ++ c ∷ []) lead name command (args ++ c ∷ []) = front_is lead name command _ _ b.named (longer c b) in
-    record {
-      gives = (rw after.fault (rw l refl), rw (after.gives, before.gives) (rw (l, b.listed) g));
-      stands = rw after.opens (rw l (rw n s));
-    }
+    record { gives = (rw after.fault (rw l refl), rw (after.gives, (front_is lead name command args rest b.named b.bytes).gives) (rw (l, b.listed) g)); stands = rw after.opens (rw l (rw n s)) }
 
 -- one more argument, and no command of the table is so
 pub refuses : {lead : Lead} {name : ℕ} {command : Command} {args rest : List ℕ} (c : ℕ) (new : EscReader)
@@ -94,29 +78,18 @@ pub alone_between : (b : ℕ) (item : EscItem) (r : EscReader) (rest : List ℕ)
     → r.phase ≡ Ground → StandsIn r rest → Advances (Ok (Some item)) rest b r
 alone_between b item r rest e i p stands = let empty : rest ≡ [] = rw p at stands in rw (empty, i) (alone b r e p)
 
--- the command with these arguments needs more
-pub lands_open : {lead : Lead} {name : ℕ} {command : Command} {args front : List ℕ} (item : Option EscItem) (new : EscReader)
-    → Begun lead name command args front → needs_more command args ≡ true
-    → given_by lead name command args ≡ option_to_list item → StandsIn new front → Lands item front new
-lands_open {lead} {name} {command} {args} {front} item new b n g s =
+-- the command with these arguments needs more, or is whole
+pub lands_by : {lead : Lead} {name : ℕ} {command : Command} {args front : List ℕ} (more : Bool) (item : Option EscItem) (new : EscReader)
+    → Begun lead name command args front → needs_more command args ≡ more
+    → given_by lead name command args ≡ option_to_list item → StandsIn new (cond more front []) → Lands item front new
+lands_by {lead} {name} {command} {args} {front} more item new b n g s =
     let here : Front front lead name command args = front_is lead name command _ _ b.named b.bytes in
-    record {
-      fault = rw here.fault (rw b.listed refl);
-      gives = rw here.gives (rw b.listed g);
-      stands = rw here.opens (rw b.listed (rw n s));
-    }
+    record { fault = rw here.fault (rw b.listed refl); gives = rw here.gives (rw b.listed g); stands = rw here.opens (rw b.listed (rw n s)) }
 
--- the command with these arguments is whole
-pub lands_whole : {lead : Lead} {name : ℕ} {command : Command} {args front : List ℕ} (item : Option EscItem) (new : EscReader)
-    → Begun lead name command args front → needs_more command args ≡ false
-    → given_by lead name command args ≡ option_to_list item → StandsIn new [] → Lands item front new
-lands_whole {lead} {name} {command} {args} {front} item new b n g s =
-    let here : Front front lead name command args = front_is lead name command _ _ b.named b.bytes in
-    record {
-      fault = rw here.fault (rw b.listed refl);
-      gives = rw here.gives (rw b.listed g);
-      stands = rw here.opens (rw b.listed (rw n s));
-    }
+-- before so many bytes, in this phase where there are some
+pub stands_before : (r : EscReader) (x : Phase) (left : ℕ) (rest : List ℕ) → (0 < left → StandsIn (record r { phase = x }) rest)
+    → StandsIn (record r { phase = cond (eqb left 0) Ground x }) (cond (ltb 0 left) rest [])
+stands_before r x left rest h = grind (arith, nat_tests)
 
 -- nothing was given before
 pub advances_from_lands : (item : Option EscItem) (rest : List ℕ) (c : ℕ) (new : EscReader) → given rest ≡ []
@@ -125,8 +98,7 @@ advances_from_lands item rest c new none l = record { gives = (l.fault, rw none 
 
 pub given_begun : {lead : Lead} {name : ℕ} {command : Command} {args rest : List ℕ} → Begun lead name command args rest
     → given_by lead name command args ≡ [] → given rest ≡ []
-given_begun {lead} {name} {command} {args} {rest} b none =
-    let here : Front rest lead name command args = front_is lead name command _ _ b.named b.bytes in rw here.gives (rw b.listed none)
+given_begun {lead} {name} {command} {args} {rest} b none = rw (front_is lead name command _ _ b.named b.bytes).gives (rw b.listed none)
 
 -- a lead alone has given nothing
 pub given_lead : (lead : Lead) → given (lead_byte lead ∷ []) ≡ []

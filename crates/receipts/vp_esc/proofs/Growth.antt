@@ -1,5 +1,5 @@
 -- What is given stays given.
-use Rattle.std.proofs.Common.{◌≡◌, ℕ, ◌+◌, ◌≤◌, ◌<◌, Bool, true, false, cond, eqb, Option, Some, None, List, [], ◌∷◌, ◌++◌, length, refl, sym, ap, ◌∙◌, append_assoc, arith, ⊎_elim}
+use Rattle.std.proofs.Common.{◌≡◌, ℕ, ◌≤◌, ◌<◌, Bool, true, false, cond, eqb, Option, Some, None, List, [], ◌∷◌, ◌++◌, length, refl, sym, ap, ◌∙◌, append_assoc, arith, ⊎_elim}
 use Rattle.std.specs.List.{flat_map}
 use Rattle.std.proofs.lemmas.List.{append-nil, map_push, length_push}
 use Rattle.std.proofs.lemmas.Bool.{cases_lt, cases_Bool}
@@ -9,10 +9,10 @@ use Rattle.vp_esc.specs.declared.item.EscItem.TheVariants as items
 use Rattle.vp_esc.specs.declared.item.Lead.{Lead}
 use Rattle.vp_esc.specs.declared.item.RasterScale.{RasterScale}
 use Rattle.vp_esc.specs.declared.item.ColumnMode.{ColumnMode}
-use Rattle.vp_esc.specs.declared.item.ColumnMode.TheVariants.{Single8, Double8, Single24, Double24}
+use Rattle.vp_esc.specs.declared.item.ColumnMode.TheVariants.{Single24, Double24}
 use Rattle.vp_esc.specs.declared.item.QrModel.{QrModel}
 use Rattle.vp_esc.specs.declared.command.Command.{Command}
-use Rattle.vp_esc.specs.declared.command.Command.TheVariants.{Plain, TabStops, Columns, Raster, Symbol, Function, Graphics}
+use Rattle.vp_esc.specs.declared.command.Command.TheVariants.{TabStops, Columns, Raster, Symbol, Function, Graphics}
 use Rattle.vp_esc.specs.Values.{scale_of, column_mode_of, qr_model_of}
 use Rattle.vp_esc.specs.Command.{lead_of, command_of, head_len, is_listed}
 use Rattle.vp_esc.specs.Qr.{qr_items, value_items, model_items, is_qr_function}
@@ -43,16 +43,13 @@ raster_grows None bytes c = unchanged _ _ refl
 raster_grows (Some scale) bytes c = (items.RasterByte c ∷ [], map_push (λ b. items.RasterByte b) bytes c)
 
 tall_grows : (bytes : List ℕ) (c : ℕ) → IsFrontOf (tall_columns bytes) (tall_columns (bytes ++ c ∷ []))
-tall_grows [] c = from_nil _ _ refl
-tall_grows (x ∷ []) c = from_nil _ _ refl
-tall_grows (x ∷ y ∷ []) c = from_nil _ _ refl
 tall_grows (x ∷ y ∷ z ∷ bytes) c = behind_one _ _ _ (tall_grows bytes c)
+tall_grows bytes c = from_nil _ _ refl
 
 columns_grow : (mode : ColumnMode) (bytes : List ℕ) (c : ℕ) → IsFrontOf (columns mode bytes) (columns mode (bytes ++ c ∷ []))
-columns_grow Single8 bytes c = (items.Column8 c ∷ [], map_push (λ b. items.Column8 b) bytes c)
-columns_grow Double8 bytes c = (items.Column8 c ∷ [], map_push (λ b. items.Column8 b) bytes c)
 columns_grow Single24 bytes c = tall_grows bytes c
 columns_grow Double24 bytes c = tall_grows bytes c
+columns_grow mode bytes c = (items.Column8 c ∷ [], map_push (λ b. items.Column8 b) bytes c)
 
 -- GS ( k.
 
@@ -65,9 +62,8 @@ other_grows true xs ys ys' p = unchanged _ _ refl
 other_grows false xs ys ys' p = p
 
 model_grows : (count cn n : ℕ) (model : Option QrModel) (more : List ℕ) (c : ℕ) → IsFrontOf (model_items count cn n model more) (model_items count cn n model (more ++ c ∷ []))
-model_grows count cn n None more c = unchanged _ _ refl
 model_grows count cn n (Some model) [] c = from_nil _ _ refl
-model_grows count cn n (Some model) (z ∷ more) c = unchanged _ _ refl
+model_grows count cn n model more c = unchanged _ _ refl
 
 value_grows : (count cn function n : ℕ) (more : List ℕ) (c : ℕ) → IsFrontOf (value_items count cn function n more) (value_items count cn function n (more ++ c ∷ []))
 unfolding value_items
@@ -98,33 +94,13 @@ last_grows n x ys e = from_nil _ _ (rw e refl)
 behind_grows : (lead : Lead) (name : ℕ) (k : Command) (args : List ℕ) (c : ℕ) → head_len k args ≤ length args → needs_more k args ≡ true
     → IsFrontOf (given_behind lead name k args) (given_behind lead name k (args ++ c ∷ []))
 unfolding given_behind needs_more
-behind_grows lead name (Plain p) args c h n = absurd (let l : length args < head_len (Plain p) args + 0 = grind (arith, nat_tests) in omega arith)
 behind_grows lead name TabStops args c h n = last_grows _ _ _ n
-behind_grows lead name Columns [] c h n = absurd (omega arith)
-behind_grows lead name Columns (a ∷ []) c h n = absurd (omega arith)
-behind_grows lead name Columns (a ∷ b ∷ []) c h n = absurd (omega arith)
 behind_grows lead name Columns (a ∷ b ∷ d ∷ args) c h n = behind_one _ _ _ (columns_grow (column_mode_of a) args c)
-behind_grows lead name Raster [] c h n = absurd (omega arith)
-behind_grows lead name Raster (a ∷ []) c h n = absurd (omega arith)
-behind_grows lead name Raster (a ∷ b ∷ []) c h n = absurd (omega arith)
-behind_grows lead name Raster (a ∷ b ∷ d ∷ []) c h n = absurd (omega arith)
-behind_grows lead name Raster (a ∷ b ∷ d ∷ e ∷ []) c h n = absurd (omega arith)
-behind_grows lead name Raster (a ∷ b ∷ d ∷ e ∷ f ∷ []) c h n = absurd (omega arith)
 behind_grows lead name Raster (a ∷ b ∷ d ∷ e ∷ f ∷ g ∷ args) c h n = behind_one _ _ _ (raster_grows (scale_of b) args c)
 behind_grows lead name Symbol args c h n = last_grows _ _ _ n
-behind_grows lead name Function [] c h n = absurd (omega arith)
-behind_grows lead name Function (a ∷ []) c h n = absurd (omega arith)
-behind_grows lead name Function (a ∷ b ∷ []) c h n = absurd (omega arith)
 behind_grows lead name Function (a ∷ b ∷ d ∷ args) c h n = grind (arith, nat_tests, either_grows, qr_grows)
-behind_grows lead name Graphics [] c h n = absurd (omega arith)
-behind_grows lead name Graphics (a ∷ []) c h n = absurd (omega arith)
-behind_grows lead name Graphics (a ∷ b ∷ []) c h n = absurd (omega arith)
-behind_grows lead name Graphics (a ∷ b ∷ d ∷ []) c h n = absurd (omega arith)
-behind_grows lead name Graphics (a ∷ b ∷ d ∷ e ∷ []) c h n = absurd (omega arith)
 behind_grows lead name Graphics (a ∷ b ∷ d ∷ e ∷ f ∷ args) c h n = unchanged _ _ refl
-
-head_stays : (k : Command) (args : List ℕ) (c : ℕ) → head_len k args ≤ length args → 0 < length args → head_len k (args ++ c ∷ []) ≤ length (args ++ c ∷ [])
-head_stays k args c h l = grind (arith, head_first, length_push)
+behind_grows lead name k args c h n = absurd (grind (arith, nat_tests))
 
 given_none : (lead : Lead) (name : ℕ) (k : Command) → needs_more k [] ≡ true → given_by lead name k [] ≡ []
 unfolding needs_more given_by given_behind
@@ -136,7 +112,7 @@ by_command lead name k [] c n = from_nil _ _ (given_none lead name k n)
 by_command lead name k (a ∷ args) c n = ⊎_elim
     (λ (h : length (a ∷ args) < head_len k (a ∷ args)). let i : IsHead lead name k (a ∷ args) = heads lead name k (a ∷ args) h in from_nil _ _ i.gives)
     (λ (h : head_len k (a ∷ args) ≤ length (a ∷ args)).
-    let s : head_len k (a ∷ args ++ c ∷ []) ≤ length (a ∷ args ++ c ∷ []) = head_stays k (a ∷ args) c h (omega arith) in
+    let s : head_len k (a ∷ args ++ c ∷ []) ≤ length (a ∷ args ++ c ∷ []) = grind (arith, head_first, length_push) in
     rw (given_is lead name k (a ∷ args) h, given_is lead name k (a ∷ args ++ c ∷ []) s) (behind_grows lead name k (a ∷ args) c h n))
     (cases_lt (length (a ∷ args)) (head_len k (a ∷ args)))
 
@@ -176,6 +152,4 @@ items_grow bytes c =
 
 pub only_more_lem : (bytes more : List ℕ) → IsFrontOf (items_of bytes) (items_of (bytes ++ more))
 only_more_lem bytes [] = ([], ap items_of (append-nil bytes) ∙ sym (append-nil (items_of bytes)))
-only_more_lem bytes (c ∷ more) =
-    let p : IsFrontOf (items_of (bytes ++ c ∷ [])) (items_of ((bytes ++ c ∷ []) ++ more)) = only_more_lem (bytes ++ c ∷ []) more in
-    prefix_trans _ _ _ (items_grow bytes c) (rw append_assoc at p)
+only_more_lem bytes (c ∷ more) = prefix_trans _ _ _ (items_grow bytes c) (rw append_assoc at (only_more_lem (bytes ++ c ∷ []) more))

@@ -39,13 +39,9 @@ pub record IsHead (lead : Lead) (name : ℕ) (k : Command) (args : List ℕ) : T
   pub needs : needs_more k args ≡ true
   pub gives : given_by lead name k args ≡ []
 
-needs_in_head : (k : Command) (args : List ℕ) → length args < head_len k args → needs_more k args ≡ true
-unfolding needs_more
-needs_in_head k args h = grind (arith, nat_tests)
-
 pub heads : (lead : Lead) (name : ℕ) (k : Command) (args : List ℕ) → length args < head_len k args → IsHead lead name k args
-unfolding given_by
-heads lead name k args h = grind (arith, nat_tests, needs_in_head)
+unfolding given_by needs_more
+heads lead name k args h = grind (arith, nat_tests)
 
 -- behind the head
 pub given_is : (lead : Lead) (name : ℕ) (k : Command) (args : List ℕ) → head_len k args ≤ length args
@@ -57,7 +53,7 @@ given_is lead name k args h = let m : ltb (length args) (head_len k args) ≡ fa
 pub record IsPushed (k : Command) (args : List ℕ) (left c : ℕ) : Type 0 where
   pub listed : is_listed k (args ++ c ∷ []) ≡ true
   pub counted : is_counted k (args ++ c ∷ []) ≡ true
-  pub needs : needs_more k (args ++ c ∷ []) ≡ ltb 1 left
+  pub needs : needs_more k (args ++ c ∷ []) ≡ ltb 0 (left - 1)
   pub rows : prints_rows k (args ++ c ∷ []) ≡ prints_rows k args
   pub skipped : is_skipped k (args ++ c ∷ []) ≡ is_skipped k args
   pub left_is : 1 < left → HasLeft k (args ++ c ∷ []) (left - 1)

@@ -1,5 +1,5 @@
 -- What is left of the data that stand open, by the reader's phase.
-use Rattle.std.proofs.Common.{◌≡◌, ℕ, ◌-◌, Bool, false, cond, Some, List, [], refl, sym, ap, ◌∙◌, arith}
+use Rattle.std.proofs.Common.{min, ◌≡◌, ℕ, ◌-◌, Bool, false, cond, Some, List, [], refl, sym, ap, ◌∙◌, arith}
 use Rattle.std.proofs.lemmas.Bool.Decides.{nat_tests}
 use Rattle.std.proofs.lemmas.List.{append-nil}
 use Rattle.vp_dots.specs.declared.fault.Fault.{Fault}
@@ -10,9 +10,9 @@ use Rattle.vp_esc.specs.declared.reader.EscReader.{EscReader}
 use Rattle.vp_esc.specs.declared.reader.Data.{Data}
 use Rattle.vp_esc.specs.declared.reader.Phase.{Phase}
 use Rattle.vp_esc.specs.declared.reader.Phase.TheVariants as phases
-use Rattle.vp_esc.specs.Units.{prints_rows, is_skipped, stores_bytes, fault_in}
-use Rattle.vp_esc.specs.Reader.{in_phase, Begun, HasLeft, InBytes, InQr, are_rows, give_nothing, are_stored}
-use Rattle.vp_esc.specs.Runs.{left_in, left_before_last, text_in}
+use Rattle.vp_esc.specs.Units.{stores_bytes, fault_in}
+use Rattle.vp_esc.specs.Reader.{Stands, in_phase, Begun, HasLeft, InBytes, InQr, are_rows, give_nothing, are_stored}
+use Rattle.vp_esc.specs.Runs.{left_in, left_before_last, text_in, raster_left, skipped_left, stored_left}
 use Rattle.vp_esc.proofs.Fronts.{lead_of-lead_byte}
 
 -- of the data of these kinds, by the phase
@@ -55,25 +55,27 @@ left_is is_meant are tied (phases.Stops last) r rest h = none_other is_meant h.b
 left_is is_meant are tied (phases.Bytes kind left) r rest h =
     left_begun is_meant h.begun ∙ rw (tied.bytes r kind left rest h) (ap (λ n. cond (are kind) n 0) (left_of h.command h.args left h.left_is))
 left_is is_meant are tied (phases.TallColumns left) r rest h = none_other is_meant h.begun (tied.columns _)
-left_is is_meant are tied (phases.SymbolToZero kind more) r rest h = none_other is_meant h.begun (tied.symbol _)
-left_is is_meant are tied (phases.SymbolData kind left) r rest h = none_other is_meant h.begun (tied.symbol _)
 left_is is_meant are tied (phases.Qr count left) r rest h = none_other is_meant h.begun (tied.qr r count left rest h)
 left_is is_meant are tied (phases.Stopped fault) r rest h = none_stopped is_meant rest fault h
+left_is is_meant are tied p r rest h = none_other is_meant h.begun (tied.symbol _)
 
-pub rows_left_is : (p : Phase) (r : EscReader) (rest : List ℕ) → in_phase p r rest → left_in prints_rows rest ≡ left_by are_rows p
-rows_left_is p r rest h = grind (arith, left_is)
+pub raster_count : (r : EscReader) (bytes : List ℕ) (n m : ℕ) → Stands r bytes → m ≡ min n (left_by are_rows r.phase) → m ≡ min n (raster_left bytes)
+unfolding Stands
+raster_count r bytes n m s e = grind (arith, left_is)
 
-pub skipped_left_is : (p : Phase) (r : EscReader) (rest : List ℕ) → in_phase p r rest → left_in is_skipped rest ≡ left_by give_nothing p
-skipped_left_is p r rest h = grind (arith, left_is)
+pub skipped_count : (r : EscReader) (bytes : List ℕ) (n m : ℕ) → Stands r bytes → m ≡ min n (left_by give_nothing r.phase) → m ≡ min n (skipped_left bytes)
+unfolding Stands
+skipped_count r bytes n m s e = grind (arith, left_is)
 
-pub stored_left_is : (p : Phase) (r : EscReader) (rest : List ℕ) → in_phase p r rest → left_in stores_bytes rest ≡ left_by are_stored p
-stored_left_is p r rest h = left_is stores_bytes are_stored (record {
+pub stored_count : (r : EscReader) (bytes : List ℕ) (n m : ℕ) → Stands r bytes → m ≡ min n (left_by are_stored r.phase) → m ≡ min n (stored_left bytes)
+unfolding Stands
+stored_count r bytes n m s e = rw (left_is stores_bytes are_stored (record {
   stops = λ args. refl;
   columns = λ args. refl;
   symbol = λ args. refl;
   qr = λ r count left rest hand. rw hand.is_qr (rw hand.not_stored refl);
   bytes = λ r kind left rest hand. ap (stores_bytes hand.command) (sym (append-nil hand.args)) ∙ hand.stored [];
-}) p r rest h
+}) r.phase r _ s) e
 
 -- text in a command
 pub no_text : (rest input : List ℕ) → (rest ≡ [] → ⊥) → text_in rest input ≡ 0

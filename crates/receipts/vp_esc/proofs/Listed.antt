@@ -13,11 +13,10 @@ use Rattle.vp_esc.specs.declared.item.Lead.{Lead}
 use Rattle.vp_esc.specs.declared.item.Lead.TheVariants.{Esc, Gs}
 use Rattle.vp_esc.specs.declared.item.RasterScale.{RasterScale}
 use Rattle.vp_esc.specs.declared.item.ColumnMode.{ColumnMode}
-use Rattle.vp_esc.specs.declared.item.ColumnMode.TheVariants.{Single8, Double8, Single24, Double24}
+use Rattle.vp_esc.specs.declared.item.ColumnMode.TheVariants.{Single24, Double24}
 use Rattle.vp_esc.specs.declared.command.Command.TheVariants.{Plain, Columns, Raster, Symbol, Graphics}
 use Rattle.vp_esc.specs.declared.command.Plain.{Plain as PlainCommand}
-use Rattle.vp_esc.specs.declared.command.Plain.TheVariants.{Area}
-use Rattle.vp_esc.specs.Values.{spelled, is_cut, is_feed_cut, is_column_mode, column_mode_of, column_bytes, scale_of}
+use Rattle.vp_esc.specs.Values.{spelled, column_mode_of, column_bytes, scale_of}
 use Rattle.vp_esc.specs.Units.{needs_more, plain_item, stops_item, tall_columns, columns, raster_bytes, symbol_data, symbol_unit, given_behind}
 use Rattle.vp_esc.specs.Laws.{all_bytes}
 use Rattle.vp_esc.specs.Lines.{lead_word, two_bytes, symbol_bytes, line_of}
@@ -64,16 +63,9 @@ part_lines lead head word bytes parts item more b e f = grind (arith, append-nil
 pub two_is : (l h : ℕ) → l < 256 → h < 256 → two_bytes (l + 256 * h) ≡ l ∷ h ∷ []
 two_is l h p q = grind arith
 
-cut_only : (m : ℕ) → is_cut m ≡ true → is_feed_cut m ≡ false
-cut_only m e = grind (arith, nat_tests)
-
-area_listed : (lead : Lead) (name : ℕ) (a b c d e f g h : ℕ) → IsNamed (Plain Area) lead name → IsBytes (a ∷ b ∷ c ∷ d ∷ e ∷ f ∷ g ∷ h ∷ [])
-    → line_of (plain_item lead name Area (a ∷ b ∷ c ∷ d ∷ e ∷ f ∷ g ∷ h ∷ [])) ≡ listed (lead_word lead) (name ∷ a ∷ b ∷ c ∷ d ∷ e ∷ f ∷ g ∷ h ∷ [])
-area_listed lead name a b c d e f g h i p = grind (arith, two_is)
-
 pub plain_listed : (lead : Lead) (name : ℕ) (p : PlainCommand) (args : List ℕ) → IsNamed (Plain p) lead name → IsPlain p args → IsBytes args
     → line_of (plain_item lead name p args) ≡ listed (lead_word lead) (name ∷ args)
-plain_listed lead name p args i h b = grind (arith, common_steps, area_listed, cut_only)
+plain_listed lead name p args i h b = grind (arith, common_steps, two_is, nat_tests)
 
 -- the stops, and the byte that ended them
 pub stops_listed : (args : List ℕ) → IsStops args → line_of (stops_item args) ≡ listed (lead_word Esc) (0x44 ∷ args)
@@ -110,17 +102,13 @@ triples _ = []
 
 all_triples : (bytes : List ℕ) (n : ℕ) → length bytes ≡ 3 * n → all_bytes (triples bytes) ≡ bytes
 unfolding triples
-all_triples [] n e = refl
-all_triples (a ∷ []) n e = absurd (omega arith)
-all_triples (a ∷ b ∷ []) n e = absurd (omega arith)
 all_triples (a ∷ b ∷ c ∷ bytes) n e = ap (λ (t : List ℕ). a ∷ b ∷ c ∷ t) (all_triples bytes (n - 1) (omega arith))
+all_triples bytes n e = grind arith
 
 triple_lines : (bytes : List ℕ) → map line_of (tall_columns bytes) ≡ map (λ part. listed (codes "column") part) (triples bytes)
 unfolding triples
-triple_lines [] = refl
-triple_lines (a ∷ []) = refl
-triple_lines (a ∷ b ∷ []) = refl
 triple_lines (a ∷ b ∷ c ∷ bytes) = ap (λ ls. listed (codes "column") (a ∷ b ∷ c ∷ []) ∷ ls) (triple_lines bytes)
+triple_lines bytes = refl
 
 record InParts (bytes : List ℕ) (lines : List (List ℕ)) (word : List ℕ) : Type 0 where
   parts : List (List ℕ)
@@ -128,26 +116,17 @@ record InParts (bytes : List ℕ) (lines : List (List ℕ)) (word : List ℕ) : 
   lines_are : lines ≡ map (λ part. listed word part) parts
 
 columns_listed : (mode : ColumnMode) (bytes : List ℕ) (n : ℕ) → length bytes ≡ column_bytes mode * n → InParts bytes (map line_of (columns mode bytes)) (codes "column")
-columns_listed Single8 bytes n e = record { parts = singles bytes; bytes_are = sym (all_singles bytes); lines_are = column_lines bytes }
-columns_listed Double8 bytes n e = record { parts = singles bytes; bytes_are = sym (all_singles bytes); lines_are = column_lines bytes }
 columns_listed Single24 bytes n e = record { parts = triples bytes; bytes_are = sym (all_triples bytes n e); lines_are = triple_lines bytes }
 columns_listed Double24 bytes n e = record { parts = triples bytes; bytes_are = sym (all_triples bytes n e); lines_are = triple_lines bytes }
-
-column_head : (m l h : ℕ) → is_column_mode m ≡ true → l < 256 → h < 256 → line_of (items.Columns (column_mode_of m) (l + 256 * h)) ≡ listed (codes "esc") (0x2A ∷ m ∷ l ∷ h ∷ [])
-column_head m l h e p q = grind (arith, eqb-true, two_is)
+columns_listed mode bytes n e = record { parts = singles bytes; bytes_are = sym (all_singles bytes); lines_are = column_lines bytes }
 
 pub columns_list : (args : List ℕ) → IsColumns args → IsBytes args → Lists Esc (0x2A ∷ args) (map line_of (given_behind Esc 0x2A Columns args))
 unfolding given_behind
 columns_list args h b =
-    let bytes : IsBytes (h.m ∷ h.nl ∷ h.nh ∷ h.columns) = rw h.bytes at b in
     let parts = columns_listed (column_mode_of h.m) h.columns (h.nl + 256 * h.nh) h.count in
     rw h.bytes (part_lines Esc (0x2A ∷ h.m ∷ h.nl ∷ h.nh ∷ []) (codes "column") (0x2A ∷ h.m ∷ h.nl ∷ h.nh ∷ h.columns) parts.parts
     (items.Columns (column_mode_of h.m) (h.nl + 256 * h.nh)) (columns (column_mode_of h.m) h.columns)
-    (ap (λ (t : List ℕ). 0x2A ∷ h.m ∷ h.nl ∷ h.nh ∷ t) parts.bytes_are) (column_head h.m h.nl h.nh h.is_mode bytes.1.0 bytes.1.1.0) parts.lines_are)
-
-raster_head : (m xl xh yl yh : ℕ) → xl < 256 → xh < 256 → yl < 256 → yh < 256
-    → line_of (items.Raster (spelled m (scale_of m)) (xl + 256 * xh) (yl + 256 * yh)) ≡ listed (codes "gs") (0x76 ∷ 0x30 ∷ m ∷ xl ∷ xh ∷ yl ∷ yh ∷ [])
-raster_head m xl xh yl yh a b c d = grind (arith, two_is)
+    (ap (λ (t : List ℕ). 0x2A ∷ h.m ∷ h.nl ∷ h.nh ∷ t) parts.bytes_are) (grind (arith, eqb-true, two_is)) parts.lines_are)
 
 by_scale : (head dots : List ℕ) (m w n : ℕ) (scale : Option RasterScale) → may_skip Gs (head ++ dots) ≡ true
     → line_of (items.Raster (spelled m scale) w n) ≡ listed (codes "gs") head
@@ -160,9 +139,8 @@ by_scale head dots m w n (Some scale) s e =
 pub raster_list : (args : List ℕ) → IsRaster args → IsBytes args → Lists Gs (0x76 ∷ args) (map line_of (given_behind Gs 0x76 Raster args))
 unfolding given_behind
 raster_list args h b =
-    let bytes : IsBytes (0x30 ∷ h.m ∷ h.xl ∷ h.xh ∷ h.yl ∷ h.yh ∷ h.dots) = rw h.bytes at b in
     rw h.bytes (by_scale (0x76 ∷ 0x30 ∷ h.m ∷ h.xl ∷ h.xh ∷ h.yl ∷ h.yh ∷ []) h.dots h.m (h.xl + 256 * h.xh) (h.yl + 256 * h.yh) (scale_of h.m) refl
-    (raster_head h.m h.xl h.xh h.yl h.yh bytes.1.1.0 bytes.1.1.1.0 bytes.1.1.1.1.0 bytes.1.1.1.1.1.0))
+    (grind (arith, two_is)))
 
 pub graphics_list : (args : List ℕ) → IsGraphics args → Lists Gs (0x38 ∷ args) (map line_of (given_behind Gs 0x38 Graphics args))
 unfolding given_behind
@@ -178,9 +156,7 @@ symbol_line kind bytes l = ap (λ (t : List ℕ). listed (codes "gs") (symbol_by
 symbol_item : (args cs : List ℕ) (kind : ℕ) → get_or args 0 0 ≡ kind → symbol_data args ≡ cs → length cs ≤ 255 → needs_more Symbol args ≡ false
     → symbol_bytes kind cs ≡ 0x6B ∷ args → Lists Gs (0x6B ∷ args) (map line_of (given_behind Gs 0x6B Symbol args))
 unfolding given_behind
-symbol_item args cs kind k d l n b =
-    let line : line_of (symbol_unit (get_or args 0 0) (symbol_data args)) ≡ listed (codes "gs") (0x6B ∷ args) = grind (arith, get_or, symbol_line) in
-    rw n (one_line Gs (0x6B ∷ args) (symbol_unit (get_or args 0 0) (symbol_data args)) line)
+symbol_item args cs kind k d l n b = rw n (one_line Gs (0x6B ∷ args) (symbol_unit (get_or args 0 0) (symbol_data args)) (grind (arith, get_or, symbol_line)))
 
 pub to_zero_list : (args : List ℕ) → IsToZero args → length args ≤ 257 → needs_more Symbol args ≡ false → Lists Gs (0x6B ∷ args) (map line_of (given_behind Gs 0x6B Symbol args))
 to_zero_list args h l n = grind (arith, common_steps, symbol_item)

@@ -1,5 +1,5 @@
 -- The first two bytes of a command, by the command.
-use Rattle.std.proofs.Common.{◌≡◌, ℕ, Bool, true, false, eqb, cond, Option, Some, None, arith}
+use Rattle.std.proofs.Common.{◌≡◌, ℕ, Bool, true, false, cond, Option, Some, None, arith}
 use Rattle.std.proofs.lemmas.Grind.{common_steps}
 use Rattle.std.proofs.lemmas.Bool.Decides.{nat_tests}
 use Rattle.std.proofs.lemmas.Bool.{eqb-true}
@@ -59,11 +59,6 @@ IsNamed Symbol = Is Gs 0x6B
 IsNamed Function = Is Gs 0x28
 IsNamed Graphics = Is Gs 0x38
 
--- a test of the name, and what holds where it fails
-pick : (lead : Lead) (b n : ℕ) (k x : Command) (rest : Option Command) → IsNamed x lead n → (rest ≡ Some k → IsNamed k lead b)
-    → cond (eqb b n) (Some x) rest ≡ Some k → IsNamed k lead b
-pick lead b n k x rest here other e = grind (arith, nat_tests, eqb-true)
-
 none : {P : Type 0} {k : Command} → ◌≡◌ {A = Option Command} None (Some k) → P
 none e = cc
 
@@ -77,7 +72,7 @@ esc_command_named : (b : ℕ) (k : Command) → esc_command b ≡ Some k → IsN
 esc_command_named b k e = grind (arith, common_steps)
 
 gs_command_named : (b : ℕ) (k : Command) → gs_command b ≡ Some k → IsNamed k Gs b
-gs_command_named b k e = grind (arith, nat_tests, pick, pass, none)
+gs_command_named b k e = grind (arith, nat_tests, eqb-true, pass, none)
 
 -- each command is named so
 pub named_so : (lead : Lead) (name : ℕ) (k : Command) → command_of lead name ≡ Some k → IsNamed k lead name

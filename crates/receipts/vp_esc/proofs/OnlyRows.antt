@@ -7,14 +7,14 @@ use Rattle.std.proofs.lemmas.Bool.{cases_lt}
 use Rattle.std.proofs.lemmas.Bool.Decides.{nat_tests}
 use Rattle.vp_esc.specs.declared.item.Lead.{Lead}
 use Rattle.vp_esc.specs.declared.command.Command.{Command}
-use Rattle.vp_esc.specs.declared.command.Command.TheVariants.{Plain, TabStops, Columns, Raster, Symbol, Function, Graphics}
+use Rattle.vp_esc.specs.declared.command.Command.TheVariants.{Plain, TabStops, Raster, Symbol, Graphics}
 use Rattle.vp_esc.specs.declared.command.Plain.TheVariants.{Cut, Sensor, RealTime}
 use Rattle.vp_esc.specs.Values.{is_kind_to_zero}
 use Rattle.vp_esc.specs.Command.{lead_of, command_of, head_len, is_listed}
 use Rattle.vp_esc.specs.Units.{is_unfinished, needs_more, is_counted, is_short, data_len, rises_from}
 use Rattle.vp_esc.specs.Reader.{last_or}
 use Rattle.vp_esc.specs.Laws.{IsUnit}
-use Rattle.vp_esc.specs.Table.{IsPlain, IsArea, IsColumns, IsRaster, IsFunction, IsGraphics, IsStops, IsToZero, IsCountedSymbol, IsArguments, IsRow}
+use Rattle.vp_esc.specs.Table.{IsPlain, IsArea, IsRaster, IsGraphics, IsStops, IsToZero, IsArguments, IsRow}
 use Rattle.vp_esc.proofs.Fronts.{lead_byte-of}
 use Rattle.vp_esc.proofs.Stops.{rises_push}
 use Rattle.vp_esc.proofs.Symbols.{no_zero_push}
@@ -40,17 +40,11 @@ last_of x (y ∷ xs) =
 
 -- Counted data.
 
-sized_last : (k : Command) (front : List ℕ) (x : ℕ) → is_counted k (front ++ x ∷ []) ≡ true → IsWhole k (front ++ x ∷ [])
-    → length (front ++ x ∷ []) ≡ head_len k (front ++ x ∷ []) + data_len k (front ++ x ∷ [])
-sized_last k front x c w = grind (arith, length_push, needs_counted, head_push, nat_tests, counted_front, same)
-
 sized_of : (k : Command) (args : List ℕ) → is_counted k args ≡ true → IsWhole k args → IsSized k args
 sized_of k [] c w = grind (arith, needs_counted, nat_tests)
 sized_of k (a ∷ args) c w =
     let l : HasLast (a ∷ args) = last_of a args in
-    let e : IsWhole k (l.front ++ l.last ∷ []) = rw l.is at w in
-    let s : length (l.front ++ l.last ∷ []) ≡ head_len k (l.front ++ l.last ∷ []) + data_len k (l.front ++ l.last ∷ []) =
-    sized_last k l.front l.last (rw l.is at c) e in
+    let s : length (l.front ++ l.last ∷ []) ≡ head_len k (l.front ++ l.last ∷ []) + data_len k (l.front ++ l.last ∷ []) = grind (arith, length_push, needs_counted, head_push, nat_tests, counted_front, same) in
     record { listed = w.listed; counted = c; len = rw (← l.is) at s }
 
 -- Each command's row.
@@ -59,16 +53,8 @@ nil_of : (xs : List ℕ) → length xs ≡ 0 → xs ≡ []
 nil_of xs h = grind (arith, common_steps)
 
 area_row : (args : List ℕ) → length args ≡ 8 → IsArea args
-area_row [] h = absurd (omega arith)
-area_row (a ∷ []) h = absurd (omega arith)
-area_row (a ∷ b ∷ []) h = absurd (omega arith)
-area_row (a ∷ b ∷ c ∷ []) h = absurd (omega arith)
-area_row (a ∷ b ∷ c ∷ d ∷ []) h = absurd (omega arith)
-area_row (a ∷ b ∷ c ∷ d ∷ e ∷ []) h = absurd (omega arith)
-area_row (a ∷ b ∷ c ∷ d ∷ e ∷ f ∷ []) h = absurd (omega arith)
-area_row (a ∷ b ∷ c ∷ d ∷ e ∷ f ∷ g ∷ []) h = absurd (omega arith)
 area_row (a ∷ b ∷ c ∷ d ∷ e ∷ f ∷ g ∷ i ∷ []) h = grind arith
-area_row (a ∷ b ∷ c ∷ d ∷ e ∷ f ∷ g ∷ i ∷ j ∷ args) h = absurd (omega arith)
+area_row args h = absurd (omega arith)
 
 cut_row : (args : List ℕ) → IsSized (Plain Cut) args → IsPlain Cut args
 cut_row [] s = absurd (omega (arith, s.len))
@@ -77,10 +63,8 @@ cut_row (m ∷ n ∷ []) s = grind arith
 cut_row (m ∷ n ∷ x ∷ args) s = grind arith
 
 sensor_row : (args : List ℕ) → IsSized (Plain Sensor) args → IsPlain Sensor args
-sensor_row [] s = absurd (omega (arith, s.len))
-sensor_row (m ∷ []) s = absurd (omega (arith, s.len))
 sensor_row (m ∷ n ∷ []) s = grind (arith, nat_tests)
-sensor_row (m ∷ n ∷ x ∷ args) s = absurd (omega (arith, s.len))
+sensor_row args s = absurd (omega (arith, s.len))
 
 real_time_row : (args : List ℕ) → IsSized (Plain RealTime) args → IsPlain RealTime args
 real_time_row [] s = absurd (omega (arith, s.len))
@@ -88,29 +72,14 @@ real_time_row (m ∷ []) s = grind arith
 real_time_row (m ∷ n ∷ []) s = grind arith
 real_time_row (m ∷ n ∷ x ∷ args) s = grind arith
 
-columns_row : (args : List ℕ) → IsSized Columns args → IsColumns args
-columns_row args s = grind (arith, common_steps)
-
 raster_row : (args : List ℕ) → IsSized Raster args → IsRaster args
 raster_row args s = grind (arith, common_steps)
-
-function_row : (args : List ℕ) → IsSized Function args → IsFunction args
-function_row args s = grind (arith, common_steps)
 
 graphics_row : (args : List ℕ) → IsSized Graphics args → IsGraphics args
 graphics_row args s = grind (arith, common_steps)
 
-not_true : (b : Bool) → not b ≡ true → b ≡ false
-not_true b e = grind arith
-
-not_false : (b : Bool) → not b ≡ false → b ≡ true
-not_false b e = grind arith
-
 other_of : (a b : Bool) → (a || b) ≡ true → a ≡ false → b ≡ true
 other_of a b h e = grind arith
-
-counted_row : (args : List ℕ) → IsSized Symbol args → IsCountedSymbol args
-counted_row args s = grind (arith, common_steps)
 
 -- Data whose end a byte tells.
 
@@ -151,15 +120,15 @@ stops_row (a ∷ args) w =
 zero_row : (args : List ℕ) → is_counted Symbol args ≡ false → IsWhole Symbol args → IsToZero args
 unfolding needs_more
 zero_row [] e w = let d : true ≡ false = w.whole in cc
-zero_row (m ∷ []) e w = grind (arith, not_false)
+zero_row (m ∷ []) e w = grind arith
 zero_row (m ∷ x ∷ args) e w =
-    let z : is_kind_to_zero m ≡ true = not_false (is_kind_to_zero m) e in
+    let z : is_kind_to_zero m ≡ true = grind arith in
     let l : HasLast (x ∷ args) = last_of x args in
     let n : cond (is_kind_to_zero m) (not (list_any (λ b. eqb b 0) l.front)) (is_short Symbol (m ∷ l.front)) ≡ true =
     w.fronts (m ∷ l.front) l.last (ap (λ y. m ∷ y) l.is) in
-    let none : list_any (λ b. eqb b 0) l.front ≡ false = not_true _ (rw z at n) in
+    let none : list_any (λ b. eqb b 0) l.front ≡ false = grind arith in
     let d : not (list_any (λ b. eqb b 0) (x ∷ args)) ≡ false = rw z at w.whole in
-    let some : list_any (λ b. eqb b 0) (l.front ++ l.last ∷ []) ≡ true = rw (← l.is) (not_false _ d) in
+    let some : list_any (λ b. eqb b 0) (l.front ++ l.last ∷ []) ≡ true = rw (← l.is) (grind arith) in
     let zero : l.last ≡ 0 = let q : eqb l.last 0 ≡ true = sym (no_zero_push l.front l.last none) ∙ some in grind (arith, nat_tests) in
     record {
       kind = m;
@@ -170,7 +139,7 @@ zero_row (m ∷ x ∷ args) e w =
     }
 
 arguments_of : (k : Command) (args : List ℕ) → IsWhole k args → IsArguments k args
-arguments_of k args w = grind (arith, nil_of, area_row, cut_row, sensor_row, real_time_row, sized_of, stops_row, columns_row, raster_row, counted_row, zero_row, function_row, graphics_row)
+arguments_of k args w = grind (arith, nil_of, area_row, cut_row, sensor_row, real_time_row, sized_of, stops_row, common_steps, raster_row, zero_row, graphics_row)
 
 -- Units.
 
@@ -188,8 +157,7 @@ unit_named : (lead : Lead) (b name : ℕ) (args : List ℕ) (o : Option Command)
 unfolding is_unfinished
 unit_named lead b name args None e f u = let d : true ≡ false = rw (e, f) at u.whole in cc
 unit_named lead b name args (Some k) e f u =
-    let d : cond (is_listed k args) (needs_more k args) true ≡ false = rw (e, f) at u.whole in
-    let l : (is_listed k args ≡ true) × (needs_more k args ≡ false) = listed_of (is_listed k args) (needs_more k args) d in
+    let l : (is_listed k args ≡ true) × (needs_more k args ≡ false) = grind (arith, listed_of) in
     inr (record {
       lead = lead;
       name = name;

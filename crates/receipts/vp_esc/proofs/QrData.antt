@@ -1,40 +1,27 @@
 -- The bytes of GS ( k.
-use Rattle.std.proofs.Common.{◌≡◌, ◌≢◌, ℕ, ◌+◌, ◌-◌, ◌*◌, ◌<◌, ◌≤◌, Bool, true, false, cond, ltb, leb, eqb, Option, Ok, List, [], ◌∷◌, ◌++◌, length, take, drop, map, get_or, refl, sym, ap, subst, ◌∙◌, arith, ⊎_elim}
+use Rattle.std.proofs.Common.{◌≡◌, ◌≢◌, ℕ, ◌+◌, ◌-◌, ◌*◌, ◌<◌, ◌≤◌, Bool, true, false, cond, ltb, leb, eqb, Option, Ok, List, [], ◌∷◌, ◌++◌, length, take, drop, map, get_or, refl, sym, ap, ◌∙◌, arith}
 use Rattle.std.proofs.lemmas.Grind.{common_steps}
 use Rattle.std.specs.Prelude.{option_to_list}
 use Rattle.std.proofs.lemmas.Bool.Decides.{nat_tests}
-use Rattle.std.proofs.lemmas.Bool.{cases_lt}
 use Rattle.std.proofs.lemmas.List.{append_cancel_left, append-nil, map_push, length-take, length_push}
 use Rattle.arrayvec.specs.ArrayVec.{ArrayVec}
 use Rattle.vp_esc.specs.declared.item.EscItem.{EscItem}
 use Rattle.vp_esc.specs.declared.item.EscItem.TheVariants as items
-use Rattle.vp_esc.specs.declared.item.QrModel.{QrModel}
 use Rattle.vp_esc.specs.declared.item.Lead.{Lead}
 use Rattle.vp_esc.specs.declared.command.Command.TheVariants.{Function}
 use Rattle.vp_esc.specs.declared.reader.EscReader.{EscReader}
-use Rattle.vp_esc.specs.declared.reader.Phase.{Phase}
 use Rattle.vp_esc.specs.declared.reader.Phase.TheVariants as phases
-use Rattle.vp_esc.specs.Values.{qr_model_of}
-use Rattle.vp_esc.specs.Qr.{qr_items, value_items, model_items, is_qr_function, ignored, begins_store}
-use Rattle.vp_esc.specs.Units.{needs_more, given_by, given_behind}
+use Rattle.vp_esc.specs.Qr.{qr_items, value_items, ignored, begins_store}
+use Rattle.vp_esc.specs.Units.{given_by, given_behind}
 use Rattle.vp_esc.specs.declared.reader.Data.TheVariants as kinds
-use Rattle.vp_esc.specs.Reader.{Begun, Advances, Lands, InQr, qr_or_ground, behind_values, data_items}
-use Rattle.vp_esc.proofs.Fronts.{lands_open, lands_whole, continues, completes, begun_longer}
+use Rattle.vp_esc.specs.Reader.{Begun, Advances, Lands, InQr, bytes_or_ground, qr_or_ground, behind_values, data_items}
+use Rattle.vp_esc.proofs.Fronts.{lands_by, advances_by, stands_before, begun_longer}
 use Rattle.vp_esc.proofs.Heads.{given_is, needs_counted, IsPushed, pushed}
 use Rattle.vp_esc.proofs.Symbols.{take_255_push}
 
 -- what a byte adds from the second value on
 abbrev pub added : ℕ → ℕ → ℕ → List EscItem
 added function n c = cond (eqb function 80) (cond (eqb n 48) (items.QrByte c ∷ []) []) []
-
-model_push : (count cn n x : ℕ) (model : Option QrModel) (more : List ℕ) (c : ℕ)
-    → model_items count cn n model (x ∷ more ++ c ∷ []) ≡ model_items count cn n model (x ∷ more) ++ []
-model_push count cn n x model more c = grind arith
-
-store_push : (b : Bool) (count cn n : ℕ) (more : List ℕ) (c : ℕ)
-    → cond b (items.QrStore (count - 3) ∷ map (λ b. items.QrByte b) (more ++ c ∷ [])) (ignored count (cn ∷ 80 ∷ n ∷ []) ∷ [])
-    ≡ cond b (items.QrStore (count - 3) ∷ map (λ b. items.QrByte b) more) (ignored count (cn ∷ 80 ∷ n ∷ []) ∷ []) ++ cond b (items.QrByte c ∷ []) []
-store_push b count cn n more c = grind (arith, map_push)
 
 by_function : (a b d e : Bool) (m m' x y s s' p more : List EscItem) → m' ≡ m ++ [] → s' ≡ s ++ more
     → (a ≡ true → e ≡ false) → (b ≡ true → e ≡ false) → (d ≡ true → e ≡ false)
@@ -46,20 +33,15 @@ value_push : (count cn function n x : ℕ) (more : List ℕ) (c : ℕ)
 unfolding value_items
 value_push count cn function n x more c =
     by_function (eqb function 65) (eqb function 67) (eqb function 69) (eqb function 80) _ _ _ _ _ _ _ _
-    (model_push count cn n x (qr_model_of n) more c) (store_push (eqb n 48) count cn n (x ∷ more) c)
+    (grind arith) (grind (arith, map_push))
     (λ e. grind (arith, nat_tests)) (λ e. grind (arith, nat_tests)) (λ e. grind (arith, nat_tests))
-
-qr_push : (count cn function n x : ℕ) (more : List ℕ) (c : ℕ)
-    → qr_items count (cn ∷ function ∷ n ∷ x ∷ more ++ c ∷ [])
-    ≡ qr_items count (cn ∷ function ∷ n ∷ x ∷ more) ++ cond (is_qr_function cn function count) (added function n c) []
-unfolding qr_items
-qr_push count cn function n x more c = grind (arith, value_push)
 
 -- The first bytes tell what a byte gives.
 qr_same : (count : ℕ) (values : List ℕ) (c : ℕ) (xs : List EscItem)
     → qr_items count (take 255 values ++ c ∷ []) ≡ qr_items count (take 255 values) ++ xs
     → qr_items count (values ++ c ∷ []) ≡ qr_items count values ++ xs
-qr_same count values c xs h = grind (arith, append_cancel_left, qr_push)
+unfolding qr_items
+qr_same count values c xs h = grind (arith, append_cancel_left, value_push)
 
 qr_given_is : (lead : Lead) (name pl ph : ℕ) (values : List ℕ)
     → given_by lead name Function (107 ∷ pl ∷ ph ∷ values) ≡ qr_items (pl + 256 * ph) values
@@ -72,27 +54,16 @@ pub land_qr : (r : EscReader) (pl ph count : ℕ) (rest : List ℕ) (final : Arr
     → Lands item rest (record r { phase = qr_or_ground count count; kept = final })
 land_qr r pl ph count rest final item b k e empty g =
     let b' : Begun r.lead r.name Function (107 ∷ pl ∷ ph ∷ []) rest = rw k at b in
-    let g' : given_by r.lead r.name Function (107 ∷ pl ∷ ph ∷ []) ≡ option_to_list item = qr_given_is r.lead r.name pl ph [] ∙ rw (← e) g in
-    let n : needs_more Function (107 ∷ pl ∷ ph ∷ []) ≡ ltb 3 (3 + count) = needs_counted Function (107 ∷ pl ∷ ph ∷ []) refl ∙ rw e refl in
-    ⊎_elim
-    (λ (h : count < 1).
-    let z : eqb count 0 ≡ true = grind (arith, nat_tests) in
-    let s : ltb 3 (3 + count) ≡ false = grind (arith, nat_tests) in
-    rw z (lands_whole item (record r { phase = phases.Ground; kept = final }) b' (n ∙ s) g' refl))
-    (λ (h : 1 ≤ count).
-    let z : eqb count 0 ≡ false = grind (arith, nat_tests) in
-    let s : ltb 3 (3 + count) ≡ true = grind (arith, nat_tests) in
-    let new : EscReader = record r { phase = phases.Qr count count; kept = final } in
-    rw z (lands_open item new b' (n ∙ s) g' (record {
+    lands_by (ltb 0 count) item _ b' (grind (arith, needs_counted, nat_tests)) (qr_given_is r.lead r.name pl ph [] ∙ rw (← e) g)
+    (stands_before (record r { kept = final }) (phases.Qr count count) count rest (λ h. record {
       args = 107 ∷ pl ∷ ph ∷ [];
       begun = b';
-      left_is = record { head = omega arith; some_left = omega arith; count = rw e refl };
+      left_is = record { head = omega arith; some_left = h; count = rw e refl };
       is_qr = refl;
       count_is = e;
       kept = rw empty refl;
       not_stored = refl;
-    })))
-    (cases_lt count 1)
+    }))
 
 pub qr_none : (count : ℕ) → count ≡ 0 → qr_items count [] ≡ ignored 0 [] ∷ []
 unfolding qr_items
@@ -108,9 +79,6 @@ record IsQr (args : List ℕ) (count : ℕ) : Type 0 where
   pub ph : ℕ
   pub bytes : args ≡ 107 ∷ pl ∷ ph ∷ drop 3 args
   pub count_is : count ≡ pl + 256 * ph
-
-is_qr_of : (args : List ℕ) (count : ℕ) → 3 ≤ length args → get_or args 0 0 ≡ 107 → count ≡ get_or args 1 0 + 256 * get_or args 2 0 → IsQr args count
-is_qr_of args count h e f = grind arith
 
 drop_push : (args : List ℕ) (c : ℕ) → 3 ≤ length args → drop 3 (args ++ c ∷ []) ≡ drop 3 args ++ c ∷ []
 drop_push args c h = grind arith
@@ -131,9 +99,6 @@ qr_given_next lead name count args c xs q h = grind (arith, qr_given_is)
 store_front : (values : List ℕ) → begins_store (take 255 values) ≡ begins_store values
 store_front values = grind arith
 
-pub kept_not_stored : (r : EscReader) (count left : ℕ) (rest : List ℕ) → InQr r count left rest → begins_store r.kept.items ≡ false
-kept_not_stored r count left rest hand = ap begins_store hand.kept ∙ store_front (drop 3 hand.args) ∙ hand.not_stored
-
 -- the third value begins them
 begins_here : (values : List ℕ) (c : ℕ) → begins_store values ≡ false → begins_store (values ++ c ∷ []) ≡ true → values ++ c ∷ [] ≡ 49 ∷ 80 ∷ 48 ∷ []
 begins_here values c u h = grind (arith, nat_tests)
@@ -149,36 +114,26 @@ pub qr_step : (r : EscReader) (count left c : ℕ) (rest : List ℕ) (item : Opt
     → Advances (Ok item) rest c (record r { phase = behind_values final.items count (left - 1); kept = final })
 qr_step r count left c rest item final hand given k =
     let enough : 3 ≤ length hand.args = hand.left_is.head in
-    let q : IsQr hand.args count = is_qr_of hand.args count enough hand.is_qr hand.count_is in
+    let q : IsQr hand.args count = grind arith in
     let p : IsPushed Function hand.args left c = pushed Function hand.args left c hand.begun.listed refl hand.left_is in
     let len : length r.kept.items < count =
     rw hand.kept (omega (arith, length-take 255 (drop 3 hand.args), length_drop hand.args enough, hand.left_is.count, hand.left_is.some_left, hand.count_is)) in
     let h : qr_items count (take 255 (drop 3 hand.args) ++ c ∷ []) ≡ qr_items count (take 255 (drop 3 hand.args)) ++ option_to_list item =
-    rw (← hand.kept) (given len (kept_not_stored r count left rest hand)) in
+    rw (← hand.kept) (given len (grind (arith, store_front))) in
     let g : given_by r.lead r.name Function (hand.args ++ c ∷ []) ≡ given_by r.lead r.name Function hand.args ++ option_to_list item =
     qr_given_next r.lead r.name count hand.args c (option_to_list item) q (qr_same count (drop 3 hand.args) c (option_to_list item) h) in
     let all : final.items ≡ take 255 (drop 3 (hand.args ++ c ∷ [])) =
     k ∙ rw hand.kept (take_255_push (drop 3 hand.args) c) ∙ ap (take 255) (sym (drop_push hand.args c enough)) in
     let begins : begins_store final.items ≡ begins_store (drop 3 (hand.args ++ c ∷ [])) = ap begins_store all ∙ store_front (drop 3 (hand.args ++ c ∷ [])) in
-    ⊎_elim
-    (λ (l : left < 2).
-    let z : eqb (left - 1) 0 ≡ true = grind (arith, nat_tests) in
-    let s : ltb 1 left ≡ false = grind (arith, nat_tests) in
-    let ends : Advances (Ok item) rest c (record r { phase = phases.Ground; kept = final }) =
-    completes c item (record r { phase = phases.Ground; kept = final }) hand.begun p.listed (p.needs ∙ s) g refl in
-    rw z (subst (λ (x : Phase). Advances (Ok item) rest c (record r { phase = x; kept = final })) (either_ground (begins_store final.items)) ends))
-    (λ (l : 2 ≤ left).
-    let z : eqb (left - 1) 0 ≡ false = grind (arith, nat_tests) in
-    let s : ltb 1 left ≡ true = grind (arith, nat_tests) in
-    rw z (by_values (begins_store final.items)
+    by_values (begins_store final.items)
     (λ stored.
     let values : drop 3 hand.args ++ c ∷ [] ≡ 49 ∷ 80 ∷ 48 ∷ [] =
     begins_here (drop 3 hand.args) c hand.not_stored (ap begins_store (sym (drop_push hand.args c enough)) ∙ sym begins ∙ stored) in
     let bytes : hand.args ++ c ∷ [] ≡ 107 ∷ q.pl ∷ q.ph ∷ 49 ∷ 80 ∷ 48 ∷ [] =
     ap (λ xs. xs ++ c ∷ []) q.bytes ∙ ap (λ xs. 107 ∷ q.pl ∷ q.ph ∷ xs) values in
-    let many : 4 ≤ q.pl + 256 * q.ph = omega (arith, hand.left_is.count, l, hand.count_is, q.count_is, ap length bytes, length_push hand.args c) in
-    let new : EscReader = record r { phase = phases.Bytes kinds.Stored (left - 1); kept = final } in
-    continues c item new hand.begun p.listed (p.needs ∙ s) g (record {
+    advances_by _ c item _ hand.begun p.listed p.needs g
+    (stands_before (record r { kept = final }) (phases.Bytes kinds.Stored (left - 1)) (left - 1) (rest ++ c ∷ []) (λ l.
+    let many : 4 ≤ q.pl + 256 * q.ph = omega (arith, hand.left_is.count, l, hand.count_is, q.count_is, ap length bytes, length_push hand.args c) in record {
       command = Function;
       args = hand.args ++ c ∷ [];
       begun = begun_longer c hand.begun p.listed;
@@ -189,10 +144,9 @@ qr_step r count left c rest item final hand given k =
       stored = λ more. rw bytes refl;
       gives = λ more. rw bytes (qr_given_is r.lead r.name q.pl q.ph (49 ∷ 80 ∷ 48 ∷ more) ∙ stored_given (q.pl + 256 * q.ph) more many
           ∙ sym (ap (λ xs. xs ++ data_items kinds.Stored more) (qr_given_is r.lead r.name q.pl q.ph (49 ∷ 80 ∷ 48 ∷ []) ∙ stored_given (q.pl + 256 * q.ph) [] many)));
-    }))
-    (λ others.
-    let new : EscReader = record r { phase = phases.Qr count (left - 1); kept = final } in
-    continues c item new hand.begun p.listed (p.needs ∙ s) g (record {
+    })))
+    (λ others. advances_by _ c item _ hand.begun p.listed p.needs g
+    (stands_before (record r { kept = final }) (phases.Qr count (left - 1)) (left - 1) (rest ++ c ∷ []) (λ l. record {
       args = hand.args ++ c ∷ [];
       begun = begun_longer c hand.begun p.listed;
       left_is = p.left_is (omega arith);
@@ -200,15 +154,10 @@ qr_step r count left c rest item final hand given k =
       count_is = hand.count_is ∙ sym ((front_push hand.args c enough).1);
       kept = all;
       not_stored = sym begins ∙ others;
-    }))))
-    (cases_lt left 2)
+    })))
   where
-    either_ground : (b : Bool) → phases.Ground ≡ cond b phases.Ground phases.Ground
-    either_ground true = refl
-    either_ground false = refl
-
-    by_values : (b : Bool) → (b ≡ true → Advances (Ok item) rest c (record r { phase = phases.Bytes kinds.Stored (left - 1); kept = final }))
-        → (b ≡ false → Advances (Ok item) rest c (record r { phase = phases.Qr count (left - 1); kept = final }))
-        → Advances (Ok item) rest c (record r { phase = cond b (phases.Bytes kinds.Stored (left - 1)) (phases.Qr count (left - 1)); kept = final })
+    by_values : (b : Bool) → (b ≡ true → Advances (Ok item) rest c (record r { phase = bytes_or_ground kinds.Stored (left - 1); kept = final }))
+        → (b ≡ false → Advances (Ok item) rest c (record r { phase = qr_or_ground count (left - 1); kept = final }))
+        → Advances (Ok item) rest c (record r { phase = cond b (bytes_or_ground kinds.Stored (left - 1)) (qr_or_ground count (left - 1)); kept = final })
     by_values true f g = f refl
     by_values false f g = g refl

@@ -101,8 +101,7 @@ unfolding qr_items ValueListed
 qr_list p pl ph [] c l = let e : eqb p 0 ≡ true = grind (arith, nat_tests) in rw e (ignored_list p pl ph [] [] c)
 qr_list p pl ph (cn ∷ []) c l = let e : eqb p 1 ≡ true = grind (arith, nat_tests) in rw e (ignored_list p pl ph (cn ∷ []) [] c)
 qr_list p pl ph (cn ∷ function ∷ []) c l =
-    let k : 2 ≡ p = l in
-    let e : is_qr_function cn function p ≡ false = ap (λ q. is_qr_function cn function q) (sym k) ∙ no_function cn function in
+    let e : is_qr_function cn function p ≡ false = grind (arith, no_function) in
     rw e (ignored_list p pl ph (cn ∷ function ∷ []) [] c)
 qr_list p pl ph (cn ∷ function ∷ n ∷ more) c l = by_function (is_qr_function cn function p) refl
   where

@@ -9,12 +9,11 @@ use Rattle.vp_esc.specs.declared.item.Lead.{Lead}
 use Rattle.vp_esc.specs.declared.item.Lead.TheVariants.{Esc}
 use Rattle.vp_esc.specs.declared.command.Command.{Command}
 use Rattle.vp_esc.specs.declared.command.Command.TheVariants.{Plain, TabStops, Columns, Raster, Symbol, Function, Graphics}
-use Rattle.vp_esc.specs.declared.command.Plain.{Plain as PlainCommand}
 use Rattle.vp_esc.specs.Command.{lead_byte, command_of, head_len, is_listed}
 use Rattle.vp_esc.specs.Units.{is_unfinished, needs_more, is_counted, data_len, rises_from}
 use Rattle.vp_esc.specs.Laws.{IsUnit}
-use Rattle.vp_esc.specs.Table.{IsPlain, IsColumns, IsRaster, IsFunction, IsGraphics, IsStops, IsToZero, IsCountedSymbol, IsArguments, IsCommand, IsAlone, IsRow}
-use Rattle.vp_esc.proofs.Fronts.{Front, front_is, lead_of-lead_byte}
+use Rattle.vp_esc.specs.Table.{IsStops, IsToZero, IsCountedSymbol, IsArguments, IsCommand, IsAlone, IsRow}
+use Rattle.vp_esc.proofs.Fronts.{front_is, lead_of-lead_byte}
 use Rattle.vp_esc.proofs.Stops.{rises_push}
 use Rattle.vp_esc.proofs.Heads.{IsSame, same, needs_counted, heads, IsHead}
 use Rattle.vp_esc.proofs.Divisions.{front_of_push}
@@ -28,9 +27,6 @@ pub record IsShort (k : Command) (front : List ℕ) : Type 0 where
 pub record IsDone (k : Command) (args : List ℕ) : Type 0 where
   pub listed : is_listed k args ≡ true
   pub needs : needs_more k args ≡ false
-
-shorter : (args front more : List ℕ) → args ≡ front ++ more → more ≢ [] → length front < length args
-shorter args front more e n = grind (arith, common_steps)
 
 -- Commands whose data are counted.
 pub record IsSized (k : Command) (args : List ℕ) : Type 0 where
@@ -46,7 +42,7 @@ counted_front k front more h e = grind (arith, common_steps)
 
 sized_short : (k : Command) (args front more : List ℕ) → IsSized k args → args ≡ front ++ more → more ≢ [] → IsShort k front
 sized_short k args front more s e n =
-    let l : length front < length args = shorter args front more e n in
+    let l : length front < length args = grind (arith, common_steps) in
     record {
       listed = listed_front k args front more e s.listed;
       needs = ⊎_elim
@@ -62,21 +58,6 @@ sized_short k args front more s e n =
 
 sized_done : (k : Command) (args : List ℕ) → IsSized k args → IsDone k args
 sized_done k args s = record { listed = s.listed; needs = needs_counted k args s.counted ∙ grind (arith, nat_tests, s.len) }
-
-sized_plain : (p : PlainCommand) (args : List ℕ) → IsPlain p args → IsSized (Plain p) args
-sized_plain p args h = grind (arith, nat_tests)
-
-sized_columns : (args : List ℕ) → IsColumns args → IsSized Columns args
-sized_columns args h = record { listed = rw h.bytes h.is_mode; counted = refl; len = rw h.bytes (omega (arith, h.count)) }
-
-sized_raster : (args : List ℕ) → IsRaster args → IsSized Raster args
-sized_raster args h = record { listed = rw h.bytes refl; counted = refl; len = rw h.bytes (omega (arith, h.count)) }
-
-sized_function : (args : List ℕ) → IsFunction args → IsSized Function args
-sized_function args h = record { listed = rw h.bytes refl; counted = refl; len = rw h.bytes (omega (arith, h.count)) }
-
-sized_graphics : (args : List ℕ) → IsGraphics args → IsSized Graphics args
-sized_graphics args h = record { listed = rw h.bytes refl; counted = refl; len = rw h.bytes (omega (arith, h.count)) }
 
 sized_symbol : (args : List ℕ) → IsCountedSymbol args → IsSized Symbol args
 sized_symbol args h = grind arith
@@ -99,8 +80,7 @@ stops_done args a = grind (arith, rises_push, length_push, nat_tests)
 
 zero_short : (args front more : List ℕ) → IsToZero args → args ≡ front ++ more → more ≢ [] → IsShort Symbol front
 unfolding needs_more
-zero_short args [] more z e n = record { listed = refl; needs = refl }
-zero_short args (f ∷ front) more z e n = grind (arith, front_of_push, list_any-append)
+zero_short args front more z e n = grind (arith, front_of_push, list_any-append)
 
 zero_done : (args : List ℕ) → IsToZero args → IsDone Symbol args
 unfolding needs_more
@@ -109,28 +89,28 @@ zero_done args z = grind (arith, common_steps)
 -- All of them.
 
 arguments_short : (k : Command) (args front more : List ℕ) → IsArguments k args → args ≡ front ++ more → more ≢ [] → IsShort k front
-arguments_short (Plain p) args front more a e n = sized_short (Plain p) args front more (sized_plain p args a) e n
+arguments_short (Plain p) args front more a e n = sized_short (Plain p) args front more (grind (arith, nat_tests)) e n
 arguments_short TabStops args front more a e n = stops_short args front more a e n
-arguments_short Columns args front more a e n = sized_short Columns args front more (sized_columns args a) e n
-arguments_short Raster args front more a e n = sized_short Raster args front more (sized_raster args a) e n
+arguments_short Columns args front more a e n = sized_short Columns args front more (grind arith) e n
+arguments_short Raster args front more a e n = sized_short Raster args front more (grind arith) e n
 arguments_short Symbol args front more a e n = ⊎_elim
     (λ (z : IsToZero args). zero_short args front more z e n)
     (λ (z : IsCountedSymbol args). sized_short Symbol args front more (sized_symbol args z) e n)
     a
-arguments_short Function args front more a e n = sized_short Function args front more (sized_function args a) e n
-arguments_short Graphics args front more a e n = sized_short Graphics args front more (sized_graphics args a) e n
+arguments_short Function args front more a e n = sized_short Function args front more (grind arith) e n
+arguments_short Graphics args front more a e n = sized_short Graphics args front more (grind arith) e n
 
 arguments_done : (k : Command) (args : List ℕ) → IsArguments k args → IsDone k args
-arguments_done (Plain p) args a = sized_done (Plain p) args (sized_plain p args a)
+arguments_done (Plain p) args a = sized_done (Plain p) args (grind (arith, nat_tests))
 arguments_done TabStops args a = stops_done args a
-arguments_done Columns args a = sized_done Columns args (sized_columns args a)
-arguments_done Raster args a = sized_done Raster args (sized_raster args a)
+arguments_done Columns args a = sized_done Columns args (grind arith)
+arguments_done Raster args a = sized_done Raster args (grind arith)
 arguments_done Symbol args a = ⊎_elim
     (λ (z : IsToZero args). zero_done args z)
     (λ (z : IsCountedSymbol args). sized_done Symbol args (sized_symbol args z))
     a
-arguments_done Function args a = sized_done Function args (sized_function args a)
-arguments_done Graphics args a = sized_done Graphics args (sized_graphics args a)
+arguments_done Function args a = sized_done Function args (grind arith)
+arguments_done Graphics args a = sized_done Graphics args (grind arith)
 
 row_fronts : (lead : Lead) (name : ℕ) (k : Command) (args : List ℕ) → command_of lead name ≡ Some k → IsArguments k args
     → (front more : List ℕ) → lead_byte lead ∷ name ∷ args ≡ front ++ more → more ≢ [] → is_unfinished front ≡ true
@@ -140,9 +120,8 @@ row_fronts lead name k args named a front more e n = grind (arith, lead_of-lead_
 command_is_unit : (bytes : List ℕ) → IsCommand bytes → IsUnit bytes
 command_is_unit bytes r =
     let d : IsDone r.command r.args = arguments_done r.command r.args r.arguments in
-    let f : Front bytes r.lead r.name r.command r.args = front_is r.lead r.name r.command r.args bytes r.named r.bytes_are in
     record {
-      whole = rw f.opens (rw d.listed d.needs);
+      whole = rw (front_is r.lead r.name r.command r.args bytes r.named r.bytes_are).opens (rw d.listed d.needs);
       shortest = λ front more e n. row_fronts r.lead r.name r.command r.args r.named r.arguments front more (sym r.bytes_are ∙ e) n;
     }
 

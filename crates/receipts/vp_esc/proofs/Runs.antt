@@ -52,11 +52,10 @@ runs r kind left bytes (b ∷ xs) s h =
     let one = next r kind left bytes b s (omega arith) in
     let more = runs r kind (left - 1) (bytes ++ b ∷ []) xs one.stands (omega arith) in
     let all : (bytes ++ b ∷ []) ++ xs ≡ bytes ++ b ∷ xs = append_assoc bytes (b ∷ []) xs in
-    let less : left - 1 - length xs ≡ left - length (b ∷ xs) = omega arith in
     record {
       gives = grind (arith, append_assoc, next_item);
       known = λ some. ap fault_of (sym all) ∙ known_on (bytes ++ b ∷ []) xs one.known more.known;
-      stands = subst (λ n. Stands (before_bytes r kind n) (bytes ++ b ∷ xs)) less (subst (Stands (before_bytes r kind (left - 1 - length xs))) all more.stands);
+      stands = grind (arith, before_bytes);
     }
 
 -- the bytes at the front of an input

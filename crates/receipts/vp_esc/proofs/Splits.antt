@@ -1,13 +1,13 @@
 -- One more byte at the end of the stream.
-use Rattle.std.proofs.Common.{◌≡◌, ℕ, Bool, cond, Option, Some, Result, Err, List, [], ◌∷◌, ◌++◌, refl, ap, ◌∙◌, append_assoc, arith}
+use Rattle.std.proofs.Common.{◌≡◌, ℕ, Option, Some, Result, Err, List, [], ◌∷◌, ◌++◌, refl, append_assoc, arith}
 use Rattle.std.specs.List.{flat_map}
 use Rattle.std.proofs.lemmas.List.{append-nil}
 use Rattle.std.proofs.lemmas.List.Concat.{flat_map-append}
 use Rattle.vp_esc.specs.declared.item.EscItem.{EscItem}
 use Rattle.vp_dots.specs.declared.fault.Fault.{Fault}
 use Rattle.vp_esc.specs.declared.reader.EscReader.{EscReader}
-use Rattle.vp_esc.specs.Units.{is_unfinished, given, fault_in}
-use Rattle.vp_esc.specs.Split.{Split, with_rest, with_byte, split_on, split, items, fault_of}
+use Rattle.vp_esc.specs.Units.{given, fault_in}
+use Rattle.vp_esc.specs.Split.{Split, with_byte, split_on, split, items, fault_of}
 use Rattle.vp_esc.specs.Reader.{Advances, Stands, Gives, rest_of}
 use Rattle.vp_esc.proofs.Fronts.{closed_sound, stuck}
 
@@ -16,17 +16,9 @@ unfolding split_on
 split_on-push s [] c = refl
 split_on-push s (b ∷ bytes) c = split_on-push (with_byte s b) bytes c
 
-pub split-push : (bytes : List ℕ) (c : ℕ) → split (bytes ++ c ∷ []) ≡ with_byte (split bytes) c
-unfolding split
-split-push bytes c = split_on-push _ bytes c
-
 pub rest-push : (bytes : List ℕ) (c : ℕ) → (split (bytes ++ c ∷ [])).rest ≡ rest_of ((split bytes).rest ++ c ∷ [])
-rest-push bytes c = grind (arith, split-push)
-
-given_by_units : (units : List (List ℕ)) (front : List ℕ) (b : Bool)
-    → flat_map given (with_rest units front b).units ++ given (with_rest units front b).rest ≡ flat_map given units ++ given front
-unfolding given
-given_by_units units front b = grind (arith, flat_map-append, append-nil)
+unfolding split
+rest-push bytes c = grind (arith, split_on-push)
 
 pub items-is : (bytes : List ℕ) → items bytes ≡ flat_map given (split bytes).units ++ given (split bytes).rest
 unfolding items
@@ -34,21 +26,14 @@ items-is bytes = refl
 
 pub items-push : (bytes : List ℕ) (c : ℕ)
     → items (bytes ++ c ∷ []) ≡ flat_map given (split bytes).units ++ given ((split bytes).rest ++ c ∷ [])
-unfolding items
-items-push bytes c = grind (arith, split-push, given_by_units)
-
-fault_by : (front : List ℕ) (b : Bool) → is_unfinished front ≡ b → fault_in (cond b front []) ≡ fault_in front
-unfolding fault_in
-fault_by front b e = grind (arith, closed_sound)
-
-pub fault-push : (bytes : List ℕ) (c : ℕ) → fault_of (bytes ++ c ∷ []) ≡ fault_in ((split bytes).rest ++ c ∷ [])
-unfolding fault_of
-fault-push bytes c = ap fault_in (rest-push bytes c) ∙ fault_by ((split bytes).rest ++ c ∷ []) (is_unfinished ((split bytes).rest ++ c ∷ [])) refl
+unfolding items split given
+items-push bytes c = grind (arith, split_on-push, flat_map-append, append-nil)
 
 -- a step by the rest is a step by the bytes
 pub gives-from_advances : (result : Result (Option EscItem) Fault) (bytes : List ℕ) (c : ℕ) (new : EscReader)
     → Advances result (split bytes).rest c new → Gives result (items bytes) (items (bytes ++ c ∷ [])) (fault_of (bytes ++ c ∷ []))
-gives-from_advances result bytes c new a = grind (arith, items-is, append_assoc, items-push, fault-push)
+unfolding fault_of fault_in
+gives-from_advances result bytes c new a = grind (arith, items-is, append_assoc, items-push, rest-push, closed_sound)
 
 pub stands-from_advances : (result : Result (Option EscItem) Fault) (bytes : List ℕ) (c : ℕ) (new : EscReader)
     → Advances result (split bytes).rest c new → Stands new (bytes ++ c ∷ [])

@@ -1,19 +1,16 @@
 -- Tab stops.
-use Rattle.std.proofs.Common.{◌≡◌, ℕ, ◌-◌, ◌<◌, ◌≤◌, Bool, true, false, ◌&&◌, ltb, Option, Some, None, Ok, List, [], ◌∷◌, ◌++◌, length, take, get_or, refl, sym, ap, ◌∙◌, arith}
-use Rattle.std.specs.Prelude.{option_to_list}
+use Rattle.std.proofs.Common.{◌≡◌, ℕ, ◌-◌, ◌<◌, ◌≤◌, Bool, true, false, ◌&&◌, ltb, Some, None, Ok, List, [], ◌∷◌, ◌++◌, length, take, get_or, refl, ap, ◌∙◌, arith}
 use Rattle.std.proofs.lemmas.Bool.Decides.{nat_tests}
 use Rattle.std.proofs.lemmas.List.{take_at, length_push}
 use Rattle.arrayvec.specs.ArrayVec.{ArrayVec}
-use Rattle.vp_esc.specs.declared.item.EscItem.{EscItem}
 use Rattle.vp_esc.specs.declared.item.EscItem.TheVariants as items
 use Rattle.vp_esc.specs.declared.command.Command.TheVariants.{TabStops}
 use Rattle.vp_esc.specs.declared.reader.EscReader.{EscReader}
 use Rattle.vp_esc.specs.declared.reader.Phase.TheVariants as phases
 use Rattle.vp_esc.specs.Command.{is_listed}
-use Rattle.vp_esc.specs.declared.item.Lead.{Lead}
-use Rattle.vp_esc.specs.Units.{needs_more, given_by, given_behind, rises_from, stops_item, at_last}
+use Rattle.vp_esc.specs.Units.{needs_more, given_behind, rises_from}
 use Rattle.vp_esc.specs.Reader.{Begun, Advances, last_or, InStops}
-use Rattle.vp_esc.proofs.Fronts.{continues, completes, begun_longer}
+use Rattle.vp_esc.proofs.Fronts.{advances_by, begun_longer}
 use Rattle.vp_esc.proofs.Heads.{given_is}
 use Rattle.vp_esc.proofs.Phases.{kept_whole}
 
@@ -35,40 +32,28 @@ last_at : (xs : List ℕ) (c : ℕ) → get_or (xs ++ c ∷ []) (length xs) 0 �
 last_at [] c = refl
 last_at (x ∷ xs) c = last_at xs c
 
-stops_given : (lead : Lead) (name : ℕ) (args : List ℕ) → given_by lead name TabStops args ≡ at_last (needs_more TabStops args) (stops_item args)
-unfolding given_behind
-stops_given lead name args = given_is lead name TabStops args (omega arith)
-
--- nothing was given before
-stops_pushed : (lead : Lead) (name : ℕ) (args : List ℕ) (c : ℕ) (item : Option EscItem) → needs_more TabStops args ≡ true
-    → at_last (needs_more TabStops (args ++ c ∷ [])) (stops_item (args ++ c ∷ [])) ≡ option_to_list item
-    → given_by lead name TabStops (args ++ c ∷ []) ≡ given_by lead name TabStops args ++ option_to_list item
-stops_pushed lead name args c item n h = grind (arith, stops_given)
-
 -- a stop that isn't the 32nd
 pub stops_more : (r : EscReader) (last c : ℕ) (rest : List ℕ) (kept : ArrayVec ℕ) → InStops r last rest → last < c
     → kept.items ≡ take 255 (r.kept.items ++ c ∷ []) → length kept.items < 32
     → Advances (Ok None) rest c (record r { phase = phases.Stops c; kept = kept })
-unfolding needs_more
+unfolding needs_more given_behind
 stops_more r last c rest kept hand less k few =
     let w : kept.items ≡ r.kept.items ++ c ∷ [] = k ∙ kept_whole r.kept.items c (omega (arith, hand.few)) in
-    let l : length (r.kept.items ++ c ∷ []) < 32 = rw (← w) few in
-    let b : ltb (last_or 0 r.kept.items) c ≡ true = grind (arith, nat_tests, hand.last_is) in
-    let up : rises_from 0 (r.kept.items ++ c ∷ []) ≡ true = rises_push 0 r.kept.items c ∙ rw (hand.rise, b) refl in
+    let up : rises_from 0 (r.kept.items ++ c ∷ []) ≡ true = grind (arith, rises_push, nat_tests, hand.last_is) in
     let m : ltb (length (r.kept.items ++ c ∷ [])) 32 ≡ true = grind (arith, nat_tests) in
     let n : (rises_from 0 (r.kept.items ++ c ∷ []) && ltb (length (r.kept.items ++ c ∷ [])) 32) ≡ true = rw (up, m) refl in
     let m' : ltb (length r.kept.items) 32 ≡ true = grind (arith, nat_tests, hand.few) in
     let n' : (rises_from 0 r.kept.items && ltb (length r.kept.items) 32) ≡ true = rw (hand.rise, m') refl in
     let new : EscReader = record r { phase = phases.Stops c; kept = kept } in
     let longer_begun : Begun r.lead r.name TabStops kept.items (rest ++ c ∷ []) = grind (arith, begun_longer, listed_stops) in
-    continues c None new hand.begun (listed_stops (r.kept.items ++ c ∷ [])) n (stops_pushed r.lead r.name r.kept.items c None n' (rw n refl))
+    advances_by true c None new hand.begun (listed_stops (r.kept.items ++ c ∷ [])) n (grind (arith, given_is))
     (record { begun = longer_begun; rise = rw w up; few = few; last_is = rw w (last_or_push 0 r.kept.items c) })
 
 -- the 32nd stop
 pub stops_full : (r : EscReader) (last c : ℕ) (rest : List ℕ) (kept : ArrayVec ℕ) (stops : ArrayVec ℕ) → InStops r last rest → last < c
     → kept.items ≡ take 255 (r.kept.items ++ c ∷ []) → 32 ≤ length kept.items → (length kept.items ≤ 32 → stops.items ≡ kept.items)
     → Advances (Ok (Some (items.TabStops stops None))) rest c (record r { phase = phases.Ground; kept = kept })
-unfolding needs_more
+unfolding needs_more given_behind
 stops_full r last c rest kept stops hand less k many same =
     let w : kept.items ≡ r.kept.items ++ c ∷ [] = k ∙ kept_whole r.kept.items c (omega (arith, hand.few)) in
     let l : 32 ≤ length (r.kept.items ++ c ∷ []) = rw (← w) many in
@@ -79,18 +64,17 @@ stops_full r last c rest kept stops hand less k many same =
     let n : (rises_from 0 (r.kept.items ++ c ∷ []) && ltb (length (r.kept.items ++ c ∷ [])) 32) ≡ false = rw (up, m) refl in
     let m' : ltb (length r.kept.items) 32 ≡ true = grind (arith, nat_tests, hand.few) in
     let n' : (rises_from 0 r.kept.items && ltb (length r.kept.items) 32) ≡ true = rw (hand.rise, m') refl in
-    completes c (Some (items.TabStops stops None)) (record r { phase = phases.Ground; kept = kept }) hand.begun
+    advances_by false c (Some (items.TabStops stops None)) (record r { phase = phases.Ground; kept = kept }) hand.begun
     (listed_stops (r.kept.items ++ c ∷ [])) n
-    (stops_pushed r.lead r.name r.kept.items c (Some (items.TabStops stops None)) n' (rw (n, up) (ap (λ (xs : List ℕ). items.TabStops (record { items = xs }) None ∷ []) (sym (same no_more ∙ w))))) refl
+    (grind (arith, given_is)) refl
 
 -- a byte that doesn't rise
 pub stops_end : (r : EscReader) (last c : ℕ) (rest : List ℕ) (stops : ArrayVec ℕ) → InStops r last rest → c ≤ last
     → (length r.kept.items ≤ 32 → stops.items ≡ r.kept.items)
     → Advances (Ok (Some (items.TabStops stops (Some c)))) rest c (record r { phase = phases.Ground })
-unfolding needs_more
+unfolding needs_more given_behind
 stops_end r last c rest stops hand less same =
-    let b : ltb (last_or 0 r.kept.items) c ≡ false = grind (arith, nat_tests, hand.last_is) in
-    let up : rises_from 0 (r.kept.items ++ c ∷ []) ≡ false = rises_push 0 r.kept.items c ∙ rw (hand.rise, b) refl in
+    let up : rises_from 0 (r.kept.items ++ c ∷ []) ≡ false = grind (arith, rises_push, nat_tests, hand.last_is) in
     let n : (rises_from 0 (r.kept.items ++ c ∷ []) && ltb (length (r.kept.items ++ c ∷ [])) 32) ≡ false = rw up refl in
     let m' : ltb (length r.kept.items) 32 ≡ true = grind (arith, nat_tests, hand.few) in
     let n' : (rises_from 0 r.kept.items && ltb (length r.kept.items) 32) ≡ true = rw (hand.rise, m') refl in
@@ -98,6 +82,6 @@ stops_end r last c rest stops hand less same =
     let s : stops.items ≡ r.kept.items = same (omega (arith, hand.few)) in
     let t : take (length (r.kept.items ++ c ∷ []) - 1) (r.kept.items ++ c ∷ []) ≡ stops.items = grind (arith, take, length, take_at) in
     let e : get_or (r.kept.items ++ c ∷ []) (length (r.kept.items ++ c ∷ []) - 1) 0 ≡ c = rw len (last_at r.kept.items c) in
-    completes c (Some (items.TabStops stops (Some c))) (record r { phase = phases.Ground }) hand.begun
+    advances_by false c (Some (items.TabStops stops (Some c))) (record r { phase = phases.Ground }) hand.begun
     (listed_stops (r.kept.items ++ c ∷ [])) n
-    (stops_pushed r.lead r.name r.kept.items c (Some (items.TabStops stops (Some c))) n' (rw (n, up, e) (ap (λ (xs : List ℕ). items.TabStops (record { items = xs }) (Some c) ∷ []) t))) refl
+    (grind (arith, given_is)) refl

@@ -17,7 +17,7 @@ use Rattle.vp_esc.specs.Command.{head_len}
 use Rattle.vp_esc.specs.Units.{needs_more, given_by, given_behind, symbol_data, symbol_unit, symbol_with, at_last}
 use Rattle.vp_esc.specs.declared.item.Lead.{Lead}
 use Rattle.vp_esc.specs.Reader.{Begun, Advances, Lands, InSymbolToZero, InSymbolData}
-use Rattle.vp_esc.proofs.Fronts.{lands_open, lands_whole, continues, completes, begun_longer}
+use Rattle.vp_esc.proofs.Fronts.{lands_by, advances_by, begun_longer}
 use Rattle.vp_esc.proofs.Heads.{given_is}
 use Rattle.vp_esc.proofs.Phases.{kept_whole}
 
@@ -49,9 +49,6 @@ symbol_pushed : (lead : Lead) (name m : ℕ) (args : List ℕ) (c : ℕ) (item :
     → given_by lead name Symbol (m ∷ args ++ c ∷ []) ≡ given_by lead name Symbol (m ∷ args) ++ option_to_list item
 symbol_pushed lead name m args c item h n e = grind (arith, length_push, symbol_given)
 
-one_at_least : (b : Bool) (x : ℕ) (xs : List ℕ) → b ≡ true → cond b 1 2 ≤ length (x ∷ xs)
-one_at_least b x xs e = grind arith
-
 two_at_least : (b : Bool) (x y : ℕ) (xs : List ℕ) → cond b 1 2 ≤ length (x ∷ y ∷ xs)
 two_at_least b x y xs = grind arith
 
@@ -60,13 +57,11 @@ pub symbol_more : (r : EscReader) (kind c : ℕ) (more more' : Bool) (rest : Lis
     → Advances (Ok None) rest c (record r { phase = phases.SymbolToZero kind more'; kept = kept })
 unfolding needs_more
 symbol_more r kind c more more' rest kept hand some k m =
-    let l : head_len Symbol (kind ∷ hand.codes) ≤ length (kind ∷ hand.codes) = one_at_least (is_kind_to_zero kind) kind hand.codes hand.to_zero in
-    let z : eqb c 0 ≡ false = grind (arith, nat_tests) in
-    let a : list_any (λ b. eqb b 0) (hand.codes ++ c ∷ []) ≡ false = no_zero_push hand.codes c hand.no_zero ∙ z in
+    let a : list_any (λ b. eqb b 0) (hand.codes ++ c ∷ []) ≡ false = grind (arith, no_zero_push, nat_tests) in
     let n : needs_more Symbol (kind ∷ hand.codes ++ c ∷ []) ≡ true = rw hand.to_zero (rw a refl) in
     let n' : needs_more Symbol (kind ∷ hand.codes) ≡ true = rw hand.to_zero (rw hand.no_zero refl) in
-    continues c None (record r { phase = phases.SymbolToZero kind more'; kept = kept }) hand.begun hand.begun.listed n
-    (symbol_pushed r.lead r.name kind hand.codes c None l n' (rw n refl))
+    advances_by true c None (record r { phase = phases.SymbolToZero kind more'; kept = kept }) hand.begun hand.begun.listed n
+    (symbol_pushed r.lead r.name kind hand.codes c None (grind arith) n' (rw n refl))
     (record {
       codes = hand.codes ++ c ∷ [];
       begun = begun_longer c hand.begun hand.begun.listed;
@@ -81,14 +76,13 @@ pub symbol_ends : (r : EscReader) (kind c : ℕ) (more : Bool) (rest : List ℕ)
     → Advances (Ok (Some (symbol_with kind r.kept.items more))) rest c (record r { phase = phases.Ground; kept = final })
 unfolding needs_more
 symbol_ends r kind c more rest final hand zero =
-    let l : head_len Symbol (kind ∷ hand.codes) ≤ length (kind ∷ hand.codes) = one_at_least (is_kind_to_zero kind) kind hand.codes hand.to_zero in
+    let l : head_len Symbol (kind ∷ hand.codes) ≤ length (kind ∷ hand.codes) = grind arith in
     let a : list_any (λ b. eqb b 0) (hand.codes ++ c ∷ []) ≡ true = no_zero_push hand.codes c hand.no_zero ∙ rw zero refl in
     let n : needs_more Symbol (kind ∷ hand.codes ++ c ∷ []) ≡ false = rw hand.to_zero (rw a refl) in
     let n' : needs_more Symbol (kind ∷ hand.codes) ≡ true = rw hand.to_zero (rw hand.no_zero refl) in
-    let len : length (kind ∷ hand.codes ++ c ∷ []) - 2 ≡ length hand.codes = omega (arith, length_push hand.codes c) in
-    let d : symbol_data (kind ∷ hand.codes ++ c ∷ []) ≡ hand.codes = grind (arith, take_at, length) in
+    let d : symbol_data (kind ∷ hand.codes ++ c ∷ []) ≡ hand.codes = grind (arith, take_at, length_push, length) in
     let i : symbol_unit kind (symbol_data (kind ∷ hand.codes ++ c ∷ [])) ≡ symbol_with kind r.kept.items more = rw (d, hand.kept, hand.beyond) refl in
-    completes c (Some (symbol_with kind r.kept.items more)) (record r { phase = phases.Ground; kept = final }) hand.begun hand.begun.listed n
+    advances_by false c (Some (symbol_with kind r.kept.items more)) (record r { phase = phases.Ground; kept = final }) hand.begun hand.begun.listed n
     (symbol_pushed r.lead r.name kind hand.codes c (Some (symbol_with kind r.kept.items more)) l n' (rw n (ap (λ x. x ∷ []) i))) refl
 
 pub symbol_goes_on : (r : EscReader) (kind left c : ℕ) (rest : List ℕ) (kept : ArrayVec ℕ) → InSymbolData r kind left rest
@@ -100,7 +94,7 @@ symbol_goes_on r kind left c rest kept hand some k =
     let len : length (r.kept.items ++ c ∷ []) ≡ length r.kept.items + 1 = length_push r.kept.items c in
     let n : needs_more Symbol (kind ∷ hand.count ∷ r.kept.items ++ c ∷ []) ≡ true = rw hand.counted (rw len (grind (arith, nat_tests, hand.sum))) in
     let n' : needs_more Symbol (kind ∷ hand.count ∷ r.kept.items) ≡ true = rw hand.counted (grind (arith, nat_tests, hand.sum, hand.some_left)) in
-    continues c None (record r { phase = phases.SymbolData kind (left - 1); kept = kept }) hand.begun hand.begun.listed n
+    advances_by true c None (record r { phase = phases.SymbolData kind (left - 1); kept = kept }) hand.begun hand.begun.listed n
     (symbol_pushed r.lead r.name kind (hand.count ∷ r.kept.items) c None (two_at_least (is_kind_to_zero kind) kind hand.count r.kept.items) n' (rw n refl))
     (record {
       count = hand.count;
@@ -119,10 +113,8 @@ symbol_last r kind left c rest kept final hand some k =
     let len : length (r.kept.items ++ c ∷ []) ≡ length r.kept.items + 1 = length_push r.kept.items c in
     let n : needs_more Symbol (kind ∷ hand.count ∷ r.kept.items ++ c ∷ []) ≡ false = rw hand.counted (rw len (grind (arith, nat_tests, hand.sum, hand.some_left))) in
     let n' : needs_more Symbol (kind ∷ hand.count ∷ r.kept.items) ≡ true = rw hand.counted (grind (arith, nat_tests, hand.sum, hand.some_left)) in
-    let d : symbol_data (kind ∷ hand.count ∷ r.kept.items ++ c ∷ []) ≡ r.kept.items ++ c ∷ [] = rw hand.counted refl in
-    let m : ltb 255 (length (r.kept.items ++ c ∷ [])) ≡ false = rw len (grind (arith, nat_tests, hand.sum, hand.some_left, hand.fits)) in
-    let i : symbol_unit kind (symbol_data (kind ∷ hand.count ∷ r.kept.items ++ c ∷ [])) ≡ symbol_with kind kept.items false = rw (d, k, m) refl in
-    completes c (Some (symbol_with kind kept.items false)) (record r { phase = phases.Ground; kept = final }) hand.begun hand.begun.listed n
+    let i : symbol_unit kind (symbol_data (kind ∷ hand.count ∷ r.kept.items ++ c ∷ [])) ≡ symbol_with kind kept.items false = grind (arith, nat_tests, hand.sum, hand.some_left, hand.fits) in
+    advances_by false c (Some (symbol_with kind kept.items false)) (record r { phase = phases.Ground; kept = final }) hand.begun hand.begun.listed n
     (symbol_pushed r.lead r.name kind (hand.count ∷ r.kept.items) c (Some (symbol_with kind kept.items false)) (two_at_least (is_kind_to_zero kind) kind hand.count r.kept.items) n' (rw n (ap (λ x. x ∷ []) i))) refl
 
 -- The head of a symbol.
@@ -139,11 +131,10 @@ pub symbol_begins : (r : EscReader) (kind : ℕ) (rest : List ℕ) (kept : Array
     → Lands None rest (record r { phase = phases.SymbolToZero kind false; kept = kept })
 unfolding needs_more
 symbol_begins r kind rest kept b enough k empty z =
-    let list : r.kept.items ≡ kind ∷ [] = rw k (one _ r.kept.items (rw (← k) z) enough) in
-    let b' : Begun r.lead r.name Symbol (kind ∷ []) rest = rw list at b in
+    let b' : Begun r.lead r.name Symbol (kind ∷ []) rest = grind (arith, one) in
     let n : needs_more Symbol (kind ∷ []) ≡ true = rw z refl in
-    lands_open None (record r { phase = phases.SymbolToZero kind false; kept = kept }) b' n
-    (symbol_given r.lead r.name kind [] (one_at_least (is_kind_to_zero kind) kind [] z) ∙ rw n refl)
+    lands_by true None (record r { phase = phases.SymbolToZero kind false; kept = kept }) b' n
+    (symbol_given r.lead r.name kind [] (grind arith) ∙ rw n refl)
     (record { codes = []; begun = b'; to_zero = z; no_zero = refl; kept = rw empty refl; beyond = refl })
 
 pub two_given : (xs : List ℕ) → length xs ≡ head_len Symbol xs → is_kind_to_zero (get_or xs 0 0) ≡ false → xs ≡ get_or xs 0 0 ∷ get_or xs 1 0 ∷ []
@@ -154,9 +145,8 @@ pub symbol_counts : (r : EscReader) (kind left : ℕ) (rest : List ℕ) → Begu
     → Lands None rest (record r { phase = phases.SymbolData kind left })
 unfolding needs_more
 symbol_counts r kind left rest b empty z some fits =
-    let m : ltb 2 (2 + left) ≡ true = grind (arith, nat_tests) in
-    let n : needs_more Symbol (kind ∷ left ∷ []) ≡ true = rw z m in
-    lands_open None (record r { phase = phases.SymbolData kind left }) b n
+    let n : needs_more Symbol (kind ∷ left ∷ []) ≡ true = grind (arith, nat_tests) in
+    lands_by true None (record r { phase = phases.SymbolData kind left }) b n
     (symbol_given r.lead r.name kind (left ∷ []) (two_at_least (is_kind_to_zero kind) kind left []) ∙ rw n refl)
     (record { count = left; begun = rw empty b; counted = z; some_left = omega arith; sum = rw empty (omega arith); fits = fits })
 
@@ -165,8 +155,7 @@ pub symbol_empty : (r : EscReader) (kind left : ℕ) (rest : List ℕ) (kept : A
     → Lands (Some (symbol_with kind [] false)) rest (record r { phase = phases.Ground; kept = kept })
 unfolding needs_more
 symbol_empty r kind left rest kept b z none =
-    let b' : Begun r.lead r.name Symbol (kind ∷ 0 ∷ []) rest = rw none at b in
     let n : needs_more Symbol (kind ∷ 0 ∷ []) ≡ false = rw z refl in
     let d : symbol_data (kind ∷ 0 ∷ []) ≡ [] = rw z refl in
-    lands_whole (Some (symbol_with kind [] false)) (record r { phase = phases.Ground; kept = kept }) b' n
+    lands_by false (Some (symbol_with kind [] false)) (record r { phase = phases.Ground; kept = kept }) (rw none at b) n
     (symbol_given r.lead r.name kind (0 ∷ []) (two_at_least (is_kind_to_zero kind) kind 0 []) ∙ rw n (ap (λ (d : List ℕ). symbol_unit kind d ∷ []) d)) refl

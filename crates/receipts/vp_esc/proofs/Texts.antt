@@ -1,5 +1,5 @@
 -- Text, one byte after another.
-use Rattle.std.proofs.Common.{◌≡◌, ℕ, ◌+◌, ◌<◌, ◌≤◌, Bool, true, cond, ◌&&◌, zero, suc, is_none, Option, Some, None, Ok, List, [], ◌∷◌, ◌++◌, length, take, refl, sym, ap, subst, ◌∙◌, append_assoc, arith}
+use Rattle.std.proofs.Common.{◌≡◌, ℕ, ◌+◌, ◌<◌, ◌≤◌, Bool, true, cond, ◌&&◌, suc, is_none, Option, Some, None, Ok, List, [], ◌∷◌, ◌++◌, length, take, refl, sym, ap, subst, ◌∙◌, append_assoc, arith}
 use Rattle.std.proofs.lemmas.Grind.{common_steps}
 use Rattle.std.proofs.lemmas.Bool.Decides.{nat_tests}
 use Rattle.std.specs.List.{prefix_len, AllByRecursion}
@@ -19,9 +19,8 @@ first_passes z n m h = grind arith
 
 -- what stands at the front of the front is text
 pub front_passes : (n : ℕ) (cs : List ℕ) → n ≤ prefix_len is_text cs → AllByRecursion (λ b. is_text b ≡ true) (take n cs)
-front_passes zero cs h = tt
-front_passes (suc n) [] h = tt
 front_passes (suc n) (c ∷ cs) h = grind (arith, front_passes n cs (first_passes (is_text c) n (prefix_len is_text cs) h).1)
+front_passes n cs h = tt
 
 no_lead : (lead : Option Lead) (z : Bool) → is_none lead && z ≡ true → lead ≡ None
 no_lead lead z h = grind arith

@@ -25,8 +25,7 @@ byte_line b e = grind arith
 by_command : (lead : Lead) (name : ℕ) (k : Command) (args : List ℕ) → IsNamed k lead name → IsArguments k args → IsBytes args
     → needs_more k args ≡ false → is_long_symbol lead (name ∷ args) ≡ false → Lists lead (name ∷ args) (map line_of (given_behind lead name k args))
 unfolding given_behind
-by_command lead name k args i a b n s =
-    grind (arith, one_line, plain_listed, stops_listed, columns_list, raster_list, to_zero_list, counted_list, function_list, graphics_list, nat_tests)
+by_command lead name k args i a b n s = grind (arith, one_line, plain_listed, stops_listed, columns_list, raster_list, to_zero_list, counted_list, function_list, graphics_list, nat_tests)
 
 -- a whole command is of the table, and its head is there
 record IsWhole (lead : Lead) (name : ℕ) (k : Command) (args front : List ℕ) : Type 0 where

@@ -1,4 +1,4 @@
-use Rattle.std.proofs.Common.{refl, ◌≡◌, ◌≤◌, true, false, length, arith}
+use Rattle.std.proofs.Common.{refl, ◌≡◌, true, false, length, arith}
 use Rattle.std.proofs.lemmas.Bool.Decides.{nat_tests}
 use Rattle.vp_esc.specs.Command.{lists}
 use Rattle.vp_esc.proofs.Phases.{argument_lands, argument_refused, listed_push}
@@ -7,9 +7,8 @@ use Rattle.vp_esc.proofs.reader.EscReader.argument.Goals.{else-is_empty-via-then
 
 pub returns-then-not-lists : goal.returns-then-not-lists
 returns-then-not-lists c rest hand =
-    let none : length c.args.self.now.kept.items ≤ 0 = grind (arith, nat_tests, c.is_empty.ensures, c.if-is_empty.true) in
     let un : lists c.args.command c.args.byte ≡ false = grind (arith, nat_tests, c.lists.ensures, c.if-not-lists.true) in
-    argument_refused c.args.self.now c.args.command rest c.args.byte _ _ hand none un c.byte.ensures refl
+    argument_refused c.args.self.now c.args.command rest c.args.byte _ _ hand (grind (arith, nat_tests, c.is_empty.ensures, c.if-is_empty.true)) un c.byte.ensures refl
 
 pub returns : goal.returns
 returns c rest hand =

@@ -1,4 +1,4 @@
-use Rattle.std.proofs.Common.{◌≡◌, ◌∷◌, [], false, eqb, get_or, refl, ap, ◌∙◌, arith}
+use Rattle.std.proofs.Common.{◌≡◌, ◌∷◌, [], get_or, refl, ap, ◌∙◌, arith}
 use Rattle.std.proofs.lemmas.Bool.Decides.{nat_tests}
 use Rattle.vp_esc.proofs.Bytes.{three, land_function}
 use Rattle.vp_esc.proofs.QrData.{land_qr, qr_none, qr_some}
@@ -7,12 +7,10 @@ use Rattle.vp_esc.proofs.reader.EscReader.function_head.Goals as goal
 
 pub returns-then-args-ne107 : goal.returns-then-args-ne107
 returns-then-args-ne107 c rest begun =
-    let differs : eqb (get_or c.as_slice-args.result.now 0 0) 107 ≡ false = grind (arith, nat_tests, c.if-args-ne107.true) in
-    let other : eqb (get_or c.args.self.now.kept.items 0 0) 107 ≡ false = rw c.as_slice-args.ensures.value at differs in
     let bytes = c.unused.ensures ∙ ap (λ xs. c.args.self.now.name ∷ xs) c.as_slice-args.ensures.value in
     rw (c.bytes_phase-self.ensures, c.word-count.ensures, c.as_slice-args.ensures.value)
     (lands_item _ _ _ (without_effect c.args.self.now.lead c.unused.result c.args.self.now.name c.args.self.now.kept.items bytes)
-    (land_function c.args.self.now _ _ _ _ rest begun (three _ c.requires) refl other))
+    (land_function c.args.self.now _ _ _ _ rest begun (three _ c.requires) refl (grind (arith, nat_tests, c.if-args-ne107.true))))
 
 pub returns-then-count-eq0 : goal.returns-then-count-eq0
 returns-then-count-eq0 c rest begun =

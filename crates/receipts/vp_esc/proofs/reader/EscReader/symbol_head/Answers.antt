@@ -1,4 +1,4 @@
-use Rattle.std.proofs.Common.{◌≡◌, ◌∷◌, [], true, false, get_or, refl, sym, subst, ◌∙◌}
+use Rattle.std.proofs.Common.{◌≡◌, true, false, get_or, refl, sym, subst, ◌∙◌}
 use Rattle.vp_esc.specs.declared.command.Command.TheVariants.{Symbol}
 use Rattle.vp_esc.specs.Values.{is_kind_to_zero}
 use Rattle.vp_esc.specs.Reader.{Begun}
@@ -13,8 +13,5 @@ returns-then-is_kind_to_zero c rest begun =
 
 pub returns : goal.returns
 returns c rest begun =
-    let z : is_kind_to_zero (get_or c.args.self.now.kept.items 0 0) ≡ false =
-    rw c.as_slice-args.ensures.value at (sym c.is_kind_to_zero.ensures ∙ c.if-is_kind_to_zero.false) in
-    let both : Begun c.args.self.now.lead c.args.self.now.name Symbol (get_or c.args.self.now.kept.items 0 0 ∷ get_or c.args.self.now.kept.items 1 0 ∷ []) rest =
-    subst (λ xs. Begun c.args.self.now.lead c.args.self.now.name Symbol xs rest) (two_given _ c.requires z) begun in
-    (rw c.as_slice-args.ensures.value at c.symbol_count.ensures) rest both z
+    let z : is_kind_to_zero (get_or c.args.self.now.kept.items 0 0) ≡ false = rw c.as_slice-args.ensures.value at (sym c.is_kind_to_zero.ensures ∙ c.if-is_kind_to_zero.false) in
+    (rw c.as_slice-args.ensures.value at c.symbol_count.ensures) rest (subst (λ xs. Begun c.args.self.now.lead c.args.self.now.name Symbol xs rest) (two_given _ c.requires z) begun) z

@@ -16,6 +16,5 @@ returns-clause-known c bytes n s some h =
 pub returns-clause-stands : goal.returns-clause-stands
 returns-clause-stands c bytes s =
     let n = c.min-taken.result in
-    let long : length (take n c.args.input.now) ≡ n = length-take-le n c.args.input.now (omega arith) in
-    subst (λ k. Stands (before_bytes c.args.self.now c.args.kind (c.args.left - k)) (bytes ++ take n c.args.input.now)) long
+    subst (λ k. Stands (before_bytes c.args.self.now c.args.kind (c.args.left - k)) (bytes ++ take n c.args.input.now)) (length-take-le n c.args.input.now (omega arith))
     (front c.args.self.now c.args.kind c.args.left bytes c.args.input.now n c.requires s (omega arith) (omega arith)).stands

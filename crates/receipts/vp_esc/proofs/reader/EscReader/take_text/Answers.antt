@@ -1,7 +1,6 @@
-use Rattle.std.proofs.Common.{◌≡◌, [], take, length, refl, sym, ◌∙◌, arith}
+use Rattle.std.proofs.Common.{◌≡◌, take, length, arith}
 use Rattle.std.proofs.lemmas.List.{length-take-le}
 use Rattle.std.proofs.lemmas.List.Sums.{prefix_len-le-length}
-use Rattle.vp_esc.specs.Split.{split}
 use Rattle.vp_esc.proofs.Lefts.{no_text}
 use Rattle.vp_esc.proofs.Rests.{rests}
 use Rattle.vp_esc.specs.Reader.{Stands, is_text}
@@ -10,13 +9,11 @@ use Rattle.vp_esc.proofs.reader.EscReader.take_text.Goals as goal
 
 pub returns-in-Ground-clause-count : goal.returns-in-Ground-clause-count
 unfolding Stands
-returns-in-Ground-clause-count c bytes s =
-    let empty : (split bytes).rest ≡ [] = rw c.in-Ground.is at s in c.text_len.ensures ∙ rw empty refl
+returns-in-Ground-clause-count c bytes s = grind (arith, c.in-Ground.is, c.text_len.ensures)
 
 pub returns-in_default-clause-count : goal.returns-in_default-clause-count
 unfolding Stands
-returns-in_default-clause-count c bytes s =
-    sym (no_text (split bytes).rest c.args.input.now (rests c.args.self.now _ c.in_default.not-Ground s))
+returns-in_default-clause-count c bytes s = grind (arith, no_text, rests)
 
 pub returns-in-Ground-clause-fits : goal.returns-in-Ground-clause-fits
 returns-in-Ground-clause-fits c = omega (arith, c.text_len.ensures, prefix_len-le-length is_text c.args.input.now)
@@ -35,5 +32,4 @@ returns-in-Ground-clause-known c bytes n s some h =
     (ran c.args.self.now bytes (take n input) c.in-Ground.is s (front_passes n input (omega (arith, c.text_len.ensures)))).known (omega (arith, long))
 
 pub returns-in-Ground-clause-stands : goal.returns-in-Ground-clause-stands
-returns-in-Ground-clause-stands c bytes s =
-    (ran c.args.self.now bytes (take c.text_len.result c.args.input.now) c.in-Ground.is s (front_passes c.text_len.result c.args.input.now (omega (arith, c.text_len.ensures)))).stands
+returns-in-Ground-clause-stands c bytes s = grind (arith, ran, c.in-Ground.is, front_passes, c.text_len.ensures)

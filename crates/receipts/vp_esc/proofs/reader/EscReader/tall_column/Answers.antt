@@ -1,4 +1,4 @@
-use Rattle.std.proofs.Common.{◌≡◌, length, sym, ◌∙◌}
+use Rattle.std.proofs.Common.{sym, ◌∙◌}
 use Rattle.vp_esc.proofs.Columns.{tall_part, tall_whole}
 use Rattle.vp_esc.proofs.Kept.{advances_giving}
 use Rattle.vp_esc.proofs.reader.EscReader.tall_column.Goals as goal
@@ -10,6 +10,5 @@ returns-then-len-ne2 c rest hand =
 
 pub returns : goal.returns
 returns c rest hand =
-    let both : length c.args.self.now.kept.items ≡ 2 = sym c.len.ensures.value ∙ c.if-len-ne2.false in
     rw (c.tall_phase-self.ensures, c.saturating_sub.ensures, c.as_slice-above.ensures.value)
-    (advances_giving _ _ (tall_whole c.args.self.now c.args.left c.args.byte rest c.clear.new.self hand both c.clear.ensures))
+    (advances_giving _ _ (tall_whole c.args.self.now c.args.left c.args.byte rest c.clear.new.self hand (sym c.len.ensures.value ∙ c.if-len-ne2.false) c.clear.ensures))
