@@ -20,16 +20,12 @@ use Rattle.vp_format.proofs.Marks.{symbols_none, value-at}
 rows_later : (w k p : ℕ) (ss : List Spelled) (j : ℕ) → 0 < w → shown_at w (w * k + p) ss (w * k + j) ≡ shown_at w p ss j
 rows_later w zero p ss j h = let e : w * 0 + p ≡ p = omega arith in let f : w * 0 + j ≡ j = omega arith in rw (e, f) refl
 rows_later w (suc k) p ss j h =
-    let e : w * suc k + p ≡ w + (w * k + p) = omega arith in
-    let f : w * suc k + j ≡ w + (w * k + j) = omega arith in
-    ap (λ q. shown_at w q ss (w * suc k + j)) e ∙ ap (λ q. shown_at w (w + (w * k + p)) ss q) f ∙ shown_later w (w * k + p) ss (w * k + j) h ∙ rows_later w k p ss j h
+    let e : w * suc k + p ≡ w + (w * k + p) = omega arith in let f : w * suc k + j ≡ w + (w * k + j) = omega arith in rw (e, f) (shown_later w (w * k + p) ss (w * k + j) h ∙ rows_later w k p ss j h)
 
 rows_spelled : (w k p : ℕ) (ss : List Spelled) (j : ℕ) → 0 < w → bytes_before w (w * k + p) ss (w * k + j) ≡ bytes_before w p ss j
 rows_spelled w zero p ss j h = let e : w * 0 + p ≡ p = omega arith in let f : w * 0 + j ≡ j = omega arith in rw (e, f) refl
 rows_spelled w (suc k) p ss j h =
-    let e : w * suc k + p ≡ w + (w * k + p) = omega arith in
-    let f : w * suc k + j ≡ w + (w * k + j) = omega arith in
-    ap (λ q. bytes_before w q ss (w * suc k + j)) e ∙ ap (λ q. bytes_before w (w + (w * k + p)) ss q) f ∙ bytes_later w (w * k + p) ss (w * k + j) h ∙ rows_spelled w k p ss j h
+    let e : w * suc k + p ≡ w + (w * k + p) = omega arith in let f : w * suc k + j ≡ w + (w * k + j) = omega arith in rw (e, f) (bytes_later w (w * k + p) ss (w * k + j) h ∙ rows_spelled w k p ss j h)
 
 -- of bytes as they are no run is left behind rows either
 whole_behind : (coding : Coding) (w : ℕ) (s : Spot) (k : ℕ) → IsWhole coding s → IsWhole coding (spot_behind w s k)
@@ -38,9 +34,7 @@ whole_behind coding w s k h = grind arith
 -- rows that a run covers whole
 pub run_even : (w : ℕ) (coding : Coding) (codes : List ℕ) (s : Spot) (k : ℕ) → 0 < w → IsSpot codes s → IsWhole coding s → w * k ≤ s.left → Even w coding codes s k s.digit (spot_behind w s k)
 run_even w coding codes s k some spot whole h =
-    let ss = symbols coding (drop s.at codes) in
-    let n = s.left - w * k in
-    let v = s.digit in
+    let ss = symbols coding (drop s.at codes) in let n = s.left - w * k in let v = s.digit in
     let split : s.left ≡ w * k + n = omega arith in
     record {
       spot = record { at = spot.at; digit = spot.digit };
@@ -80,11 +74,8 @@ white_stays n w s k = grind (arith, is_white_at, white_is)
 pub even_taken : (p : Picture) (m : RunMark) (k v : ℕ) (after : Spot) (y : ℕ) → 0 < p.row_bytes → IsMark p m → Even (width_of p) p.coding p.codes m.here k v after → m.next ≤ y → y < m.next + k → is_refused p y ≡ false
 unfolding is_refused place_of
 even_taken p m k v after y some mark even from to =
-    let w = width_of p in
-    let i = y - m.next in
-    let split : y ≡ m.next + i = omega arith in
-    let below : i + 1 ≤ k = omega arith in
-    let room : w * (i + 1) ≤ w * k = mul-le-mul_left w below in
+    let w = width_of p in let i = y - m.next in let split : y ≡ m.next + i = omega arith in
+    let below : i + 1 ≤ k = omega arith in let room : w * (i + 1) ≤ w * k = mul-le-mul_left w below in
     let place : w * y + (w - 1) ≡ w * m.next + (w * i + (w - 1)) = ap (λ q. w * q + (w - 1)) split ∙ omega arith in
     ap is_unreadable (ap (shown_at w 0 (symbols p.coding p.codes)) place ∙ mark.shown_is (w * i + (w - 1)) ∙ even.shows (w * i + (w - 1)) (omega (arith, room)))
 
@@ -134,8 +125,7 @@ even_cursor c n k v i rows small b e next codes coding row_bytes all first refus
     let p = picture_of c in
     let same : picture_of n ≡ p = rw (coding, row_bytes, all, codes) refl in
     let mark = even_mark p c.mark n.mark k v i.some rows i.mark b e next in
-    let here : n.mark.here.at ≡ c.mark.here.at = e.at in
-    let at = ap (λ (d : Codes). d.at) codes in
+    let here : n.mark.here.at ≡ c.mark.here.at = e.at in let at = ap (λ (d : Codes). d.at) codes in
     let read = ap (λ (d : Codes). d.read) codes in
     let start = ap (λ q. start_of q n.first) same ∙ ap (start_of p) first in
     let bound = ap (λ q. bound_of q n.first) same ∙ ap (bound_of p) first in

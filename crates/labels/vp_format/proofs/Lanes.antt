@@ -19,9 +19,8 @@ value_by f b all h few = eqb-true _ _ (sym (ap (λ s. cond s (eqb (f b) (digit_v
 -- lanes that are computed from those of a load, where they are stored
 pub stored_lane : (f : ℕ → ℕ) (bytes old lanes : List ℕ) (at x k : ℕ) → at + 16 ≤ length bytes → x + 16 ≤ length old → k < 16 → lanes ≡ map f (chunk at 16 bytes) → get_or (put_chunk x old lanes) (x + k) 0 ≡ f (get_or bytes (at + k) 0)
 stored_lane f bytes old lanes at x k room inside h e =
-    let long = length-chunk at 16 bytes room in
-    let many : length lanes ≡ 16 = ap length e ∙ length-map (chunk at 16 bytes) f ∙ long in
-    get_or-put_chunk_at x old lanes k 0 (omega (arith, many)) (omega (arith, many)) ∙ ap (λ l. get_or l k 0) e ∙ get_or-map f (chunk at 16 bytes) k 0 0 (omega (arith, long)) ∙ ap f (get_or-chunk at 16 bytes k 0 h)
+    let many : length lanes ≡ 16 = ap length e ∙ length-map (chunk at 16 bytes) f ∙ length-chunk at 16 bytes room in
+    get_or-put_chunk_at x old lanes k 0 (omega (arith, many)) (omega (arith, many)) ∙ rw e (get_or-map f _ k 0 0 (omega (arith, length-chunk at 16 bytes room))) ∙ ap f (get_or-chunk at 16 bytes k 0 h)
 
 -- a lane of a load that stands behind itself
 pub twice_lane : (places : List ℕ) (at k : ℕ) → at + 16 ≤ length places → k < 16 → get_or (chunk at 16 places ++ chunk at 16 places) k 0 ≡ get_or places (at + k) 0
@@ -40,8 +39,7 @@ module _ (f : ℕ → ℕ) (bytes lanes : List ℕ) (at r : ℕ) (room : at + 16
 
   counted : r ≡ prefix_len (λ b. not (stops b)) (chunk at 16 bytes)
   counted =
-      let v = chunk at 16 bytes in
-      let long = length-chunk at 16 bytes room in
+      let v = chunk at 16 bytes in let long = length-chunk at 16 bytes room in
       let mask = ap (λ l. mask_l l % 2 ^ 64) (ap (map (top 7)) is ∙ map-map (top 7) f v) ∙ mask_l-mod (map stops v) 64 (omega (arith, length-map v stops, long)) in
       found ∙ ap first_set mask ∙ first_set_mask_l stops v 16 long (omega arith)
 

@@ -161,11 +161,7 @@ first_bound p = grind (arith, bytes_none)
 -- and reads as many bytes as its symbols have
 pub above_reads : (p : Picture) (m : RunMark) (r : Result RowEnd Fault) (at : ℕ) (old new : List ℕ) → 0 < p.row_bytes → IsMark p m → RowRead (width_of p) p.coding p.codes m.before r at old new
     → m.before.at + bytes_before (width_of p) 0 (symbols_at p.coding p.codes m.before) (width_of p) ≡ at
-above_reads p m (Ok end) at old new some h d =
-    let w = width_of p in
-    let far : w ≡ w + 0 = omega arith in
-    let after : Spot = record { left = end.left; digit = end.digit; at = at } in
-    ap (λ q. m.before.at + bytes_before w 0 (symbols_at p.coding p.codes m.before) q) far ∙ d.bytes 0 ∙ ap (λ k. at + k) (bytes_none w 0 (symbols_at p.coding p.codes after) 0 (omega arith)) ∙ omega arith
+above_reads p m (Ok end) at old new some h d = grind (arith, bytes_none, d.bytes 0)
 above_reads p m (Err f) at old new some h e = absurd (true≢false (sym e ∙ ap is_unreadable (h.above_is (width_of p - 1) (omega arith))))
 
 -- the bound of a marked row
@@ -181,8 +177,7 @@ start_first p = let e : width_of p * 0 ≡ 0 = omega arith in ap (bytes_before (
 pub first_cursor : (c : Inside) → 0 < c.row_bytes → c.row_bytes ≤ 1024 → c.codes.at ≡ 0 → c.codes.read ≡ 0 → c.first ≡ 0 → c.refused ≡ false → c.row ≡ replicate 1024 0
     → c.mark ≡ record { next = 0; here = record { left = 0; digit = 0; at = 0 }; before = record { left = 0; digit = 0; at = length c.codes.bytes.now } } → c.passed ≡ 0 → IsCursor c
 first_cursor c some short at read first going white mark passed =
-    let p = picture_of c in
-    let next : c.mark.next ≡ 0 = ap (λ (m : RunMark). m.next) mark in
+    let p = picture_of c in let next : c.mark.next ≡ 0 = ap (λ (m : RunMark). m.next) mark in
     let here : c.mark.here.at ≡ 0 = ap (λ (m : RunMark). m.here.at) mark in
     let bound = ap (bound_of p) first ∙ first_bound p in
     record {
@@ -207,11 +202,9 @@ resumed_cursor c bytes from r at old same also some short mark above read here f
     let p = picture_of c in
     let m = subst (λ (b : List ℕ). IsMark (record { coding = c.coding; codes = b; row_bytes = c.row_bytes; rows = c.rows }) c.mark) (sym same) mark in
     let decoded = subst (λ (b : List ℕ). RowRead (2 * c.row_bytes) c.coding b c.mark.before r at old c.row) (also ∙ sym same) above in
-    let taken = above_reads p c.mark r at old c.row some m decoded in
-    let few = m.above_bytes in
+    let taken = above_reads p c.mark r at old c.row some m decoded in let few = m.above_bytes in
     let start = ap (start_of p) first ∙ marked_start p c.mark m in
-    let bound = ap (bound_of p) first ∙ marked_bound p c.mark m in
-    let inside = m.here.at in
+    let bound = ap (bound_of p) first ∙ marked_bound p c.mark m in let inside = m.here.at in
     grind (arith, above_read, false≢true, start)
 
 -- the cursor behind a row
@@ -220,26 +213,9 @@ pub next_cursor : (c n : Inside) (end : RowEnd) → IsCursor c → c.refused ≡
     → n.coding ≡ c.coding → n.row_bytes ≡ c.row_bytes → n.rows ≡ c.rows → n.first ≡ c.first
     → n.mark.next ≡ c.mark.next + 1 → n.mark.here ≡ record { left = end.left; digit = end.digit; at = n.codes.at } → n.mark.before ≡ cond end.repeats c.mark.before c.mark.here → ArePassed n → IsCursor n
 next_cursor c n end i going goes a d coding row_bytes rows first next here before passed =
-    let p = picture_of c in
-    let kept = i.kept going in
-    let same : picture_of n ≡ p = rw (coding, row_bytes, rows, a.bytes) refl in
-    let there : n.mark.here.at ≡ n.codes.at = ap (λ (s : Spot). s.at) here in
-    let place = i.place going in
-    let start = ap (λ q. start_of q n.first) same ∙ ap (start_of p) first in
-    let bound = ap (λ q. bound_of q n.first) same ∙ ap (bound_of p) first in
-    record {
-      some = subst (λ k. 0 < k) (sym row_bytes) i.some;
-      short = subst (λ k. k ≤ 1024) (sym row_bytes) i.short;
-      mark = subst (λ q. IsMark q n.mark) (sym same) (next_mark p c.mark n.mark end _ c.row n.row i.some i.mark d kept next here before);
-      kept = λ _ j l. (let m : j < 2 * c.row_bytes = subst (λ k. j < 2 * k) row_bytes l in
-          read_value p c.mark end _ c.row n.row j i.mark d m (kept j m) ∙ sym (above_next p c.mark n.mark j next) ∙ ap (λ q. above q n.mark.next j) (sym same));
-      place = λ _. sym there;
-      stopped = λ e. absurd (false≢true (sym goes ∙ e));
-      reading = a.reading;
-      least = omega (arith, start, there, place, i.least, a.read);
-      most = omega (arith, bound, i.most, a.read);
-      passed = passed;
-    }
+    let same : picture_of n ≡ picture_of c = rw (coding, row_bytes, rows, a.bytes) refl in
+    let mark : IsMark (picture_of n) n.mark = subst (λ q. IsMark q n.mark) (sym same) (next_mark (picture_of c) c.mark n.mark end _ c.row n.row i.some i.mark d (i.kept going) next here before) in
+    grind (arith, read_value, above_next, false≢true, mark, same)
 
 -- the cursor behind a refused row
 pub stopped_cursor : (c n : Inside) → IsCursor c → c.refused ≡ false → n.refused ≡ true → Advanced c.codes n.codes → is_unreadable (shown_at (2 * c.row_bytes) 0 (symbols_at c.coding c.codes.bytes.now c.mark.here) (2 * c.row_bytes - 1)) ≡ true

@@ -8,7 +8,7 @@ use Rattle.vp_format.specs.declared.codes.Symbol.{Symbol}
 use Rattle.vp_format.specs.declared.codes.Symbol.TheVariants.{Digits, Again, Refused}
 use Rattle.vp_format.specs.declared.reading.Codes.{Codes}
 use Rattle.vp_format.specs.Codes.{code_of, Spelled, spelled, joined, symbols, symbols_behind}
-use Rattle.vp_format.specs.Pictures.{AsAbove, Unreadable, shows, end_of, is_unreadable, Picture, width_of, place_of, is_refused, row_after, unless_fault, passing}
+use Rattle.vp_format.specs.Pictures.{AsAbove, Unreadable, shows, end_of, is_unreadable, Picture, width_of, place_of, is_refused, passing}
 use Rattle.vp_format.specs.Cursors.{digit_value, symbols_from, InHand, IsReading, Passed, PassesOn}
 use Rattle.vp_format.proofs.Reached.{shown_in, in_hand}
 use Rattle.vp_format.proofs.Quick.{plain_symbol}
@@ -57,19 +57,12 @@ refused_passed : (p : Picture) (x k : ℕ) (s : Symbol) (left : List Spelled) �
     → Passed (width_of p) (symbols p.coding p.codes) x (spelled s k ∷ left) → passing p 0 p.rows ≡ Err Graphic
 unfolding is_refused place_of
 refused_passed p x k s left some inside ends nothing r =
-    let w = width_of p in
-    let y = x / w in
-    let j = w * y + (w - 1) in
-    let turn = mul_comm w y in
+    let w = width_of p in let y = x / w in let j = w * y + (w - 1) in let turn = mul_comm w y in
     let below : y < p.rows = (div-lt_iff_lt-mul {k = w} some).1 (omega (arith, inside, mul_comm w p.rows)) in
     let from : x ≤ j = omega (arith, lt-div-mul-add {a = x} {b = w} some, turn, some) in
-    let to : j < end_of w x s = omega (arith, ends, turn, some) in
-    let refused : is_refused p y ≡ true = ap is_unreadable (r.ahead j from ∙ shown_in w x (spelled s k) left j to ∙ nothing) in
+    let refused : is_refused p y ≡ true = ap is_unreadable (r.ahead j from ∙ shown_in w x (spelled s k) left j (omega (arith, ends, turn, some)) ∙ nothing) in
     let before : (z : ℕ) → 0 ≤ z → z < 0 + y → is_refused p z ≡ false = λ z _ l. r.taken (w * z + (w - 1)) (omega (arith, last_before w z y some (omega (arith, l)), turn, div-mul-le_self x w)) in
-    let there : 0 + y ≡ y = omega arith in
-    (rows_read p 0 p.rows y (omega (arith, below)) (omega (arith, below)) before).0 ∙ ap (λ z. passing p z (p.rows - y)) there ∙ (first_read p y (p.rows - y) (omega (arith, below))).0
-    ∙ ap (λ t. unless_fault (cond t (cond (is_refused p y) (Err Graphic) (Ok true)) (Ok false)) (passing p (row_after p y) (p.rows - y - 1))) (lt-ltb y p.rows below)
-    ∙ ap (λ t. unless_fault (cond t (Err Graphic) (Ok true)) (passing p (row_after p y) (p.rows - y - 1))) refused
+    grind (arith, rows_read p 0 p.rows y (omega (arith, below)) (omega (arith, below)) before, first_read p y (p.rows - y) (omega (arith, below)), lt-ltb)
 
 pub other_passed : (p : Picture) (x k : ℕ) (left : List Spelled) → 0 < width_of p → x < width_of p * p.rows → Passed (width_of p) (symbols p.coding p.codes) x (spelled Refused k ∷ left) → passing p 0 p.rows ≡ Err Graphic
 other_passed p x k left some inside r = refused_passed p x k Refused left some inside refl refl r

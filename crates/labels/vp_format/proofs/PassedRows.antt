@@ -46,8 +46,7 @@ some_read Binary (b ∷ codes) w p some l = omega (arith, bytes_past w p (spelle
 module _ (w : ℕ) (coding : Coding) (codes : List ℕ) (s after : Spot) (end : RowEnd) (old new : List ℕ) (d : Decoded w coding codes s end after old new) where
   -- where the next row starts
   next_start : s.at + bytes_before w 0 (symbols_at coding codes s) w ≡ after.at
-  next_start = let e : w ≡ w + 0 = omega arith in
-      ap (λ q. s.at + bytes_before w 0 (symbols_at coding codes s) q) e ∙ d.bytes 0 ∙ ap (λ k. after.at + k) (bytes_none w 0 (symbols_at coding codes after) 0 (omega arith)) ∙ omega arith
+  next_start = grind (arith, bytes_none, d.bytes 0)
 
   -- behind the last code white is all that comes once the run has ended
   pub white_next : s.at ≡ length codes → ((s.left ≤ w) ⊎ (s.digit ≡ 0)) → is_white (length codes) after ≡ true

@@ -39,10 +39,8 @@ module _ (w : ℕ) (all : List Spelled) (start : ℕ) (old new : List ℕ) (from
   unfolding added
   pair_put j v inside byte big short digit is f r before =
       let n = count_value (code_of (get_or codes (at + j) 0)) in
-      let u = digit_value (code_of (get_or codes (at + suc j) 0)) in
-      let y = from + added codes at j in
-      let to = from + added codes at (suc (suc j)) in
-      let behind = at + suc (suc j) in
+      let u = digit_value (code_of (get_or codes (at + suc j) 0)) in let y = from + added codes at j in
+      let to = from + added codes at (suc (suc j)) in let behind = at + suc (suc j) in
       let e : added codes at (suc j) ≡ added codes at j + (n - 1) = ap (λ p. added codes at j + p) (count_places (code_of (get_or codes (at + j) 0)) big) in
       let g : added codes at (suc (suc j)) ≡ added codes at (suc j) + 1 = ap (λ p. added codes at (suc j) + p) (one_place (code_of (get_or codes (at + suc j) 0)) digit) in
       let symbol = run_symbol codes (at + j) n (at + suc j) u (max n 1) behind inside (omega arith) byte refl (omega (arith, short.1)) (λ _. omega arith) (λ z. absurd (omega (arith, z, short.0))) refl digit refl (omega arith) in
@@ -54,7 +52,7 @@ module _ (w : ℕ) (all : List Spelled) (start : ℕ) (old new : List ℕ) (from
       reached_at w all start new to to _ _ (at + j + (behind - (at + j))) behind refl refl (omega arith) (run_done w all start new to _ u (symbols_from codes behind) _ (omega (arith, e, g, short.0)) run)
 
   next_digit : (k : ℕ) → digit_value (code_of (get_or codes (at + 1 + k) 0)) < 16 → digit_value (code_of (get_or codes (at + suc k) 0)) < 16
-  next_digit k h = let e : at + 1 + k ≡ at + suc k = omega arith in subst (λ i. digit_value (code_of (get_or codes i 0)) < 16) e h
+  next_digit k h = grind (arith, h)
 
   next_value : (k v : ℕ) → v ≡ digit_value (code_of (get_or codes (at + 1 + k) 0)) → v ≡ digit_value (code_of (get_or codes (at + suc k) 0))
   next_value k v h = let e : at + 1 + k ≡ at + suc k = omega arith in h ∙ ap (λ i. digit_value (code_of (get_or codes i 0))) e
@@ -82,16 +80,14 @@ module _ (w : ℕ) (all : List Spelled) (start : ℕ) (old new : List ℕ) (from
       → Put w all start old from codes at 16 → Reached w all start new (n + more) (symbols_from codes (at + 16 + more)) (at + 16 + more)
   unfolding added Put
   put_all n more v inside few runs is place asked f p =
-      let c = code_of (get_or codes (at + 15) 0) in
-      let filled = subst (λ q. Filled q (q + 32) v old new) place f in
+      let c = code_of (get_or codes (at + 15) 0) in let filled = subst (λ q. Filled q (q + 32) v old new) place f in
       elim (cases_lt (digit_value c) 16) [
         | inl d ↦ (let none : at + 15 + more ≡ at + 15 = (behind_count (get_or codes (at + 15) 0) 0 more (at + 15) (few (at + 15)) (sym (digit_adds c d)) (omega arith) asked).1 refl in
             let there : at + 16 ≡ at + 16 + more = omega (arith, none) in
             reached_at w all start new (from + added codes at 16) _ _ _ (at + 16) _ (omega (arith, place, none)) (ap (symbols_from codes) there) there (reached_same w all start old new (from + added codes at 16) _ (at + 16) filled.kept (p.0 d)))
         | inr g ↦ (let last = runs 15 (omega arith) g in
             let one : at + 15 + more ≡ at + 15 + 1 = (behind_count (get_or codes (at + 15) 0) (count_value c) more (at + 15) (few (at + 15)) refl (omega (arith, last.0.1)) asked).0 last.0.0 in
-            let there : at + 17 ≡ at + 16 + more = omega (arith, one) in
-            let digit = next_digit 15 last.1 in
+            let there : at + 17 ≡ at + 16 + more = omega (arith, one) in let digit = next_digit 15 last.1 in
             let e : added codes at 17 ≡ added codes at 16 + 1 = ap (λ q. added codes at 16 + q) (one_place (code_of (get_or codes (at + 16) 0)) digit) in
             reached_at w all start new (from + added codes at 17) _ _ _ (at + 17) _ (omega (arith, place, one, e)) (ap (symbols_from codes) there) there (pair_put 15 v inside (few (at + 15)) g last.0 digit is filled (p.1 g).0 (p.1 g).1))
       ]

@@ -28,15 +28,10 @@ pub digits_reached : (w : ℕ) (all : List Spelled) (from : ℕ) (old new : List
 digits_reached w all from old new x codes at zero kept inside few put r = grind (arith, reached_at, reached_same)
 digits_reached w all from old new x codes at (suc k) kept inside few put r =
     let before = digits_reached w all from old new x codes at k kept (omega (arith, inside)) (λ i l. few i (omega (arith, l))) (λ i l. put i (omega (arith, l))) r in
-    let b = get_or codes (at + k) 0 in
-    let v = digit_value (code_of b) in
-    let back : at + k ≡ at + suc k - 1 = omega arith in
+    let v = digit_value (code_of (get_or codes (at + k) 0)) in let back : at + k ≡ at + suc k - 1 = omega arith in
     let first : symbols_from codes (at + k) ≡ spelled (Digits 1 v) 1 ∷ symbols_from codes (at + suc k) =
-    ap (symbols_from codes) back ∙ digit_in_hand codes (at + suc k) b v (omega arith) inside (ap (λ i. get_or codes i 0) back) refl (few k (omega arith)) in
-    let filled : Filled (x + k) (x + suc k) v new new = record {
-      kept = λ j _. refl;
-      filled = λ j l m. let e : j ≡ x + k = omega arith in ap (λ i. get_or new i 0) e ∙ put k (omega arith);
-    } in
+    ap (symbols_from codes) back ∙ digit_in_hand codes (at + suc k) _ v (omega arith) inside (ap (λ i. get_or codes i 0) back) refl (few k (omega arith)) in
+    let filled : Filled (x + k) (x + suc k) v new new = record { kept = λ j _. refl; filled = λ j l m. let e : j ≡ x + k = omega arith in ap (λ i. get_or new i 0) e ∙ put k (omega arith) } in
     let run = run_reached w all from new new (x + k) (x + suc k) 1 v 1 (symbols_from codes (at + suc k)) (at + k) (omega arith) (omega arith) (few k (omega arith)) (reached_at w all from new (x + k) (x + k) _ _ (at + k) (at + k) refl first refl before) filled in
     reached_at w all from new (x + suc k) (x + suc k) _ _ _ _ refl refl (omega arith) (run_done w all from new (x + suc k) _ v (symbols_from codes (at + suc k)) (at + k + 1) (omega arith) run)
 
@@ -62,8 +57,7 @@ value_from codes at n j inside l = get_or-map (λ b. digit_value (code_of b)) (t
 pub plain_reached : (w : ℕ) (codes : List ℕ) (s : Spot) → s.left ≡ 0 → s.at + w ≤ length codes → ((k : ℕ) → k < w → digit_value (code_of (get_or codes (s.at + k) 0)) < 16)
     → Reached w (symbols_at RunLength codes s) s.at (values_from codes s.at w) w (symbols_from codes (s.at + w)) (s.at + w)
 plain_reached w codes s none inside few =
-    let all = symbols_at RunLength codes s in
-    let vs = values_from codes s.at w in
+    let all = symbols_at RunLength codes s in let vs = values_from codes s.at w in
     let begun = run_done w all s.at vs 0 s.left s.digit (symbols_from codes s.at) s.at none (start_reached w all s.at vs) in
     reached_at w all s.at vs (0 + w) w _ _ _ _ (omega arith) refl refl (digits_reached w all s.at vs vs 0 codes s.at w (λ j l. refl) inside few (λ i l. let e : 0 + i ≡ i = omega arith in ap (λ k. get_or vs k 0) e ∙ value_from codes s.at w i inside l) begun)
 

@@ -48,14 +48,11 @@ run_by b c h l goes big = grind (arith, other, other_is, far_is, true≢false, l
 -- where no lane's top bit is set
 no_top : (lanes : List ℕ) (k : ℕ) → length lanes ≡ 16 → mask_l (map (top 7) lanes) % 2 ^ 64 ≡ 0 → k < 16 → top 7 (get_or lanes k 0) ≡ false
 no_top lanes k long empty l =
-    let whole : chunk 0 16 lanes ≡ lanes = take_all 16 lanes (omega (arith, long)) in
-    let mask : mask_l (map (top 7) (chunk 0 16 lanes)) ≡ 0 = ap (λ c. mask_l (map (top 7) c)) whole ∙ sym (mask_l-mod (map (top 7) lanes) 64 (omega (arith, length-map lanes (top 7), long))) ∙ empty in
+    let mask : mask_l (map (top 7) (chunk 0 16 lanes)) ≡ 0 = rw (take_all 16 lanes (omega (arith, long))) (sym (mask_l-mod (map (top 7) lanes) 64 (omega (arith, length-map lanes (top 7), long))) ∙ empty) in
     none_from_empty_mask (top 7) lanes 0 16 0 (omega (arith, long)) mask k (omega arith) (omega (arith, l))
 
 mapped_lane : (f : ℕ → ℕ) (bytes lanes : List ℕ) (at k : ℕ) → at + 16 ≤ length bytes → lanes ≡ map f (chunk at 16 bytes) → k < 16 → (length lanes ≡ 16) × (get_or lanes k 0 ≡ f (get_or bytes (at + k) 0))
-mapped_lane f bytes lanes at k room is l =
-    let long = length-chunk at 16 bytes room in
-    (ap length is ∙ length-map (chunk at 16 bytes) f ∙ long, ap (λ c. get_or c k 0) is ∙ get_or-map f (chunk at 16 bytes) k 0 0 (omega (arith, long, l)) ∙ ap f (get_or-chunk at 16 bytes k 0 l))
+mapped_lane f bytes lanes at k room is l = rw is (length-map _ f ∙ length-chunk at 16 bytes room, get_or-map f _ k 0 0 (omega (arith, length-map (chunk at 16 bytes) f, length-chunk at 16 bytes room, l)) ∙ ap f (get_or-chunk at 16 bytes k 0 l))
 
 pub runs_found : (bytes others far_off none : List ℕ) (at : ℕ) → at + 16 < length bytes → ((i : ℕ) → get_or bytes i 0 < 256) → others ≡ map other (chunk at 16 bytes) → far_off ≡ map far (chunk at 16 bytes) → none ≡ map other (chunk (at + 1) 16 bytes)
     → mask_l (map (top 7) (zip2 bit_and others (zip2 bit_or far_off none))) % 2 ^ 64 ≡ 0 → (k : ℕ) → k < 16 → IsRun (code_of (get_or bytes (at + k) 0)) (code_of (get_or bytes (at + 1 + k) 0))
@@ -63,8 +60,7 @@ runs_found bytes others far_off none at room few o f n empty k l =
     let a = mapped_lane other bytes others at k (omega (arith, room)) o l in
     let b = mapped_lane far bytes far_off at k (omega (arith, room)) f l in
     let c = mapped_lane other bytes none (at + 1) k (omega (arith, room)) n l in
-    let either = zip2 bit_or far_off none in
-    let second = length-zip2 bit_or far_off none (b.0 ∙ sym c.0) in
+    let either = zip2 bit_or far_off none in let second = length-zip2 bit_or far_off none (b.0 ∙ sym c.0) in
     let whole = length-zip2 bit_and others either (a.0 ∙ sym (second ∙ b.0)) in
     let lane = get_or-zip2 bit_and others either k 0 0 0 (omega (arith, a.0, l)) (omega (arith, second, b.0, l)) ∙ ap (λ x. bit_and x (get_or either k 0)) a.1
     ∙ ap (λ y. bit_and (other (get_or bytes (at + k) 0)) y) (get_or-zip2 bit_or far_off none k 0 0 0 (omega (arith, b.0, l)) (omega (arith, c.0, l)) ∙ ap (λ x. bit_or x (get_or none k 0)) b.1 ∙ ap (λ y. bit_or (far (get_or bytes (at + k) 0)) y) c.1) in
@@ -95,9 +91,7 @@ sum_added f codes at (suc n) inside same =
 -- the lanes of their places
 wide_lanes : (bytes from_g : List ℕ) (at : ℕ) → at + 16 ≤ length bytes → from_g ≡ zip2 less (chunk at 16 bytes) (replicate 16 71) → sel_l (map (top 7) (zip2 up_to (replicate 16 19) from_g)) (replicate 16 1) from_g ≡ map wide (chunk at 16 bytes)
 wide_lanes bytes from_g at room is =
-    let v = chunk at 16 bytes in
-    let long = length-chunk at 16 bytes room in
-    let far_off = λ (b : ℕ). top 7 (far b) in
+    let v = chunk at 16 bytes in let long = length-chunk at 16 bytes room in let far_off = λ (b : ℕ). top 7 (far b) in
     let asked : map (top 7) (zip2 up_to (replicate 16 19) from_g) ≡ map far_off v = ap (λ g. map (top 7) (zip2 up_to (replicate 16 19) g)) is ∙ ap (map (top 7)) (fars bytes at room) ∙ map-map (top 7) far v in
     ap (λ ms. sel_l ms (replicate 16 1) from_g) asked ∙ ap (λ o. sel_l (map far_off v) o from_g) (splat_is_map v 16 1 long)
     ∙ ap (λ g. sel_l (map far_off v) (map (λ _. 1) v) g) (is ∙ zip2_splat {Y = ℕ} less v 16 71 long) ∙ sel_maps far_off (λ _. 1) (λ b. less b 71) v
@@ -128,9 +122,7 @@ shown_lane : (bytes far_off : List ℕ) (at k : ℕ) (s : Bool) → at + 16 < le
     → (length (sel_l (map (top 7) far_off) (chunk at 16 bytes) (chunk (at + 1) 16 bytes)) ≡ 16)
     × (get_or (sel_l (map (top 7) far_off) (chunk at 16 bytes) (chunk (at + 1) 16 bytes)) k 0 ≡ cond s (get_or bytes (at + 1 + k) 0) (get_or bytes (at + k) 0))
 shown_lane bytes far_off at k s room byte is l short =
-    let v = chunk at 16 bytes in
-    let u = chunk (at + 1) 16 bytes in
-    let ms = map (top 7) far_off in
+    let v = chunk at 16 bytes in let u = chunk (at + 1) 16 bytes in let ms = map (top 7) far_off in
     let here = length-chunk at 16 bytes (omega (arith, room)) in
     let next = length-chunk (at + 1) 16 bytes (omega (arith, room)) in
     let lane = mapped_lane far bytes far_off at k (omega (arith, room)) is l in
@@ -152,19 +144,15 @@ value_is b h few = value_by value b refl h few
 pub own_lane : (bytes far_off lanes : List ℕ) (at k : ℕ) → at + 16 < length bytes → ((i : ℕ) → get_or bytes i 0 < 256) → far_off ≡ map far (chunk at 16 bytes) → (length (sel_l (map (top 7) far_off) (chunk at 16 bytes) (chunk (at + 1) 16 bytes)) ≡ 16 → lanes ≡ map value (sel_l (map (top 7) far_off) (chunk at 16 bytes) (chunk (at + 1) 16 bytes)))
     → k < 16 → digit_value (code_of (get_or bytes (at + k) 0)) < 16 → get_or lanes k 0 ≡ digit_value (code_of (get_or bytes (at + k) 0))
 own_lane bytes far_off lanes at k room few is all l digit =
-    let b = get_or bytes (at + k) 0 in
-    let short : is_short b ≡ false = ap (λ n. ltb 0 n && ltb n 20) (digit_adds (code_of b) digit) in
-    let lane = shown_lane bytes far_off at k false room (few (at + k)) is l short in
-    ap (λ c. get_or c k 0) (all lane.0) ∙ get_or-map value _ k 0 0 (omega (arith, lane.0, l)) ∙ ap value lane.1 ∙ value_is b (few (at + k)) digit
+    let lane = shown_lane bytes far_off at k false room (few (at + k)) is l (grind (arith, digit_adds)) in
+    ap (λ c. get_or c k 0) (all lane.0) ∙ get_or-map value _ k 0 0 (omega (arith, lane.0, l)) ∙ ap value lane.1 ∙ value_is _ (few (at + k)) digit
 
 pub next_lane : (bytes far_off lanes : List ℕ) (at k : ℕ) → at + 16 < length bytes → ((i : ℕ) → get_or bytes i 0 < 256) → far_off ≡ map far (chunk at 16 bytes) → (length (sel_l (map (top 7) far_off) (chunk at 16 bytes) (chunk (at + 1) 16 bytes)) ≡ 16 → lanes ≡ map value (sel_l (map (top 7) far_off) (chunk at 16 bytes) (chunk (at + 1) 16 bytes)))
     → k < 16 → IsRun (code_of (get_or bytes (at + k) 0)) (code_of (get_or bytes (at + 1 + k) 0)) → 16 ≤ digit_value (code_of (get_or bytes (at + k) 0)) → get_or lanes k 0 ≡ digit_value (code_of (get_or bytes (at + 1 + k) 0))
 next_lane bytes far_off lanes at k room few is all l run big =
-    let n = count_value (code_of (get_or bytes (at + k) 0)) in
     let found = run big in
-    let short : is_short (get_or bytes (at + k) 0) ≡ true = ap (λ t. t && ltb n 20) (lt-ltb 0 n found.0.0) ∙ lt-ltb n 20 found.0.1 in
-    let lane = shown_lane bytes far_off at k true room (few (at + k)) is l short in
-    ap (λ c. get_or c k 0) (all lane.0) ∙ get_or-map value _ k 0 0 (omega (arith, lane.0, l)) ∙ ap value lane.1 ∙ value_is (get_or bytes (at + 1 + k) 0) (few (at + 1 + k)) found.1
+    let lane = shown_lane bytes far_off at k true room (few (at + k)) is l (grind (arith, lt-ltb, found)) in
+    ap (λ c. get_or c k 0) (all lane.0) ∙ get_or-map value _ k 0 0 (omega (arith, lane.0, l)) ∙ ap value lane.1 ∙ value_is _ (few (at + 1 + k)) found.1
 
 -- no code, one more digit, and one more count with its digit
 none_passed : (w : ℕ) (all : List Spelled) (x : ℕ) (codes : List ℕ) (at : ℕ) → Passed w all x (symbols_from codes at) → Passed w all (x + added codes at 0) (symbols_from codes (at + 0))

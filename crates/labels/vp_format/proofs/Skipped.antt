@@ -33,8 +33,7 @@ pub read_to : (p : Picture) (y to : ℕ) → y ≤ to → to ≤ p.rows → ((z 
 unfolding passing rows_after
 read_to p y to order room taken =
     let all = rows_read p y (to - y) (to - y) (omega arith) (omega arith) (λ z l m. taken z l (omega arith)) in
-    let none : to - y - (to - y) ≡ 0 = omega arith in
-    let there : y + (to - y) ≡ to = omega arith in
+    let none : to - y - (to - y) ≡ 0 = omega arith in let there : y + (to - y) ≡ to = omega arith in
     (rw (none, there) at all)
 
 -- one cursor is on its way to where so many readings bring another: as many as are left
@@ -42,9 +41,6 @@ pub record OnWay (a b : Cursor) (rows left : ℕ) : Type 0 where
   pub same : b ≡ record { picture = a.picture; first = a.first; next = b.next }
   pub answer : passing a.picture a.next rows ≡ passing a.picture b.next left
   pub row : rows_after a.picture a.next rows ≡ rows_after a.picture b.next left
-
-abbrev at_row : Cursor → ℕ → Cursor
-at_row a y = record { picture = a.picture; first = a.first; next = y }
 
 -- it is there
 pub way_done : (a b : Cursor) (rows left : ℕ) → OnWay a b rows left → left ≡ 0 → (Ok tt ≡ passing a.picture a.next rows) × (b ≡ record { picture = a.picture; first = a.first; next = rows_after a.picture a.next rows })
@@ -59,8 +55,7 @@ way_ended a b rows left w ends = grind (arith, none_read)
 pub way_even : (a b d : Cursor) (rows left k : ℕ) → OnWay a b rows left → k ≤ left → b.next + k ≤ b.picture.rows → d ≡ record { picture = b.picture; first = b.first; next = b.next + k }
     → ((z : ℕ) → b.next ≤ z → z < b.next + k → is_refused b.picture z ≡ false) → OnWay a d rows (left - k)
 way_even a b d rows left k w few room is taken =
-    let picture = ap (λ (v : Cursor). v.picture) w.same in
-    let first = ap (λ (v : Cursor). v.first) w.same in
+    let picture = ap (λ (v : Cursor). v.picture) w.same in let first = ap (λ (v : Cursor). v.first) w.same in
     let next = ap (λ (v : Cursor). v.next) is in
     let all = rows_read a.picture b.next left k few (omega (arith, ap (λ (v : Cursor). v.picture.rows) w.same)) (subst (λ (p : Picture). (z : ℕ) → b.next ≤ z → z < b.next + k → is_refused p z ≡ false) picture taken) in
     grind arith

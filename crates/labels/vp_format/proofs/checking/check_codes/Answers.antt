@@ -1,10 +1,10 @@
-use Rattle.std.proofs.Common.{◌≡◌, ℕ, ◌*◌, List, ◌∷◌, drop, rules, sym, ◌∙◌, arith, subst}
+use Rattle.std.proofs.Common.{◌≡◌, ℕ, ◌*◌, List, ◌∷◌, drop, rules, sym, arith}
 use Rattle.vp_format.specs.declared.codes.Symbol.{Symbol}
 use Rattle.vp_format.specs.declared.codes.Symbol.TheVariants.{Digits, Again, Refused}
 use Rattle.vp_format.specs.declared.rows.Coding.TheVariants.{RunLength}
 use Rattle.vp_format.specs.Codes.{spelled, joined, code_of, symbols, symbols_behind}
 use Rattle.vp_format.specs.Pictures.{Picture}
-use Rattle.vp_format.specs.Cursors.{InHand, Passed, symbols_from}
+use Rattle.vp_format.specs.Cursors.{Passed, symbols_from}
 use Rattle.vp_format.proofs.Passed.{hand_passed, digits_passed, end_passed, codes_passed, other_passed, inside_passed}
 use Rattle.vp_format.proofs.checking.check_codes.Goals as goal
 use Rattle.vp_format.proofs.checking.check_codes.Goals.{After-pass_runs-from, After-symbol_of}
@@ -14,23 +14,13 @@ picture codes row_bytes rows = record { coding = RunLength; codes = codes; row_b
 
 -- the digits and runs that come are passed
 here : (c : After-pass_runs-from) → Passed (2 * c.args.row_bytes) (symbols RunLength c.args.codes.now) c.pass_runs-from.result (symbols_from c.args.codes.now c.pass_runs-from.new.self.at)
-here c =
-    let i = c.loop-codes.invariant in
-    let w = 2 * c.args.row_bytes in
-    let all = symbols RunLength c.args.codes.now in
-    let kept : c.pass_runs-from.new.self.bytes.now ≡ c.args.codes.now = c.pass_runs-from.ensures.advanced.bytes ∙ i.bytes in
-    subst (λ cs. Passed w all c.pass_runs-from.result (symbols_from cs c.pass_runs-from.new.self.at)) kept
-    (c.pass_runs-from.ensures.passed w all (subst (λ cs. Passed w all c.loop-codes.x (symbols_from cs c.loop-codes.codes.at)) (sym i.bytes) i.passed))
+here c = grind arith
 
 -- and behind them a symbol
 next : (c : After-symbol_of) (s : Symbol) (k : ℕ) → Passed (2 * c.args.row_bytes) (symbols RunLength c.args.codes.now) c.pass_runs-from.result (symbols_from c.args.codes.now c.pass_runs-from.new.self.at)
     → joined (code_of c.in-Some.b) 0 0 (symbols_behind (drop c.next.new.self.at c.next.new.self.bytes.now)) ≡ spelled s k ∷ symbols_from c.symbol_of.new.codes.bytes.now c.symbol_of.new.codes.at
     → Passed (2 * c.args.row_bytes) (symbols RunLength c.args.codes.now) c.pass_runs-from.result (spelled s k ∷ symbols_from c.args.codes.now c.symbol_of.new.codes.at)
-next c s k here symbol =
-    let kept = c.next.ensures.advanced.bytes ∙ c.pass_runs-from.ensures.advanced.bytes ∙ c.loop-codes.invariant.bytes in
-    let hand = subst (λ o. InHand c.next.new.self o) c.in-Some.is c.next.ensures.hand in
-    hand_passed (2 * c.args.row_bytes) (symbols RunLength c.args.codes.now) _ c.args.codes.now c.pass_runs-from.new.self c.next.new.self c.symbol_of.new.codes c.in-Some.b k s kept (c.symbol_of.ensures.advanced.bytes ∙ kept) (omega (arith, c.in-Some.ensures.at)) hand
-    c.next.ensures.advanced.reading symbol here
+next c s k here symbol = grind (arith, hand_passed)
 
 pub returns-then-from-end : goal.returns-then-from-end
 returns-then-from-end c =

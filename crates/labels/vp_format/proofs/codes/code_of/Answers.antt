@@ -1,7 +1,6 @@
-use Rattle.std.proofs.Common.{◌≡◌, ◌<◌, sym, ap, ◌∙◌, refl, arith}
+use Rattle.std.proofs.Common.{◌≡◌, ◌<◌, refl, arith}
 use Rattle.vp_format.specs.declared.codes.Code.{Code}
 use Rattle.vp_format.specs.declared.codes.Code.TheVariants.{Digit, Count, Fill, Above, Other}
-use Rattle.vp_format.specs.Codes.{code_of}
 use Rattle.vp_format.specs.Cursors.{digit_value}
 use Rattle.vp_format.proofs.codes.code_of.Goals as goal
 
@@ -14,6 +13,4 @@ digit Above h = absurd (omega (arith, h))
 digit Other h = absurd (omega (arith, h))
 
 pub returns-then-value-lt16-clause-code : goal.returns-then-value-lt16-clause-code
-returns-then-value-lt16-clause-code c =
-    let small : digit_value (code_of c.args.b) < 16 = rw (sym c.digit_value-value.ensures) c.if-value-lt16.true in
-    ap Digit c.digit_value-value.ensures ∙ digit (code_of c.args.b) small
+returns-then-value-lt16-clause-code c = grind (arith, digit)

@@ -6,6 +6,5 @@ use Rattle.vp_format.proofs.counted.are_runs.Goals as goal
 
 pub returns : goal.returns
 returns c is k l =
-    let bytes = c.args.bytes.now in
-    let at = c.args.at in
+    let bytes = c.args.bytes.now in let at = c.args.at in
     runs_found bytes _ _ _ at c.requires (λ i. (c.type_inv.bytes i).fits) (others bytes at (omega (arith, c.requires))) (fars bytes at (omega (arith, c.requires))) (others bytes (at + 1) (omega (arith, c.requires))) (eqb-true _ _ is) k l

@@ -7,24 +7,14 @@ pub fill_short-requires : goal.fill_short-requires
 fill_short-requires c = omega (arith, c.loop-k.invariant.place, c.loop-k.invariant.len, c.requires.room, added_most c.args.bytes.now c.args.at c.loop-k.k 16 (omega arith))
 
 pub overflow_add-x : goal.overflow_add-x
-overflow_add-x c =
-    let l = c.loop-k in
-    let step = c.from-x.ensures ∙ c.steps-steps.ensures l.k (omega arith) (c.requires.runs l.k (omega arith)) in
-    record { fits = omega (arith, l.invariant.place, step, added_more c.args.bytes.now c.args.at l.k, added_most c.args.bytes.now c.args.at (l.k + 1) 16 (omega arith), c.requires.short) }
+overflow_add-x c = grind (arith, added_more, added_most)
 
 pub loop-k-init : goal.loop-k-init
-loop-k-init c = record {
-  len = search rules;
-  inside = omega arith;
-  place = omega (arith, added_none c.args.bytes.now c.args.at);
-  put = λ width all start r. put_none width all start _ c.args.from c.args.bytes.now c.args.at r;
-}
+loop-k-init c = grind (arith, added_none, put_none)
 
 pub loop-k-preserved : goal.loop-k-preserved
 loop-k-preserved c =
-    let l = c.loop-k in
-    let codes = c.args.bytes.now in
-    let at = c.args.at in
+    let l = c.loop-k in let codes = c.args.bytes.now in let at = c.args.at in
     let run = c.requires.runs l.k (omega arith) in
     let step = c.from-x.ensures ∙ c.steps-steps.ensures l.k (omega arith) run in
     let next : suc l.k ≡ l.k + 1 = omega arith in
@@ -43,6 +33,4 @@ pub returns-clause-place : goal.returns-clause-place
 returns-clause-place c = let done : c.loop-k.k ≡ 16 = omega (arith, c.loop-k.invariant.inside) in c.loop-k.invariant.place ∙ ap (λ k. c.args.from + added c.args.bytes.now c.args.at k) done
 
 pub returns-clause-put : goal.returns-clause-put
-returns-clause-put c width all start r =
-    let done : c.loop-k.k ≡ 16 = omega (arith, c.loop-k.invariant.inside) in
-    subst (λ (k : ℕ). Put width all start c.loop-k.places c.args.from c.args.bytes.now c.args.at k) done (c.loop-k.invariant.put width all start r)
+returns-clause-put c width all start r = grind arith

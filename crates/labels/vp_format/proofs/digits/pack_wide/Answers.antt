@@ -16,8 +16,6 @@ returns-clause-digits c _ k l =
 
 pub returns-clause-packed : goal.returns-clause-packed
 unfolding code_of
-returns-clause-packed c _ k l =
-    let bytes = c.args.bytes.now in
-    let few = all_digits bytes c.args.at 64 c.requires.bytes (omega arith) (tested bytes c.args.at 64 c.requires.bytes refl refl) (omega (arith, c.if-least-ne0.false)) (λ i. (c.type_inv.bytes i).fits) refl in
-    paired_lanes lane_value bytes c.args.row.now _ c.args.at c.args.i 32 k c.requires.bytes c.requires.room l (valued bytes c.args.at 64 c.requires.bytes refl refl)
-    (λ j m. value_by lane_value (get_or bytes (c.args.at + j) 0) refl (c.type_inv.bytes (c.args.at + j)).fits (few j m)) few
+returns-clause-packed c all k l =
+    paired_lanes lane_value c.args.bytes.now c.args.row.now _ c.args.at c.args.i 32 k c.requires.bytes c.requires.room l (valued c.args.bytes.now c.args.at 64 c.requires.bytes refl refl)
+    (λ j m. value_by lane_value (get_or c.args.bytes.now (c.args.at + j) 0) refl (c.type_inv.bytes (c.args.at + j)).fits (returns-clause-digits c all j m)) (returns-clause-digits c all)

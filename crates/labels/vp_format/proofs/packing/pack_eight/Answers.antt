@@ -11,8 +11,7 @@ returns-clause-kept c k l = get_or-put_chunk_below c.args.i c.args.row.now _ k 0
 
 pub returns-clause-packed : goal.returns-clause-packed
 returns-clause-packed c small k from to =
-    let m = k - c.args.i in
-    let e : k ≡ c.args.i + m = omega arith in
+    let m = k - c.args.i in let e : k ≡ c.args.i + m = omega arith in
     let twice = chunk (2 * c.args.i) 16 c.args.places.now ++ chunk (2 * c.args.i) 16 c.args.places.now in
     let f = λ (j : ℕ). (get_or twice (2 * j) 0 * 16 % 256 + get_or twice (2 * j + 1) 0) % 256 in
     let there : 2 * c.args.i + 2 * m ≡ 2 * k = omega arith in

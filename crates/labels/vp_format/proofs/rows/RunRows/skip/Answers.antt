@@ -4,9 +4,7 @@ use Rattle.vp_format.proofs.Skipped.{way_done, way_ended, way_even, way_stopped}
 use Rattle.vp_format.proofs.rows.RunRows.skip.Goals as goal
 
 pub returns-then-self : goal.returns-then-self
-returns-then-self c =
-    let e = way_ended _ _ _ _ c.loop-left.invariant (omega (arith, c.if-self.true, ap (λ (v : Cursor). v.next) c.self.view_is, ap (λ (v : Cursor). v.picture.rows) c.self.view_is)) in
-    record { answer = e.0; next = e.1 }
+returns-then-self c = grind (arith, way_ended)
 
 pub returns : goal.returns
 returns c = let e = way_done _ _ _ _ c.loop-left.invariant (omega arith) in record { answer = e.0; next = e.1 }
