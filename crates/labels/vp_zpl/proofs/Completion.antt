@@ -1,7 +1,7 @@
 -- More bytes bring the reader to rest.
-use Rattle.std.proofs.Common.{◌≡◌, ℕ, ◌+◌, ◌-◌, ◌<◌, ◌≤◌, Bool, true, false, zero, suc, List, [], ◌∷◌, ◌++◌, length, refl, sym, ap, ◌∙◌, append_assoc, arith, nat_lt}
+use Rattle.std.proofs.Common.{◌≡◌, ℕ, ◌-◌, ◌<◌, ◌≤◌, Bool, true, false, zero, suc, List, [], ◌∷◌, ◌++◌, length, refl, sym, ap, ◌∙◌, append_assoc, arith, nat_lt}
 use Rattle.std.proofs.lemmas.Bool.Decides.{nat_tests}
-use Rattle.std.proofs.lemmas.List.{length_push}
+use Rattle.std.proofs.lemmas.List.{length_push, append-nil}
 use Rattle.std.specs.List.{AllByRecursion}
 use Rattle.vp_zpl.specs.declared.name.Kind.{Kind}
 use Rattle.vp_zpl.specs.Spelling.{behind_commas}
@@ -24,36 +24,24 @@ named_short k args e = grind arith
 
 less : (command : List ℕ) (c n : ℕ) → wants_binary command ≡ true → short_by command ≤ suc n → short_by (longer command c) ≤ n
 unfolding wants_binary
-less [] c n w h = absurd (cc)
-less (s ∷ []) c n w h = absurd (cc)
-less (s ∷ a ∷ []) c n w h = absurd (cc)
 less (s ∷ a ∷ b ∷ args) c n w h =
-    let t = short_is args (named_short (kind_named s a b) args w) in
-    let l = still args c t.0 in
-    let e : count_of (head (args ++ c ∷ [])) ≡ count_of (head args) = ap count_of l.head_is in
-    let d : length (behind_commas 4 (args ++ c ∷ [])) ≡ length (behind_commas 4 args) + 1 = ap length l.data_is ∙ length_push (behind_commas 4 args) c in
-    omega (arith, h, t.1, e, d)
+    let t = short_is args (named_short (kind_named s a b) args w) in let l = still args c t.0 in
+    omega (arith, h, t.1, ap count_of l.head_is, ap length l.data_is ∙ length_push (behind_commas 4 args) c)
+less _ c n w h = absurd (cc)
 
 none_left : (command : List ℕ) → wants_binary command ≡ true → short_by command ≤ 0 → true ≡ false
 unfolding wants_binary
-none_left [] w h = sym w
-none_left (s ∷ []) w h = sym w
-none_left (s ∷ a ∷ []) w h = sym w
-none_left (s ∷ a ∷ b ∷ args) w h =
-    let t = short_is args (named_short (kind_named s a b) args w) in absurd (omega (arith, h, t.1))
+none_left (s ∷ a ∷ b ∷ args) w h = let t = short_is args (named_short (kind_named s a b) args w) in absurd (omega (arith, h, t.1))
+none_left _ w h = sym w
 
 pub record Filled (bytes : List ℕ) : Type 0 where
   pub end : List ℕ
   pub small : AllByRecursion (λ b. b < 256) end
   pub done : wants_binary (cut (bytes ++ end)).open_one ≡ false
 
-nothing_after : (xs : List ℕ) → xs ++ [] ≡ xs
-nothing_after [] = refl
-nothing_after (x ∷ xs) = ap (λ y. x ∷ y) (nothing_after xs)
-
 fill : (n : ℕ) (z : Bool) (bytes : List ℕ) → wants_binary (cut bytes).open_one ≡ z → short_by (cut bytes).open_one ≤ n → Filled bytes
-fill n false bytes w h = record { end = []; small = tt; done = ap (λ b. wants_binary (cut b).open_one) (nothing_after bytes) ∙ w }
-fill zero true bytes w h = record { end = []; small = tt; done = ap (λ b. wants_binary (cut b).open_one) (nothing_after bytes) ∙ w ∙ none_left (cut bytes).open_one w h }
+fill n false bytes w h = record { end = []; small = tt; done = ap (λ b. wants_binary (cut b).open_one) (append-nil bytes) ∙ w }
+fill zero true bytes w h = record { end = []; small = tt; done = ap (λ b. wants_binary (cut b).open_one) (append-nil bytes) ∙ w ∙ none_left (cut bytes).open_one w h }
 fill (suc n) true bytes w h =
     let one : cut (bytes ++ 0 ∷ []) ≡ record (cut bytes) { open_one = longer (cut bytes).open_one 0 } = cut-push bytes 0 ∙ with-byte (cut bytes) 0 true false false w refl refl in
     let few : short_by (cut (bytes ++ 0 ∷ [])).open_one ≤ n = rw one (less (cut bytes).open_one 0 n w h) in

@@ -1,5 +1,6 @@
 -- A sign ends what stands open.
 use Rattle.std.proofs.Common.{◌≡◌, ℕ, Bool, true, false, Option, Some, List, [], ◌∷◌, ◌++◌, take, drop, refl, sym, ap, ◌∙◌, arith}
+use Rattle.std.proofs.lemmas.List.{append-nil, map-append}
 use Rattle.vp_zpl.specs.declared.name.Kind.{Kind}
 use Rattle.vp_zpl.specs.declared.name.Kind.TheVariants as kinds
 use Rattle.vp_zpl.specs.declared.name.Name.{Name}
@@ -12,7 +13,7 @@ use Rattle.vp_zpl.specs.Commands.{kind, is_whole, in_format, in_format_by, indic
 use Rattle.vp_zpl.specs.Items.{item_of, data_items, graphic, text_known, text_at_end, given, given_named, at_end, at_end_named, waiting}
 use Rattle.vp_zpl.specs.Reader.{StandsIn, Ends, in_phase, indicator_at, indicator_with, left_over, is_alone, has_parameters, InParameters, InText}
 use Rattle.vp_zpl.proofs.Named.{given-is, at_end-is, opened-is, indicator-is}
-use Rattle.vp_zpl.proofs.Phases.{carry, at_phase, at_indicator, nothing_more, data_split}
+use Rattle.vp_zpl.proofs.Phases.{carry, at_phase, at_indicator}
 use Rattle.vp_zpl.proofs.Texts.{at_the_end}
 use Rattle.vp_zpl.proofs.Parameters.{keeps_at_end}
 use Rattle.vp_zpl.proofs.Inside.{none_given, Ended}
@@ -72,18 +73,14 @@ alone_ends : (k : Kind) (before : List (List ℕ)) (name : Name) (args : List �
 alone_ends k before name args e = grind arith
 
 whole_ends : (before : List (List ℕ)) (name : Name) (args : List ℕ) → is_whole args ≡ true → at_end_named kinds.Graphic before name args ≡ given_named kinds.Graphic before name args ++ []
-whole_ends before name args w = rw w (nothing_more (graphic name args))
-
-nothing_after : (xs : List ℕ) → xs ≡ xs ++ []
-nothing_after [] = refl
-nothing_after (x ∷ xs) = ap (λ y. x ∷ y) (nothing_after xs)
+whole_ends before name args w = rw w (sym (append-nil (graphic name args)))
 
 pub text_ends : (o : Option ℕ) (args : List ℕ) → text_at_end o args ≡ text_known o args ++ waiting o args
-text_ends o args = grind (arith, nothing_after, at_the_end)
+text_ends o args = grind (arith, append-nil, at_the_end)
 
 data_ends : (before : List (List ℕ)) (name : Name) (args : List ℕ)
     → at_end_named kinds.FieldData before name args ≡ given_named kinds.FieldData before name args ++ data_items (waiting (indicator before) args)
-data_ends before name args = grind (arith, text_ends, data_split)
+data_ends before name args = grind (arith, text_ends, map-append)
 
 text_gives : (r : ZplReader) (before : List (List ℕ)) (command left : List ℕ) → InText r left command → r.indicator ≡ indicator (command ∷ before)
     → at_end before command ≡ given before command ++ data_items left

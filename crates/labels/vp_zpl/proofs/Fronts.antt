@@ -20,11 +20,9 @@ same_front f g (b ∷ bytes) all few =
 pub counted : (f : ℕ → ℕ) (bytes lanes : List ℕ) (at r : ℕ) → at + 16 ≤ length bytes → lanes ≡ map f (chunk at 16 bytes) → r ≡ cond (eqb (mask_l (map (top 7) lanes) % 2 ^ 64) 0) 16 (trailing_zeros w64 (mask_l (map (top 7) lanes) % 2 ^ 64))
     → agree_below (λ b. not (top 7 (f b))) is_kept_code 256 ≡ true → Each1 (λ b. b < 256) (chunk at 16 bytes) → r ≡ prefix_len is_kept_code (chunk at 16 bytes)
 counted f bytes lanes at r room is found all few =
-    let v = chunk at 16 bytes in
-    let stops : ℕ → Bool = λ b. top 7 (f b) in
-    let long = length-chunk at 16 bytes room in
-    let mask = ap (λ l. mask_l l % 2 ^ 64) (ap (map (top 7)) is ∙ map-map (top 7) f v) ∙ mask_l-mod (map stops v) 64 (omega (arith, length-map v stops, long)) in
-    found ∙ ap (λ m. cond (eqb m 0) 16 (trailing_zeros w64 m)) mask ∙ first_set_mask_l stops v 16 long (omega arith) ∙ same_front (λ b. not (stops b)) is_kept_code v all few
+    let v = chunk at 16 bytes in let stops : ℕ → Bool = λ b. top 7 (f b) in let long = length-chunk at 16 bytes room in
+    found ∙ ap (λ m. cond (eqb m 0) 16 (trailing_zeros w64 m)) (ap (λ l. mask_l l % 2 ^ 64) (ap (map (top 7)) is ∙ map-map (top 7) f v) ∙ mask_l-mod (map stops v) 64 (omega (arith, length-map v stops, long)))
+    ∙ first_set_mask_l stops v 16 long (omega arith) ∙ same_front (λ b. not (stops b)) is_kept_code v all few
 
 -- of the next sixteen no more are counted
 pub few : (bytes : List ℕ) (at r : ℕ) → at + 16 ≤ length bytes → r ≡ prefix_len is_kept_code (chunk at 16 bytes) → r ≤ 16
@@ -33,8 +31,7 @@ few bytes at r room counted = omega (arith, counted, length-chunk at 16 bytes ro
 split_at : (bytes : List ℕ) (at n : ℕ) (t : Bool) → at + n ≤ length bytes → eqb (prefix_len is_kept_code (chunk at n bytes)) (length (chunk at n bytes)) ≡ t
     → prefix_len is_kept_code (drop at bytes) ≡ cond t (n + prefix_len is_kept_code (drop (at + n) bytes)) (prefix_len is_kept_code (chunk at n bytes))
 split_at bytes at n t room e =
-    let v = chunk at n bytes in
-    let later = prefix_len is_kept_code (drop (at + n) bytes) in
+    let v = chunk at n bytes in let later = prefix_len is_kept_code (drop (at + n) bytes) in
     ap (prefix_len is_kept_code) (chunk-drop at n bytes) ∙ prefix_len-append is_kept_code v (drop (at + n) bytes) ∙ ap (λ s. cond s (length v + later) (prefix_len is_kept_code v)) e
     ∙ ap (λ m. cond t (m + later) (prefix_len is_kept_code v)) (length-chunk at n bytes room)
 
@@ -54,10 +51,8 @@ goes_on bytes at r room counted g = all_go_on bytes at 16 room (omega (arith, fe
 pub all_kept : (f : ℕ → ℕ) (bytes lanes : List ℕ) (at n : ℕ) → at + n ≤ length bytes → n ≤ 64 → lanes ≡ map f (chunk at n bytes) → mask_l (map (top 7) lanes) % 2 ^ 64 ≡ 0 → agree_below (λ b. top 7 (f b) || is_kept_code b) (λ _. true) 256 ≡ true
     → ((i : ℕ) → get_or bytes i 0 < 256) → prefix_len is_kept_code (chunk at n bytes) ≡ n
 all_kept f bytes lanes at n room few is none all fits =
-    let v = chunk at n bytes in
-    let test : ℕ → Bool = λ b. top 7 (f b) in
-    let long = length-chunk at n bytes room in
-    let mask : mask_l (map (top 7) lanes) % 2 ^ 64 ≡ mask_l (map test v) = ap (λ l. mask_l l % 2 ^ 64) (ap (map (top 7)) is ∙ map-map (top 7) f v) ∙ mask_l-mod (map test v) 64 (omega (arith, length-map v test, long)) in
-    let kept : (k : ℕ) → k < n → is_kept_code (get_or bytes (at + k) 0) ≡ true = λ k l.
-    sym (ap (λ s. s || is_kept_code (get_or bytes (at + k) 0)) (none_from_empty_mask test bytes at n 0 room (sym mask ∙ none) (at + k) (omega arith) (omega (arith, l)))) ∙ agree_below_at (λ b. test b || is_kept_code b) (λ _. true) 256 (get_or bytes (at + k) 0) all (fits (at + k)) in
+    let v = chunk at n bytes in let test : ℕ → Bool = λ b. top 7 (f b) in let long = length-chunk at n bytes room in
+    let kept : (k : ℕ) → k < n → is_kept_code (get_or bytes (at + k) 0) ≡ true = λ k l. sym (ap (λ s. s || is_kept_code (get_or bytes (at + k) 0))
+    (none_from_empty_mask test bytes at n 0 room (sym (ap (λ l. mask_l l % 2 ^ 64) (ap (map (top 7)) is ∙ map-map (top 7) f v) ∙ mask_l-mod (map test v) 64 (omega (arith, length-map v test, long))) ∙ none) (at + k)
+    (omega arith) (omega (arith, l)))) ∙ agree_below_at (λ b. test b || is_kept_code b) (λ _. true) 256 (get_or bytes (at + k) 0) all (fits (at + k)) in
     prefix_len_is is_kept_code v n 0 (omega (arith, long)) (λ k l. ap is_kept_code (get_or-chunk at n bytes k 0 l) ∙ kept k l) (λ l. absurd (omega (arith, long, l)))

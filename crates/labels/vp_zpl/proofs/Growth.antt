@@ -9,7 +9,7 @@ use Rattle.vp_zpl.specs.Items.{Item, items, item_of, data_items, graphic, pictur
 use Rattle.vp_zpl.proofs.Cuts.{cut-push, items-is, with-byte}
 use Rattle.vp_zpl.proofs.Texts.{step, out}
 use Rattle.vp_zpl.proofs.Heads.{still, code_more}
-use Rattle.vp_zpl.proofs.Phases.{nothing_more, data_split}
+use Rattle.std.proofs.lemmas.List.{append-nil, map-append}
 use Rattle.vp_zpl.proofs.Ends.{text_ends}
 
 pub record Grows (small big : List Item) : Type 0 where
@@ -17,7 +17,7 @@ pub record Grows (small big : List Item) : Type 0 where
   pub is : big ≡ small ++ added
 
 same : (xs ys : List Item) → ys ≡ xs → Grows xs ys
-same xs ys e = record { added = []; is = e ∙ nothing_more xs }
+same xs ys e = record { added = []; is = e ∙ sym (append-nil xs) }
 
 from_none : (xs ys : List Item) → xs ≡ [] → Grows xs ys
 from_none xs ys e = record { added = ys; is = ap (λ x. x ++ ys) (sym e) }
@@ -38,7 +38,7 @@ graphic_by : (z : Bool) (before : List (List ℕ)) (name : Name) (args : List �
     → Grows (given_named kinds.Graphic before name args) (given_named kinds.Graphic before name (args ++ c ∷ []))
 graphic_by true before name args c w =
     let s = still args c w in let g = picture_by (is_b (head args)) args c w refl in
-    record { added = data_items g.0; is = rw (s.whole, w, s.head_is, g.1) (ap (λ d. item_of kinds.Graphic name (head args) ∷ d) (data_split (picture args) g.0)) }
+    record { added = data_items g.0; is = rw (s.whole, w, s.head_is, g.1) (ap (λ d. item_of kinds.Graphic name (head args) ∷ d) (map-append _ (picture args) g.0)) }
 graphic_by false before name args c w = from_none _ _ (ap (λ z. cond z (graphic name args) []) w)
 
 text_by : (o : Option ℕ) (args : List ℕ) (c : ℕ) → (added : List ℕ) × (text_known o (args ++ c ∷ []) ≡ text_known o args ++ added)
@@ -48,7 +48,7 @@ text_by (Some x) args c = (out x (undecided x args) c, (step x args c).makes)
 named_grows : (k : Kind) (before : List (List ℕ)) (name : Name) (args : List ℕ) (c : ℕ) → Grows (given_named k before name args) (given_named k before name (args ++ c ∷ []))
 named_grows kinds.FieldData before name args c =
     let g = text_by (indicator before) args c in
-    record { added = data_items g.0; is = ap (λ d. item_of kinds.FieldData name [] ∷ data_items d) g.1 ∙ ap (λ d. item_of kinds.FieldData name [] ∷ d) (data_split (text_known (indicator before) args) g.0) }
+    record { added = data_items g.0; is = ap (λ d. item_of kinds.FieldData name [] ∷ data_items d) g.1 ∙ ap (λ d. item_of kinds.FieldData name [] ∷ d) (map-append _ (text_known (indicator before) args) g.0) }
 named_grows kinds.Graphic before name args c = graphic_by (is_whole args) before name args c refl
 named_grows _ before name args c = same _ _ refl
 
@@ -63,7 +63,7 @@ whole_by z before name args w = grind (arith, same, from_none)
 named_ends : (k : Kind) (before : List (List ℕ)) (name : Name) (args : List ℕ) → Grows (given_named k before name args) (at_end_named k before name args)
 named_ends kinds.FieldHex before name args = from_none _ _ refl
 named_ends (kinds.Plain j) before name args = from_none _ _ refl
-named_ends kinds.FieldData before name args = grind (arith, text_ends, data_split)
+named_ends kinds.FieldData before name args = grind (arith, text_ends, map-append)
 named_ends kinds.Graphic before name args = whole_by (is_whole args) before name args refl
 named_ends _ before name args = same _ _ refl
 
@@ -83,14 +83,10 @@ within : (before : List (List ℕ)) (small big : List Item) → Grows small big 
 within before small big g = record { added = g.added; is = ap (λ x. all_ended before ++ x) g.is ∙ sym (append_assoc (all_ended before) small g.added) }
 
 one_more : (bytes : List ℕ) (c : ℕ) → Grows (items bytes) (items (bytes ++ c ∷ []))
-one_more bytes c = grind (arith, within, given_grows, same, end_grows, no_name, nothing_more, ended_is, items-is, cut-push, with-byte)
-
-nothing_after : (xs : List ℕ) → xs ++ [] ≡ xs
-nothing_after [] = refl
-nothing_after (x ∷ xs) = ap (λ y. x ∷ y) (nothing_after xs)
+one_more bytes c = grind (arith, within, given_grows, same, end_grows, no_name, append-nil, ended_is, items-is, cut-push, with-byte)
 
 pub grows : (bytes more : List ℕ) → Grows (items bytes) (items (bytes ++ more))
-grows bytes [] = grind (arith, same, nothing_after)
+grows bytes [] = grind (arith, same, append-nil)
 grows bytes (c ∷ more) =
     let a = one_more bytes c in let b = grows (bytes ++ c ∷ []) more in
     grind (arith, append_assoc)

@@ -1,10 +1,11 @@
 -- Parameters and the data of ^GF, by one byte more.
-use Rattle.std.proofs.Common.{◌≡◌, ℕ, ◌-◌, ◌<◌, ◌≤◌, ◌==◌, Bool, true, false, cond, List, [], ◌∷◌, ◌++◌, length, map, refl, ap, ◌∙◌, arith, length-append}
+use Rattle.std.proofs.Common.{◌≡◌, ℕ, ◌-◌, ◌<◌, ◌≤◌, ◌==◌, Bool, true, false, cond, List, [], ◌∷◌, ◌++◌, length, refl, ap, ◌∙◌, arith, length-append}
 use Rattle.std.proofs.lemmas.Bool.Decides.{nat_tests}
-use Rattle.std.proofs.lemmas.List.{map-append, take-append-le, take_all, length_push}
+use Rattle.std.proofs.lemmas.List.{map-append, take-append-le, take_all, length_push, length-map}
+use Rattle.std.proofs.lemmas.List.Elements.{filter-append}
 use Rattle.std.specs.Prelude.{filter}
 use Rattle.vp_zpl.specs.declared.name.Name.{Name}
-use Rattle.vp_zpl.specs.Spelling.{is_comma, is_blank, ended, last, behind_commas, kept}
+use Rattle.vp_zpl.specs.Spelling.{is_comma, is_blank, ended, last, behind_commas}
 use Rattle.vp_zpl.specs.Commands.{is_b, count_of, head, is_whole}
 use Rattle.vp_zpl.specs.Items.{picture, is_code}
 
@@ -34,10 +35,6 @@ behind-push n p (a ∷ args) c h =
     behind_if (n == 0) _ _ _ _ refl (behind_step (is_comma a) (is_blank a) n p args a c (λ m q g. behind-push m q args c g) h)
     ∙ append_if (n == 0) (a ∷ args) _ c
 
-length_kept : (ps : List (List ℕ)) → length (map kept ps) ≡ length ps
-length_kept [] = refl
-length_kept (p ∷ ps) = let e = length_kept ps in cc
-
 -- what holds of a whole head still holds
 pub record Still (args : List ℕ) (c : ℕ) : Type 0 where
   pub whole : is_whole (args ++ c ∷ []) ≡ true
@@ -46,7 +43,7 @@ pub record Still (args : List ℕ) (c : ℕ) : Type 0 where
 
 pub still : (args : List ℕ) (c : ℕ) → is_whole args ≡ true → Still args c
 unfolding is_whole head
-still args c w = grind (arith, nat_tests, length-append, ended-push, map-append, take-append-le, length_kept, behind-push)
+still args c w = grind (arith, nat_tests, length-append, ended-push, map-append, take-append-le, length-map, behind-push)
 
 pub graphic_same : (name : Name) (args : List ℕ) (c : ℕ) → is_whole args ≡ true → is_b (head args) ≡ true → count_of (head args) ≤ length (behind_commas 4 args)
     → picture (args ++ c ∷ []) ≡ picture args
@@ -62,13 +59,9 @@ binary_more args c w b few =
     let s = still args c w in
     grind (arith, take_all, length_push)
 
-filter_push : (xs : List ℕ) (c : ℕ) → filter is_code (xs ++ c ∷ []) ≡ filter is_code xs ++ cond (is_code c) (c ∷ []) []
-filter_push [] c = refl
-filter_push (x ∷ xs) c = grind (arith, filter_push xs c)
-
 pub code_more : (args : List ℕ) (c : ℕ) (more : List ℕ) → is_whole args ≡ true → is_b (head args) ≡ false → cond (is_code c) (c ∷ []) [] ≡ more
     → picture (args ++ c ∷ []) ≡ picture args ++ more
 unfolding picture
 code_more args c more w b e =
     let s = still args c w in
-    rw (s.head_is, s.data_is, b) (filter_push (behind_commas 4 args) c ∙ ap (λ x. filter is_code (behind_commas 4 args) ++ x) e)
+    rw (s.head_is, s.data_is, b) (filter-append is_code (behind_commas 4 args) (c ∷ []) ∙ ap (λ x. filter is_code (behind_commas 4 args) ++ x) e)

@@ -97,14 +97,11 @@ pub head_goes : (r new : ZplReader) (before : List (List ℕ)) (command : List �
     → new.phase ≡ behind_head sent → 4 ≤ length sent → Goes (item_of kinds.Graphic r.sent.name sent ∷ []) new before command 0x2C
 head_goes r new before command sent stands p name opened indicates ends is phase four =
     let h : InParameters r kinds.Graphic command = at_phase r before command (Parameters kinds.Graphic) stands p in
-    let i : r.indicator ≡ indicator before = at_indicator r before command (Parameters kinds.Graphic) stands p in
     let reads : Reads r kinds.Graphic h.args = record { not_whole = h.not_whole; kept_is = h.kept_is; part_is = h.part_is } in
     let w = completes h.args sent (h.not_whole refl) (sym is ∙ kept_on r new kinds.Graphic h.args ends reads) four in
-    let m = named_longer h.named new 0x2C name in
-    let q = behind_head (head (h.args ++ 0x2C ∷ [])) in
+    let m = named_longer h.named new 0x2C name in let q = behind_head (head (h.args ++ 0x2C ∷ [])) in
     goes_named (item_of kinds.Graphic r.sent.name sent ∷ []) new before command 0x2C q h.named (opened ∙ stands.opened) (phase ∙ ap behind_head (sym w.head_is))
-    (indicates ∙ i ∙ sym (indicator-is m before) ∙ head_indicates (is_b (head (h.args ++ 0x2C ∷ []))) (count_of (head (h.args ++ 0x2C ∷ []))) (longer command 0x2C) before)
-    (whole_given before r.sent.name h.args (h.args ++ 0x2C ∷ []) (h.not_whole refl) w.whole (picture_none (h.args ++ 0x2C ∷ []) w.data_is)
-    ∙ ap (λ x. given_named kinds.Graphic before r.sent.name h.args ++ item_of kinds.Graphic r.sent.name x ∷ []) w.head_is)
-    name
+    (indicates ∙ (at_indicator r before command (Parameters kinds.Graphic) stands p) ∙ sym (indicator-is m before) ∙ head_indicates (is_b (head (h.args ++ 0x2C ∷ []))) (count_of (head (h.args ++ 0x2C ∷ [])))
+    (longer command 0x2C) before) (whole_given before r.sent.name h.args (h.args ++ 0x2C ∷ []) (h.not_whole refl) w.whole (picture_none (h.args ++ 0x2C ∷ []) w.data_is) ∙ ap
+    (λ x. given_named kinds.Graphic before r.sent.name h.args ++ item_of kinds.Graphic r.sent.name x ∷ []) w.head_is) name
     (head_phase (is_b (head (h.args ++ 0x2C ∷ []))) new (h.args ++ 0x2C ∷ []) (longer command 0x2C) m w.whole w.data_is refl)

@@ -2,7 +2,7 @@
 use Rattle.std.proofs.lemmas.Grind.{common_steps}
 use Rattle.std.proofs.Common.{◌≡◌, ℕ, ◌+◌, ◌-◌, ◌<◌, ◌≤◌, ◌==◌, Bool, true, false, cond, zero, suc, List, [], ◌∷◌, ◌++◌, length, take, map, refl, ap, ◌∙◌, arith, nat_le}
 use Rattle.std.proofs.lemmas.Bool.Decides.{nat_tests}
-use Rattle.std.proofs.lemmas.List.{map_push, take_all, length_push, length-take}
+use Rattle.std.proofs.lemmas.List.{map_push, take_all, length_push, length-take, length-map}
 use Rattle.vp_zpl.specs.Spelling.{is_comma, is_blank, ended, last, behind_commas, parameters, kept, kept_of, Kept}
 use Rattle.vp_zpl.specs.Commands.{is_whole, head}
 use Rattle.vp_zpl.proofs.Heads.{ended-push}
@@ -63,13 +63,9 @@ pub record Completes (args : List ℕ) (sent : List Kept) : Type 0 where
   pub head_is : head (args ++ 0x2C ∷ []) ≡ sent
   pub data_is : behind_commas 4 (args ++ 0x2C ∷ []) ≡ []
 
-length_kept : (ps : List (List ℕ)) → length (map kept ps) ≡ length ps
-length_kept [] = refl
-length_kept (p ∷ ps) = let e = length_kept ps in cc
-
 pub few_kept : (ps : List (List ℕ)) → length (kept_of ps) < 4 → length ps < 4
 unfolding kept_of
-few_kept ps h = omega (arith, length_kept ps, length-take 8 (map kept ps))
+few_kept ps h = omega (arith, length-map ps kept, length-take 8 (map kept ps))
 
 pub not_whole_is : (args : List ℕ) → is_whole args ≡ false → length (ended [] args) < 4
 unfolding is_whole
@@ -81,4 +77,4 @@ few_whole args h = let l = few_kept (ended [] args) h in grind (arith, nat_tests
 
 pub completes : (args : List ℕ) (sent : List Kept) → is_whole args ≡ false → sent ≡ kept_of (ended [] (args ++ 0x2C ∷ [])) → 4 ≤ length sent → Completes args sent
 unfolding is_whole head kept_of
-completes args sent w e l = grind (arith, common_steps, not_whole_is, comma_ended, length_push, take_all, length_kept, behind_last)
+completes args sent w e l = grind (arith, common_steps, not_whole_is, comma_ended, length_push, take_all, length-map, behind_last)

@@ -1,5 +1,6 @@
 -- A byte more, by the phase, where no parameters are read.
 use Rattle.std.proofs.Common.{◌≡◌, ℕ, true, Option, Some, None, List, [], ◌∷◌, ◌++◌, refl, sym, ap, ◌∙◌, arith}
+use Rattle.std.proofs.lemmas.List.{append-nil, map-append}
 use Rattle.vp_zpl.specs.declared.name.Kind.{Kind}
 use Rattle.vp_zpl.specs.declared.name.Kind.TheVariants as kinds
 use Rattle.vp_zpl.specs.declared.name.Name.{Name}
@@ -11,15 +12,11 @@ use Rattle.vp_zpl.specs.Shown.{data_bytes}
 use Rattle.vp_zpl.specs.declared.reader.Phase.{Phase}
 use Rattle.vp_zpl.specs.declared.reader.Phase.TheVariants.{Outside, AfterSign, AfterFirst, Skipping, Text}
 use Rattle.vp_zpl.specs.Commands.{kind, longer, in_format, indicator}
-use Rattle.vp_zpl.specs.Items.{Item, item_of, data_items, given, given_named, text_known, waiting}
+use Rattle.vp_zpl.specs.Items.{item_of, data_items, given, given_named, text_known, waiting}
 use Rattle.vp_zpl.specs.Items.Item.{Data}
 use Rattle.vp_zpl.specs.Reader.{StandsIn, Goes, in_phase, is_alone, InSkipping, InText, indicator_at, shown_event}
 use Rattle.vp_zpl.proofs.Texts.{step, out, left_by}
 use Rattle.vp_zpl.proofs.Named.{goes_named, named_longer, indicator_longer, alone_not, indicator-is}
-
-pub nothing_more : (xs : List Item) → xs ≡ xs ++ []
-nothing_more [] = refl
-nothing_more (x ∷ xs) = ap (λ y. x ∷ y) (nothing_more xs)
 
 alone_gives : (k : Kind) (before : List (List ℕ)) (name : Name) (args more : List ℕ) → is_alone k ≡ true → given_named k before name more ≡ given_named k before name args ++ []
 alone_gives k before name args more e = grind arith
@@ -39,7 +36,7 @@ pub at_indicator : (r : ZplReader) (before : List (List ℕ)) (command : List �
 at_indicator r before command q stands p = stands.indicates ∙ ap (λ x. indicator_at x command before) p
 
 pub outside_goes : (r : ZplReader) (before : List (List ℕ)) (command : List ℕ) (c : ℕ) → StandsIn r before command → r.phase ≡ Outside → Goes [] r before command c
-outside_goes r before command c stands p = grind (arith, at_phase, nothing_more, carry)
+outside_goes r before command c stands p = grind (arith, at_phase, append-nil, carry)
 
 pub skipping_goes : (r : ZplReader) (before : List (List ℕ)) (command : List ℕ) (c : ℕ) → StandsIn r before command → r.phase ≡ Skipping → Goes [] r before command c
 skipping_goes r before command c stands p =
@@ -62,16 +59,12 @@ abbrev pub out_of : Option ℕ → List ℕ → ℕ → List ℕ
 out_of None was c = c ∷ []
 out_of (Some x) was c = out x was c
 
-pub data_split : (xs ys : List ℕ) → data_items (xs ++ ys) ≡ data_items xs ++ data_items ys
-data_split [] ys = refl
-data_split (x ∷ xs) ys = ap (λ i. Data x ∷ i) (data_split xs ys)
-
 text_more : (o : Option ℕ) (args was : List ℕ) (c : ℕ) → waiting o args ≡ was → text_known o (args ++ c ∷ []) ≡ text_known o args ++ out_of o was c
 text_more o args was c e = grind (arith, step, out)
 
 text_items : (o was : Option ℕ) (name : Name) (args more : List ℕ) (c : ℕ) (before : List (List ℕ)) → indicator before ≡ was → text_known was (args ++ c ∷ []) ≡ text_known was args ++ more
     → given_named kinds.FieldData before name (args ++ c ∷ []) ≡ given_named kinds.FieldData before name args ++ data_items more
-text_items o was name args more c before e f = rw e (ap (λ d. item_of kinds.FieldData name [] ∷ data_items d) f ∙ ap (λ d. item_of kinds.FieldData name [] ∷ d) (data_split (text_known was args) more))
+text_items o was name args more c before e f = rw e (ap (λ d. item_of kinds.FieldData name [] ∷ data_items d) f ∙ ap (λ d. item_of kinds.FieldData name [] ∷ d) (map-append Data (text_known was args) more))
 
 -- a byte of data: what it makes known, and where the reader then is
 pub text_goes : (r new : ZplReader) (before : List (List ℕ)) (command was now : List ℕ) (c : ℕ) (q : Phase) → StandsIn r before command → InText r was command

@@ -1,7 +1,7 @@
 -- The data of ^GF, by the phase.
-use Rattle.std.proofs.Common.{◌≡◌, ℕ, ◌-◌, ◌<◌, ◌≤◌, true, false, cond, List, [], ◌∷◌, ◌++◌, length, refl, sym, ap, ◌∙◌, arith, nat_lt}
+use Rattle.std.proofs.Common.{◌≡◌, ℕ, ◌-◌, ◌<◌, ◌≤◌, true, false, cond, List, [], ◌∷◌, ◌++◌, length, refl, sym, ◌∙◌, arith, nat_lt}
 use Rattle.std.proofs.lemmas.Bool.Decides.{nat_tests}
-use Rattle.std.proofs.lemmas.List.{length_push}
+use Rattle.std.proofs.lemmas.List.{length_push, append-nil, map-append}
 use Rattle.vp_zpl.specs.declared.name.Name.{Name}
 use Rattle.vp_zpl.specs.declared.reader.ZplReader.{ZplReader}
 use Rattle.vp_zpl.specs.declared.reader.Phase.{Phase}
@@ -11,19 +11,15 @@ use Rattle.vp_zpl.specs.Commands.{count_of, head, is_whole, indicator, wants_bin
 use Rattle.vp_zpl.specs.Items.{data_items, graphic, picture, is_code}
 use Rattle.vp_zpl.specs.Reader.{StandsIn, Goes, InCodes, InBinary, left_of}
 use Rattle.vp_zpl.proofs.Named.{goes_named, named_longer, indicator_longer, wants_in}
-use Rattle.vp_zpl.proofs.Phases.{at_phase, at_indicator, data_split}
+use Rattle.vp_zpl.proofs.Phases.{at_phase, at_indicator}
 use Rattle.vp_zpl.proofs.Heads.{still, graphic_same, binary_more, code_more}
-
-none_more : (xs : List ℕ) → xs ≡ xs ++ []
-none_more [] = refl
-none_more (x ∷ xs) = ap (λ y. x ∷ y) (none_more xs)
 
 binary_phase : (p : Phase) (left : ℕ) → left_of p ≡ left → 0 < left → p ≡ Binary left
 binary_phase p left e s = grind arith
 
 given_graphic : (args : List ℕ) (name : Name) (more : List ℕ) (c : ℕ) → is_whole args ≡ true → picture (args ++ c ∷ []) ≡ picture args ++ more
     → (cond (is_whole (args ++ c ∷ [])) (graphic name (args ++ c ∷ [])) []) ≡ (cond (is_whole args) (graphic name args) []) ++ data_items more
-given_graphic args name more c w e = grind (arith, still, data_split)
+given_graphic args name more c w e = grind (arith, still, map-append)
 
 pub behind_goes : (r : ZplReader) (before : List (List ℕ)) (command : List ℕ) (left c : ℕ) → StandsIn r before command → wants_binary command ≡ false → r.phase ≡ Binary left → Goes [] r before command c
 behind_goes r before command left c stands wants p =
@@ -34,7 +30,7 @@ behind_goes r before command left c stands wants p =
     let full : count_of (head h.args) ≤ length (behind_commas 4 h.args) = omega (arith, h.left_is, zero) in
     let s = still h.args c h.whole in
     goes_named [] r before command c (Binary left) h.named stands.opened p (i ∙ indicator_longer before command c h.named refl)
-    (given_graphic h.args r.sent.name [] c h.whole (graphic_same r.sent.name h.args c h.whole h.binary full ∙ none_more (picture h.args))) refl
+    (given_graphic h.args r.sent.name [] c h.whole (graphic_same r.sent.name h.args c h.whole h.binary full ∙ sym (append-nil (picture h.args)))) refl
     (record {
       args = h.args ++ c ∷ [];
       named = named_longer h.named r c refl;

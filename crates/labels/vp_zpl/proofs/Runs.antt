@@ -1,6 +1,6 @@
 -- Data that are taken at once.
 use Rattle.std.proofs.lemmas.Grind.{common_steps}
-use Rattle.std.proofs.Common.{◌≡◌, ℕ, ◌+◌, ◌-◌, ◌<◌, ◌≤◌, Bool, true, false, not, ◌&&◌, ◌||◌, cond, zero, suc, min, Option, Some, None, List, [], ◌∷◌, ◌++◌, length, take, refl, sym, ap, ◌∙◌, append_assoc, arith, nat_lt}
+use Rattle.std.proofs.Common.{◌≡◌, ℕ, ◌+◌, ◌-◌, ◌<◌, ◌≤◌, Bool, true, false, not, ◌&&◌, ◌||◌, cond, zero, suc, min, Option, Some, None, List, [], ◌∷◌, ◌++◌, length, take, refl, sym, ap, ◌∙◌, append_assoc, arith}
 use Rattle.std.proofs.lemmas.Bool.Decides.{nat_tests}
 use Rattle.std.specs.List.{prefix_len}
 use Rattle.std.proofs.lemmas.List.Sums.{prefix_len-le-length}
@@ -9,7 +9,7 @@ use Rattle.vp_zpl.specs.declared.name.Kind.{Kind}
 use Rattle.vp_zpl.specs.declared.name.Kind.TheVariants as kinds
 use Rattle.vp_zpl.specs.declared.reader.ZplReader.{ZplReader}
 use Rattle.vp_zpl.specs.declared.reader.Phase.{Phase}
-use Rattle.vp_zpl.specs.declared.reader.Phase.TheVariants.{Outside, AfterSign, AfterFirst, Skipping, Parameters, Text, AfterIndicator, AfterDigit, Codes, Binary}
+use Rattle.vp_zpl.specs.declared.reader.Phase.TheVariants.{Outside, AfterSign, AfterFirst, Text, AfterIndicator, AfterDigit, Codes, Binary}
 use Rattle.vp_zpl.specs.Spelling.{is_sign, is_line_end, behind_commas}
 use Rattle.vp_zpl.specs.Commands.{cut, is_whole, is_b, head, count_of, indicator}
 use Rattle.vp_zpl.specs.Items.{items, data_items, is_code, waiting}
@@ -79,8 +79,7 @@ text_step_by (Some x) r before command c is stands p e =
 
 text_step : (r : ZplReader) → r.phase ≡ Text → (bytes : List ℕ) (c : ℕ) → Stands r bytes → is_text r.indicator c ≡ true → Advances (data_items (c ∷ [])) r (cut bytes) c
 text_step r p bytes c stands e =
-    let s = stands_in r bytes stands in
-    let all = not_or (ends_data c) (is_indicated r.indicator c) e in
+    let s = stands_in r bytes stands in let all = not_or (ends_data c) (is_indicated r.indicator c) e in
     let ends = or_not (is_sign c) (is_line_end c) all.0 in
     by_more (data_items (c ∷ [])) r (cut bytes) c (wants_in Text r (cut bytes).open_one (at_phase r (cut bytes).before (cut bytes).open_one Text s p)) ends.1 ends.0
     (text_step_by r.indicator r (cut bytes).before (cut bytes).open_one c refl s p all.1)
@@ -91,8 +90,7 @@ and_true x y e = grind arith
 
 code_step : (r : ZplReader) → r.phase ≡ Codes → (bytes : List ℕ) (c : ℕ) → Stands r bytes → is_kept_code c ≡ true → Advances (data_items (c ∷ [])) r (cut bytes) c
 code_step r p bytes c stands e =
-    let s = stands_in r bytes stands in
-    let all = and_true (ends_data c) (is_code c) e in
+    let s = stands_in r bytes stands in let all = and_true (ends_data c) (is_code c) e in
     let ends = or_not (is_sign c) (is_line_end c) all.0 in
     by_more (data_items (c ∷ [])) r (cut bytes) c (wants_in Codes r (cut bytes).open_one (at_phase r (cut bytes).before (cut bytes).open_one Codes s p)) ends.1 ends.0
     (code_goes r r (cut bytes).before (cut bytes).open_one (c ∷ []) c s p (ap (λ z. cond z (c ∷ []) []) all.1) refl refl refl refl)
@@ -103,21 +101,16 @@ binary_step : (r : ZplReader) (left : ℕ) → r.phase ≡ Binary left → 0 < l
     → Advances (data_items (c ∷ [])) (record r { phase = Binary (left - 1) }) (cut bytes) c
 binary_step r left p some bytes c stands =
     let s = stands_in r bytes stands in
-    let w : nat_lt 0 left ≡ true = grind (arith, nat_tests) in
-    by_binary (data_items (c ∷ [])) (record r { phase = Binary (left - 1) }) (cut bytes) c
-    (wants_in (Binary left) r (cut bytes).open_one (at_phase r (cut bytes).before (cut bytes).open_one (Binary left) s p) ∙ w)
-    (binary_goes r (record r { phase = Binary (left - 1) }) (cut bytes).before (cut bytes).open_one left c s (ap Rattle.vp_zpl.specs.Reader.left_of p) some refl refl refl refl)
+    by_binary (data_items (c ∷ [])) (record r { phase = Binary (left - 1) }) (cut bytes) c (wants_in (Binary left) r (cut bytes).open_one (at_phase r (cut bytes).before (cut bytes).open_one (Binary left) s p) ∙
+    (grind (arith, nat_tests))) (binary_goes r (record r { phase = Binary (left - 1) }) (cut bytes).before (cut bytes).open_one left c s (ap Rattle.vp_zpl.specs.Reader.left_of p) some refl refl refl refl)
 
 pub runs_binary : (cs : List ℕ) (r : ZplReader) (left : ℕ) (bytes : List ℕ) → r.phase ≡ Binary left → length cs ≤ left → Stands r bytes
     → Ran (record r { phase = Binary (left - length cs) }) bytes cs
 runs_binary [] r left bytes p fits stands = grind (arith, common_steps)
 runs_binary (c ∷ cs) r left bytes p fits stands =
-    let some : 0 < left = omega arith in
-    let a = binary_step r left p some bytes c stands in
-    let one : ZplReader = record r { phase = Binary (left - 1) } in
+    let a = binary_step r left p (omega arith) bytes c stands in let one : ZplReader = record r { phase = Binary (left - 1) } in
     let less : left - 1 - length cs ≡ left - length (c ∷ cs) = omega arith in
-    ran_more one (record r { phase = Binary (left - length (c ∷ cs)) }) bytes cs c a
-    (carry (λ n. Ran (record r { phase = Binary n }) (bytes ++ c ∷ []) cs) (left - 1 - length cs) (left - length (c ∷ cs)) less
+    ran_more one (record r { phase = Binary (left - length (c ∷ cs)) }) bytes cs c a (carry (λ n. Ran (record r { phase = Binary n }) (bytes ++ c ∷ []) cs) (left - 1 - length cs) (left - length (c ∷ cs)) less
     (runs_binary cs one (left - 1) (bytes ++ c ∷ []) refl (omega arith) (stands-from (data_items (c ∷ [])) one bytes c a)))
 
 -- so many are data
@@ -147,13 +140,10 @@ unfolding front_in
 front_is Outside r before command input h i = rw h refl
 front_is (AfterSign s) r before command input h i = rw h refl
 front_is (AfterFirst s a) r before command input h i = rw h refl
-front_is Skipping r before command input h i = sym (front_of h.named before input ∙ alone_front h.kind (indicator before) h.args input h.alone)
-front_is (Parameters k) r before command input h i = sym (front_of h.named before input ∙ parameters_front k (indicator before) h.args input h.takes h.not_whole)
 front_is Text r before command input h i = sym (text_by r before command [] input h i)
 front_is (AfterIndicator x) r before command input h i = sym (text_by r before command (x ∷ []) input h.1 i)
 front_is (AfterDigit x d) r before command input h i = sym (text_by r before command (x ∷ d ∷ []) input h.1 i)
-front_is Codes r before command input h i = sym (front_of h.named before input ∙ whole_front (indicator before) h.args input false h.whole h.is_a)
-front_is (Binary left) r before command input h i = grind (arith, front_of, whole_front)
+front_is _ r before command input h i = grind (arith, front_of, alone_front, parameters_front, whole_front)
 
 pub fits : (q : Phase) (o : Option ℕ) (input : List ℕ) → front_by q o input ≤ length input
 fits q o input = grind (arith, prefix_len-le-length)
@@ -164,20 +154,13 @@ none_ran r q n bytes input p same none stands = grind (arith, carry, ran_none)
 
 pub front_ran : (q : Phase) (r : ZplReader) (n : ℕ) (bytes input : List ℕ) → r.phase ≡ q → n ≤ front_by q r.indicator input → Stands r bytes
     → Ran (record r { phase = phase_after q n }) bytes (take n input)
-front_ran Outside r n bytes input p few stands = none_ran r Outside n bytes input p refl few stands
-front_ran (AfterSign s) r n bytes input p few stands = none_ran r (AfterSign s) n bytes input p refl few stands
-front_ran (AfterFirst s a) r n bytes input p few stands = none_ran r (AfterFirst s a) n bytes input p refl few stands
-front_ran Skipping r n bytes input p few stands = none_ran r Skipping n bytes input p refl few stands
-front_ran (Parameters k) r n bytes input p few stands = none_ran r (Parameters k) n bytes input p refl few stands
 front_ran Text r n bytes input p few stands =
     carry (λ x. Ran (record r { phase = x }) bytes (take n input)) r.phase Text p
     (runs (is_text r.indicator) r (text_step r p) bytes (take n input) stands (front_passes (is_text r.indicator) n input few))
-front_ran (AfterIndicator x) r n bytes input p few stands = none_ran r (AfterIndicator x) n bytes input p refl few stands
-front_ran (AfterDigit x d) r n bytes input p few stands = none_ran r (AfterDigit x d) n bytes input p refl few stands
 front_ran Codes r n bytes input p few stands =
     carry (λ x. Ran (record r { phase = x }) bytes (take n input)) r.phase Codes p
     (runs is_kept_code r (code_step r p) bytes (take n input) stands (front_passes is_kept_code n input few))
 front_ran (Binary left) r n bytes input p few stands =
     let l : length (take n input) ≡ n = length-take-le n input (omega arith) in
-    carry (λ m. Ran (record r { phase = Binary (left - m) }) bytes (take n input)) (length (take n input)) n l
-    (runs_binary (take n input) r left bytes p (omega (arith, l)) stands)
+    carry (λ m. Ran (record r { phase = Binary (left - m) }) bytes (take n input)) (length (take n input)) n l (runs_binary (take n input) r left bytes p (omega (arith, l)) stands)
+front_ran q r n bytes input p few stands = none_ran r q n bytes input p refl few stands

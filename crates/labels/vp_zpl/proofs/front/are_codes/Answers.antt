@@ -14,10 +14,8 @@ sign b = cond (eqb (bit_or b 32) 126) 255 0
 
 pub returns : goal.returns
 returns c all =
-    let bytes = c.args.bytes.now in
-    let v = chunk c.args.at 64 bytes in
-    let long = length-chunk c.args.at 64 bytes c.requires in
-    all_kept (λ b. bit_or (blank b) (sign b)) bytes _ c.args.at 64 c.requires (omega arith)
+    let v = chunk c.args.at 64 c.args.bytes.now in let long = length-chunk c.args.at 64 c.args.bytes.now c.requires in
+    all_kept (λ b. bit_or (blank b) (sign b)) c.args.bytes.now _ c.args.at 64 c.requires (omega arith)
     (zip2_of_maps {X = ℕ} {Y = ℕ} bit_or blank sign v (zip2_splat {Y = ℕ} (λ a b. cond (leb a b) 255 0) v 64 32 long)
-    (zip2_of_maps {X = ℕ} {Y = ℕ} (λ a b. cond (eqb a b) 255 0) (λ b. bit_or b 32) (λ _. 126) v (zip2_splat {Y = ℕ} bit_or v 64 32 long) (splat_is_map v 64 126 long)))
-    (eqb-true _ 0 all) refl (λ i. (c.type_inv.bytes i).fits)
+    (zip2_of_maps {X = ℕ} {Y = ℕ} (λ a b. cond (eqb a b) 255 0) (λ b. bit_or b 32) (λ _. 126) v (zip2_splat {Y = ℕ} bit_or v 64 32 long) (splat_is_map v 64 126 long))) (eqb-true _ 0 all) refl
+    (λ i. (c.type_inv.bytes i).fits)

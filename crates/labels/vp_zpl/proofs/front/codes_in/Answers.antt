@@ -17,13 +17,12 @@ others : (bytes : List ℕ) (at : ℕ) → at + 16 ≤ length bytes
     (zip2 bit_or (zip2 same (chunk at 16 bytes) (replicate 16 13)) (zip2 same (chunk at 16 bytes) (replicate 16 10)))
     ≡ map other (chunk at 16 bytes)
 others bytes at room =
-    let v = chunk at 16 bytes in
     let long = length-chunk at 16 bytes room in
-    zip2_of_maps {X = ℕ} {Y = ℕ} bit_or (λ b. bit_or (same (bit_and b 223) 94) (bit_or (same b 32) (same b 9))) (λ b. bit_or (same b 13) (same b 10)) v
-    (zip2_of_maps {X = ℕ} {Y = ℕ} bit_or (λ b. same (bit_and b 223) 94) (λ b. bit_or (same b 32) (same b 9)) v
-    (zip2_of_maps {X = ℕ} {Y = ℕ} same (λ b. bit_and b 223) (λ _. 94) v (zip2_splat {Y = ℕ} bit_and v 16 223 long) (splat_is_map v 16 94 long))
-    (zip2_of_maps {X = ℕ} {Y = ℕ} bit_or (λ b. same b 32) (λ b. same b 9) v (zip2_splat {Y = ℕ} same v 16 32 long) (zip2_splat {Y = ℕ} same v 16 9 long)))
-    (zip2_of_maps {X = ℕ} {Y = ℕ} bit_or (λ b. same b 13) (λ b. same b 10) v (zip2_splat {Y = ℕ} same v 16 13 long) (zip2_splat {Y = ℕ} same v 16 10 long))
+    zip2_of_maps {X = ℕ} {Y = ℕ} bit_or (λ b. bit_or (same (bit_and b 223) 94) (bit_or (same b 32) (same b 9))) (λ b. bit_or (same b 13) (same b 10)) _
+    (zip2_of_maps {X = ℕ} {Y = ℕ} bit_or (λ b. same (bit_and b 223) 94) (λ b. bit_or (same b 32) (same b 9)) _
+    (zip2_of_maps {X = ℕ} {Y = ℕ} same (λ b. bit_and b 223) (λ _. 94) _ (zip2_splat {Y = ℕ} bit_and _ 16 223 long) (splat_is_map _ 16 94 long))
+    (zip2_of_maps {X = ℕ} {Y = ℕ} bit_or (λ b. same b 32) (λ b. same b 9) _ (zip2_splat {Y = ℕ} same _ 16 32 long) (zip2_splat {Y = ℕ} same _ 16 9 long)))
+    (zip2_of_maps {X = ℕ} {Y = ℕ} bit_or (λ b. same b 13) (λ b. same b 10) _ (zip2_splat {Y = ℕ} same _ 16 13 long) (zip2_splat {Y = ℕ} same _ 16 10 long))
 
 pub returns-clause-count : goal.returns-clause-count
 returns-clause-count c = counted other c.args.bytes.now _ c.args.at c.first_set.result c.requires (others c.args.bytes.now c.args.at c.requires) c.first_set.ensures refl

@@ -8,8 +8,6 @@ use Rattle.vp_zpl.proofs.reader.ZplReader.binary.Goals as goal
 
 pub returns : goal.returns
 returns c before command stands l some =
-    let b = c.args.byte in
     let mid : ZplReader = record c.args.self.now { phase = phases.Binary c.saturating_sub.result } in
-    data_shows _ mid c.data.new.self (known.One (b ∷ [])) before command b c.data.ensures.event c.data.ensures.state
-    (binary_goes c.args.self.now (record mid { known = known.One (b ∷ []) }) before command c.args.left b stands l some
-    refl refl refl (ap (λ n. phases.Binary n) c.saturating_sub.ensures))
+    data_shows _ mid c.data.new.self (known.One (c.args.byte ∷ [])) before command c.args.byte c.data.ensures.event c.data.ensures.state
+    (binary_goes c.args.self.now (record mid { known = known.One (c.args.byte ∷ []) }) before command c.args.left c.args.byte stands l some refl refl refl (ap (λ n. phases.Binary n) c.saturating_sub.ensures))

@@ -1,6 +1,6 @@
-use Rattle.std.proofs.Common.{◌≡◌, ◌∙◌, ◌≤◌, List, length, [], ◌∷◌, sym, ap, refl, arith}
+use Rattle.std.proofs.Common.{◌≡◌, ◌∙◌, ◌≤◌, length, [], ◌∷◌, sym, ap, arith}
+use Rattle.std.proofs.lemmas.List.{length-map}
 use Rattle.std.proofs.lemmas.Bool.Decides.{nat_tests}
-use Rattle.vp_zpl.specs.declared.part.Part.{Part}
 use Rattle.vp_zpl.specs.declared.reader.ZplReader.{ZplReader}
 use Rattle.vp_zpl.specs.Shown.{shown_part, shown_parts}
 use Rattle.vp_zpl.specs.declared.name.Kind.TheVariants as kinds
@@ -12,10 +12,6 @@ use Rattle.vp_zpl.specs.Reader.{Goes, shown_event, behind_head}
 use Rattle.vp_zpl.proofs.Inside.{comma_goes, head_goes}
 use Rattle.vp_zpl.proofs.reader.ZplReader.comma.Goals as goal
 
-same_length : (ps : List Part) → length (shown_parts ps) ≡ length ps
-same_length [] = refl
-same_length (p ∷ ps) = let e = same_length ps in cc
-
 pub returns-in_default : goal.returns-in_default
 returns-in_default c before command stands p =
     comma_goes c.args.self.now c.end_parameter.new.self before command c.args.kind stands p c.end_parameter.ensures.rest
@@ -25,17 +21,14 @@ pub returns-then-len-lt4 : goal.returns-then-len-lt4
 returns-then-len-lt4 c before command stands p =
     comma_goes c.args.self.now c.end_parameter.new.self before command c.args.kind stands p c.end_parameter.ensures.rest
     (record { kept = c.end_parameter.ensures.kept; part = c.end_parameter.ensures.part })
-    (λ e. grind (arith, nat_tests, same_length c.end_parameter.new.self.sent.parameters.items))
+    (λ e. grind (arith, nat_tests, length-map c.end_parameter.new.self.sent.parameters.items shown_part))
 
 pub returns : goal.returns
 returns c before command stands p =
-    let r = c.args.self.now in
-    let e = c.end_parameter.ensures.rest in
-    let g = c.give.ensures.state in
-    let l = same_length c.end_parameter.new.self.sent.parameters.items in
+    let r = c.args.self.now in let e = c.end_parameter.ensures.rest in let g = c.give.ensures.state in
+    let l = length-map c.end_parameter.new.self.sent.parameters.items shown_part in
     let ps = shown_parts c.end_parameter.new.self.sent.parameters.items in
-    let four : 4 ≤ length ps = grind (arith, nat_tests, l) in
-    let new : ZplReader = c.give.new.self in
+    let four : 4 ≤ length ps = grind (arith, nat_tests, l) in let new : ZplReader = c.give.new.self in
     let kept_is : shown_parts new.sent.parameters.items ≡ ps = ap (λ (s : ZplReader). shown_parts s.sent.parameters.items) g in
     let shows : shown_event c.give.result new ≡ item_of kinds.Graphic r.sent.name ps ∷ [] =
     ap (λ x. shown_event x new) c.give.ensures.event ∙ ap (λ s. shown_event events.Given s) g ∙ ap (λ (s : ZplReader). item_of c.args.kind s.sent.name ps ∷ []) e

@@ -10,9 +10,7 @@ use Rattle.vp_zpl.proofs.reader.ZplReader.end_parameters.Goals as goal
 
 pub returns : goal.returns
 returns c before command sign stands p =
-    let r = c.args.self.now in
-    let e = c.end_parameter.ensures.rest in
-    let g = c.give.ensures.state in
+    let r = c.args.self.now in let e = c.end_parameter.ensures.rest in let g = c.give.ensures.state in
     let new : ZplReader = at_sign c.give.new.self sign in
     let ps = shown_parts c.end_parameter.new.self.sent.parameters.items in
     let kept_is : shown_parts new.sent.parameters.items ≡ ps = ap (λ (s : ZplReader). shown_parts s.sent.parameters.items) g in

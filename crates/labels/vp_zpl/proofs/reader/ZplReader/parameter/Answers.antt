@@ -1,6 +1,5 @@
-use Rattle.std.proofs.Common.{◌≡◌, false, [], sym, refl, arith}
+use Rattle.std.proofs.Common.{[], sym, refl, arith}
 use Rattle.std.proofs.lemmas.Bool.Decides.{nat_tests}
-use Rattle.vp_zpl.specs.Spelling.{is_comma, is_blank}
 use Rattle.vp_zpl.specs.Reader.{Goes}
 use Rattle.vp_zpl.proofs.Inside.{blank_goes, part_goes}
 use Rattle.vp_zpl.proofs.Phases.{carry}
@@ -12,6 +11,4 @@ returns-then-byte-eq32 c before command stands p =
 
 pub returns-then-byte-ne44 : goal.returns-then-byte-ne44
 returns-then-byte-ne44 c before command stands p =
-    let comma : is_comma c.args.byte ≡ false = grind (arith, nat_tests) in
-    let blank : is_blank c.args.byte ≡ false = grind (arith, nat_tests) in
-    part_goes c.args.self.now (record c.args.self.now { part = c.push.new.self }) before command c.args.kind c.args.byte stands p refl comma blank c.push.ensures
+    part_goes c.args.self.now (record c.args.self.now { part = c.push.new.self }) before command c.args.kind c.args.byte stands p refl (grind (arith, nat_tests)) (grind (arith, nat_tests)) c.push.ensures
