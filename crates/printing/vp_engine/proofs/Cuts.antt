@@ -43,8 +43,7 @@ take_all n xs e = ap (λ k. take k xs) e ∙ take-length xs
 
 pub range_less : (xs : List ℕ) (from to n : ℕ) → n ≤ to - from → take (to - (from + n)) (drop (from + n) xs) ≡ drop n (take (to - from) (drop from xs))
 range_less xs from to n h =
-    let m = to - (from + n) in
-    let e : to - from ≡ n + m = omega arith in
+    let m = to - (from + n) in let e : to - from ≡ n + m = omega arith in
     sym (ap (λ k. drop n (take k (drop from xs))) e ∙ drop-take n m (drop from xs) ∙ ap (take m) (drop-drop n from xs))
 
 pub length_range : (xs : List ℕ) (from to : ℕ) → length (take (to - from) (drop from xs)) ≤ to - from

@@ -45,8 +45,7 @@ module _ {Item : Type 0} (rules : Rules Item) where
   sound_whole : (front rest : List ℕ) → first_fault rules front rest ≡ None → sound rules front rest ≡ front ++ rest
   unfolding first_fault sound
   sound_whole front [] e = sym (append-nil front)
-  sound_whole front (b ∷ rest) e =
-      grind (arith, append_assoc, sound_whole (front ++ b ∷ []) rest (none_second (fault_at rules (front ++ b ∷ [])) (first_fault rules (front ++ b ∷ []) rest) e))
+  sound_whole front (b ∷ rest) e = grind (arith, append_assoc, none_second, sound_whole (front ++ b ∷ []) rest (none_second (fault_at rules (front ++ b ∷ [])) (first_fault rules (front ++ b ∷ []) rest) e))
 
   -- bytes without a fault are all before it
   pub before_whole : (t : List ℕ) → fault rules t ≡ None → before_fault rules t ≡ t
@@ -138,8 +137,7 @@ module _ {Item : Type 0} (rules : Rules Item) where
 
     history_grows : (t c : List ℕ) → IsPrefix (printed rules (history rules t)) (printed rules (history rules (t ++ c)))
     history_grows t c =
-        let p = reads.grows t c in
-        let q = printed_grows (reverse p.0) (history rules t) in
+        let p = reads.grows t c in let q = printed_grows (reverse p.0) (history rules t) in
         (q.0, q.1 ∙ ap (printed rules) (sym (ap reverse (sym p.1) ∙ reverse-append (rules.reading.items t) p.0)))
 
     byte_grows : (t : List ℕ) (b : ℕ) (f : Option Fault) → fault rules (t ++ b ∷ []) ≡ f → IsPrefix (paper rules t) (paper rules (t ++ b ∷ []))
@@ -155,8 +153,7 @@ module _ {Item : Type 0} (rules : Rules Item) where
     pub bytes_grow : (t c : List ℕ) → IsPrefix (paper rules t) (paper rules (t ++ c))
     bytes_grow t [] = ([], append-nil _ ∙ ap (paper rules) (sym (append-nil t)))
     bytes_grow t (b ∷ c) =
-        let p = byte_grows t b (fault rules (t ++ b ∷ [])) refl in
-        let q = bytes_grow (t ++ b ∷ []) c in
+        let p = byte_grows t b (fault rules (t ++ b ∷ [])) refl in let q = bytes_grow (t ++ b ∷ []) c in
         (p.0 ++ q.0, sym (append_assoc (paper rules t) p.0 q.0) ∙ ap (λ x. x ++ q.0) p.1 ∙ q.1 ∙ ap (paper rules) (append_assoc t (b ∷ []) c))
 
   pub fault_in_front : (src : List ℕ) (n : ℕ) (f : Fault) → ((bytes more : List ℕ) → fault rules bytes ≡ Some f → fault rules (bytes ++ more) ≡ Some f) →
@@ -168,8 +165,7 @@ module _ {Item : Type 0} (rules : Rules Item) where
   pub no_longer : (o rest src : List ℕ) (n : ℕ) → ((bytes more : List ℕ) → IsPrefix (paper rules bytes) (paper rules (bytes ++ more))) →
       o ++ rest ≡ paper rules (take n src) → length o ≤ length (paper rules src)
   no_longer o rest src n grows e =
-      let g = grows (take n src) (drop n src) in
-      let whole = ap (paper rules) (take-append-drop n src) in
+      let g = grows (take n src) (drop n src) in let whole = ap (paper rules) (take-append-drop n src) in
       omega (arith, ap length e, ap length g.1, ap length whole, length-append o rest, length-append (paper rules (take n src)) g.0)
 
   -- where bytes without a fault end

@@ -42,8 +42,7 @@ module _ (sheets : Sheets) where
   -- where none is refused, each is accepted
   pub all_accepted : (items before : List Item) → first_refusal sheets before items ≡ None → AreAccepted rules before items
   all_accepted [] before e = tt
-  all_accepted (i ∷ items) before e =
-      (none_first (refusal sheets before i) (first_refusal sheets (i ∷ before) items) e, all_accepted items (i ∷ before) (none_second (refusal sheets before i) (first_refusal sheets (i ∷ before) items) e))
+  all_accepted (i ∷ items) before e = grind (arith, none_first, none_second, all_accepted items (i ∷ before) (none_second (refusal sheets before i) (first_refusal sheets (i ∷ before) items) e))
 
   pub printed_same : (h : List Item) → printed rules h ≡ printed_label sheets h
   printed_same [] = refl

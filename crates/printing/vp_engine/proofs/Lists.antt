@@ -53,8 +53,7 @@ module _ {Item : Type 0} (reading : Reading Item) (line : Item → List ℕ)
       new.pending ≡ flat_map (λ i. listed_line new.taken (line i)) items → new.count ≡ grown old.count (length items) → new.taken ≡ more_taken old.taken 1 →
       Takes (listing (listed_by w reading) (line_by w line)) (λ t before. Reads t × AreLines w new t before) new.pending t before b (Ok tt)
   lists w Reads old new t b items before at known gives reads pending count taken =
-      let added = listed_at w (suc (length t)) items in
-      let rules = listing (listed_by w reading) (line_by w line) in
+      let added = listed_at w (suc (length t)) items in let rules = listing (listed_by w reading) (line_by w line) in
       record {
         given = Ok added;
         gives = (known, listed_more w t b items gives);
@@ -178,5 +177,4 @@ module _ {Item : Type 0} (reading : Reading Item) (line : Item → List ℕ)
         reading.fault_of (t ++ take n (take room input)) ≡ None → Reads (t ++ take n (take room input)) →
         text ≡ listed_bytes old.taken (take n input) → new.count ≡ grown old.count (length (take n input)) → new.taken ≡ more_taken old.taken (length (take n input)) →
         TakesRun (listing (listed_by w reading) (line_by w line)) (λ t before. Reads t × AreLines w new t before) t before (take n input) text
-    lists_run w Reads old new t input room n text before h within fits gives known reads text_is count taken =
-        grind (arith, length-take-le, take-take, lists_all)
+    lists_run w Reads old new t input room n text before h within fits gives known reads text_is count taken = grind (arith, length-take-le, take-take, lists_all)

@@ -9,7 +9,6 @@ use Rattle.vp_bars.specs.declared.code_128.CodeSet.{CodeSet}
 use Rattle.vp_bars.specs.Symbols.{Linear}
 use Rattle.vp_bars.specs.CodeSets.{symbol_from}
 use Rattle.vp_bars.specs.Symbologies.{symbol_of}
-use Rattle.vp_qr.specs.declared.level.Level.{Level}
 use Rattle.vp_esc.specs.declared.item.EscItem.{EscItem}
 use Rattle.vp_esc.specs.Split.{split, fault_of as esc_fault}
 use Rattle.vp_esc.specs.Units.{fault_in}
@@ -83,9 +82,6 @@ symbol_by code bytes more = grind (arith, bars_of_byte)
 
 pub receipts_of_byte : (setup : ReceiptSetup) (before : List EscItem) (item : EscItem) → SomeOfByte (receipt_refusal setup before item)
 receipts_of_byte setup before item = grind (arith, symbol_by, some_if)
-
-mode_by : (level : Level) (c : ℕ) (rest : List ℕ) → ErrOfByte (fronts.mode_of level c rest)
-mode_by level c rest = grind arith
 
 front_by : (bytes : List ℕ) → ErrOfByte (fronts.front_in bytes)
 front_by bytes = grind (arith, common_steps)

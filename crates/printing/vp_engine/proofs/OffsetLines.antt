@@ -42,9 +42,7 @@ pub written_over : (digits output line : List ℕ) (n last : ℕ) → n ≤ leng
     put_mid (n + 2) 8 (slice_set (slice_set (digits ++ drop (length digits) output) n last) (n + 1) 0x20) line ≡
     (take n digits ++ last ∷ 0x20 ∷ line) ++ drop (n + 10) output
 written_over digits output line n last l m room =
-    let d = length digits in
-    let old = digits ++ drop d output in
-    let set_once = slice_set old n last in
+    let d = length digits in let old = digits ++ drop d output in let set_once = slice_set old n last in
     let new = slice_set set_once (n + 1) 0x20 in
     let long : n + 10 ≤ length old = omega (arith, m, room, length-append digits (drop d output), length-drop d output) in
     let front : take (n + 2) new ≡ take n digits ++ last ∷ 0x20 ∷ [] =
@@ -61,8 +59,7 @@ written_over digits output line n last l m room =
 -- a line that is written behind those that there are
 pub written_behind : (put n : ℕ) (lines line old output rest : List ℕ) → output ≡ lines ++ drop put old → length lines ≡ put →
     rest ≡ line ++ drop n (take (length output - put) (drop put output)) → put_mid put (length output - put) output rest ≡ (lines ++ line) ++ drop (put + n) old
-written_behind put n lines line old output rest is long e =
-    grind (arith, take_at, drop_at, take_all, length-drop, drop_all, append-nil, drop-drop, append_assoc)
+written_behind put n lines line old output rest is long e = grind (arith, take_at, drop_at, take_all, length-drop, drop_all, append-nil, drop-drop, append_assoc)
 
 -- one line more behind the same digits
 pub one_line_behind : (digits : List ℕ) (last : ℕ) (xs : List ℕ) (b : ℕ) →
@@ -83,10 +80,8 @@ pub lines_at : (tens last taken : ℕ) (xs : List ℕ) → last + length xs ≤ 
     (0 < length xs → counted (suc taken) ≡ 10 * tens + last) → lines_behind (leading tens) last xs ≡ byte_lines_after taken xs
 lines_at tens last taken [] l m is = refl
 lines_at tens last taken (b ∷ xs) l m is =
-    let offset = 10 * tens + last in
-    let at : counted (suc taken) ≡ offset = is (omega arith) in
-    let ten : offset / 10 ≡ tens = omega (arith, l) in
-    let one : offset % 10 ≡ last = omega (arith, l) in
+    let offset = 10 * tens + last in let at : counted (suc taken) ≡ offset = is (omega arith) in
+    let ten : offset / 10 ≡ tens = omega (arith, l) in let one : offset % 10 ≡ last = omega (arith, l) in
     let line : line_behind (leading tens) last b ≡ offset_line (suc taken) (line_of (RasterByte b)) =
     sym (ap (λ n. decimal n ++ 0x20 ∷ line_of (RasterByte b)) at ∙ ap (λ x. x ++ 0x20 ∷ line_of (RasterByte b)) (divided offset (omega (arith, m)))
     ∙ append_assoc (leading (offset / 10)) ((48 + offset % 10) ∷ []) (0x20 ∷ line_of (RasterByte b)) ∙ ap (λ n. leading n ++ (48 + offset % 10) ∷ 0x20 ∷ line_of (RasterByte b)) ten

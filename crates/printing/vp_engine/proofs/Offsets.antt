@@ -37,9 +37,7 @@ module _ {Item : Type 0} (reading : Reading Item) where
   -- what is given keeps its place
   stays_by : (k : ℕ) (front rest more : List ℕ) → k < length (reading.items (front ++ rest)) → offset_from reading k front (rest ++ more) ≡ offset_from reading k front rest
   stays_by k front [] more l = grind (arith, at_front, append-nil)
-  stays_by k front (b ∷ rest) more l = one_more k front b (rest ++ more)
-      ∙ ap (cond (nat_lt k (length (reading.items front))) (length front)) (stays_by k (front ++ b ∷ []) rest more (subst (λ x. k < length (reading.items x)) (sym (shift front b rest)) l))
-      ∙ sym (one_more k front b rest)
+  stays_by k front (b ∷ rest) more l = grind (arith, one_more, nat_lt, shift, stays_by k (front ++ b ∷ []) rest more (subst (λ x. k < length (reading.items x)) (sym (shift front b rest)) l))
 
   least_by : (k : ℕ) (front rest : List ℕ) → length front ≤ offset_from reading k front rest
   least_by k front [] = omega (arith, none_more k front)
@@ -59,16 +57,14 @@ module _ {Item : Type 0} (reading : Reading Item) where
 
   gives_by : (k : ℕ) (front rest : List ℕ) → k < length (reading.items (front ++ rest)) → k < length (reading.items (take (offset_from reading k front rest) (front ++ rest)))
   gives_by k front [] l = grind (arith, take_at, none_more, append-nil)
-  gives_by k front (b ∷ rest) l =
-      gives_at k front b rest (gives_by k (front ++ b ∷ []) rest (subst (λ x. k < length (reading.items x)) (sym (shift front b rest)) l)) (nat_lt k (length (reading.items front))) refl
+  gives_by k front (b ∷ rest) l = grind (arith, gives_at, shift, nat_lt, gives_by k (front ++ b ∷ []) rest (subst (λ x. k < length (reading.items x)) (sym (shift front b rest)) l))
 
   pub place_gives : (bytes : List ℕ) (k : ℕ) → k < length (reading.items bytes) → k < length (reading.items (take (offset_of reading bytes k) bytes))
   place_gives bytes k l = gives_by k [] bytes l
 
   shortest_by : (k n : ℕ) (front rest : List ℕ) → length front ≤ n → n < offset_from reading k front rest → length (reading.items (take n (front ++ rest))) ≤ k
   shortest_by k n front [] from l = omega (arith, from, l, none_more k front)
-  shortest_by k n front (b ∷ rest) from l =
-      grind (arith, shortest_by k n (front ++ b ∷ []) rest, there, ltb-true, take_at, eqb-true, eqb-false, length-append, later, shift)
+  shortest_by k n front (b ∷ rest) from l = grind (arith, there, ltb-true, take_at, eqb-true, eqb-false, length-append, later, shift, shortest_by k n (front ++ b ∷ []) rest)
 
   pub place_shortest : (bytes : List ℕ) (k n : ℕ) → n < offset_of reading bytes k → length (reading.items (take n bytes)) ≤ k
   place_shortest bytes k n l = shortest_by k n [] bytes (omega arith) l

@@ -27,8 +27,7 @@ module _ {Item : Type 0} (rules : Rules Item) where
     front_sound : (front rest : List ℕ) → front ++ rest ≡ run → fault_at rules (t ++ front) ≡ None
     front_sound front rest e =
         let all : (t ++ front) ++ rest ≡ t ++ run = append_assoc t front rest ∙ ap (λ x. t ++ x) e in
-        let a = reads.grows t front in
-        let m = reads.grows (t ++ front) rest in
+        let a = reads.grows t front in let m = reads.grows (t ++ front) rest in
         let cut : a.0 ++ m.0 ≡ added =
         append_cancel_left (rules.reading.items t) (a.0 ++ m.0) added
         (sym (append_assoc (rules.reading.items t) a.0 m.0) ∙ ap (λ (x : List Item). x ++ m.0) a.1 ∙ m.1 ∙ ap rules.reading.items all ∙ gives) in

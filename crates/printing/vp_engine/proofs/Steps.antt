@@ -54,8 +54,7 @@ module _ {Item : Type 0} (rules : Rules Item) (At : List ℕ → List Item → T
         Gives given (rules.reading.items t) (rules.reading.items (t ++ b ∷ [])) (rules.reading.fault_of (t ++ b ∷ [])) →
         Comes rules At pending (t ++ b ∷ []) (history rules (before_fault rules t)) given result → Adds t b (result_err result)
     adds_by (Ok items) (Ok done) g c =
-        let hi = items_next items g.1 in
-        let h = history rules (before_fault rules t) in
+        let hi = items_next items g.1 in let h = history rules (before_fault rules t) in
         let all = newest_of rules items [] h (subst (AreAccepted rules h) (sym (append-nil items)) c.0) newest_before in
         let fa = known None g.0 (ap (newest_refusal rules) hi ∙ all) in
         adds_to t b None (reverse items ++ h) fa (ap (history rules) (before_whole rules (t ++ b ∷ []) fa) ∙ hi) c.1 (sym c.2)

@@ -8,23 +8,16 @@ use Rattle.vp_engine.proofs.Whole.{next_stands, all_taken, all_printed, stopped_
 use Rattle.vp_engine.proofs.all.print_all.Goals as goal
 
 pub finish-requires : goal.finish-requires
-finish-requires g c =
-    let setup = setup_of c.args.language c.args.sheets in
-    let e = c.step-step.ensures in
-    let i = c.steps.invariant in
-    pending_none setup _ _ _ (e.stands setup (take c.steps.at c.args.src.now) c.steps.paper.items i.stands) (e.more c.in-More.is setup (take c.steps.at c.args.src.now) c.steps.paper.items i.stands).printed
+finish-requires g c = grind (arith, pending_none)
 
 pub returns-in-More-clause-paper : goal.returns-in-More-clause-paper
 returns-in-More-clause-paper g c =
-    let setup = setup_of c.args.language c.args.sheets in
-    let i = c.steps.invariant in
+    let setup = setup_of c.args.language c.args.sheets in let i = c.steps.invariant in
     all_printed setup c.args.src.now c.steps.at c.step-step.result.taken c.steps.paper.items (take c.step-step.result.put c.step-step.new.output) _ c.in_ok-extend_from_slice.ensures.items i.at (c.step-step.ensures.more c.in-More.is setup (take c.steps.at c.args.src.now) c.steps.paper.items i.stands)
 
 pub returns-in-More-clause-fault : goal.returns-in-More-clause-fault
 returns-in-More-clause-fault g c =
-    let setup = setup_of c.args.language c.args.sheets in
-    let e = c.step-step.ensures in
-    let i = c.steps.invariant in
+    let setup = setup_of c.args.language c.args.sheets in let e = c.step-step.ensures in let i = c.steps.invariant in
     let appended = c.in_ok-extend_from_slice.ensures.items in
     let now = next_stands setup c.args.src.now c.steps.at c.step-step.result.taken c.steps.paper.items (take c.step-step.result.put c.step-step.new.output) _ appended _ _ i.stands (e.stands setup) in
     c.err.ensures.value ∙ answer_of c.finish.result _ (c.finish.ensures setup _ _ now)
@@ -32,11 +25,8 @@ returns-in-More-clause-fault g c =
 
 pub steps-smaller : goal.steps-smaller
 steps-smaller g c =
-    let setup = setup_of c.args.language c.args.sheets in
-    let src = c.args.src.now in
-    let e = c.step-step.ensures in
-    let i = c.steps.invariant in
-    let appended = c.in_ok-extend_from_slice.ensures.items in
+    let setup = setup_of c.args.language c.args.sheets in let src = c.args.src.now in let e = c.step-step.ensures in
+    let i = c.steps.invariant in let appended = c.in_ok-extend_from_slice.ensures.items in
     let now = next_stands setup src c.steps.at c.step-step.result.taken c.steps.paper.items (take c.step-step.result.put c.step-step.new.output) _ appended _ _ i.stands (e.stands setup) in
     let room = e.room c.in-Room.is setup (take c.steps.at c.args.src.now) c.steps.paper.items i.stands in
     let most : length c.extend_from_slice.new.self.items ≤ length (paper (rules_of setup) src) = no_longer (rules_of setup) _ _ src _ (c.paper_grows.ensures setup) now.pending in
@@ -44,9 +34,7 @@ steps-smaller g c =
 
 pub steps-preserved : goal.steps-preserved
 steps-preserved g c =
-    let setup = setup_of c.args.language c.args.sheets in
-    let e = c.step-step.ensures in
-    let i = c.steps.invariant in
+    let setup = setup_of c.args.language c.args.sheets in let e = c.step-step.ensures in let i = c.steps.invariant in
     record {
       at = omega (arith, e.taken, length_part c.steps.at c.args.src.now);
       stands = next_stands setup c.args.src.now c.steps.at c.step-step.result.taken c.steps.paper.items (take c.step-step.result.put c.step-step.new.output) _ c.in_ok-extend_from_slice.ensures.items _ _ i.stands (e.stands setup);

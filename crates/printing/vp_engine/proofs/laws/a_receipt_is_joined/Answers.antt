@@ -1,4 +1,4 @@
-use Rattle.std.proofs.Common.{◌≡◌, ◌≤◌, ℕ, List, sym, subst, arith}
+use Rattle.std.proofs.Common.{◌≡◌, ◌≤◌, ℕ, List, arith}
 use Rattle.vp_dots.specs.Images.{Image}
 use Rattle.vp_join.specs.Strips.{IsNumber, IsJoined, greatest, height_together}
 use Rattle.vp_receipt_settings.specs.declared.width.Width.{Width}
@@ -14,9 +14,7 @@ fits W384 = record { least = omega arith; most = omega arith }
 
 joins : (c : goal.After-images_are_not_refused) (setup : ReceiptSetup) (bytes : List ℕ) → IsPrinted setup bytes → height_together (images_of setup bytes) ≤ greatest →
     (image : Image) × IsJoined (paper (receipts setup) bytes) image × (image.width ≡ across setup.width) × (image.height ≡ height_together (images_of setup bytes))
-joins c setup bytes e most =
-    let one = c.images_make_one.ensures (across setup.width) (images_of setup bytes) (fits setup.width) (c.a_receipt_is_images.ensures.across setup bytes) most in
-    (one.0, subst (λ text. IsJoined text one.0) (sym (c.a_receipt_is_images.ensures.printed setup bytes e)) one.1, one.2, one.3)
+joins c setup bytes e most = grind (arith, fits)
 
 pub returns-clause-joined : goal.returns-clause-joined
 returns-clause-joined c = joins c

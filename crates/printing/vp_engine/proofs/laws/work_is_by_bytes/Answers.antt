@@ -7,7 +7,7 @@ use Rattle.vp_receipt_settings.specs.declared.text.TheConstants.{LINE_ROWS}
 use Rattle.vp_receipt_settings.specs.Setup.{Setup as ReceiptSetup}
 use Rattle.vp_receipt.specs.Work.{BytesCostAtMost, most_in_all, most_work}
 use Rattle.vp_engine.specs.Images.{receipts, labels}
-use Rattle.vp_engine.specs.Paper.{Rules, before_fault, fault_at, sound}
+use Rattle.vp_engine.specs.Paper.{Rules, before_fault, sound}
 use Rattle.vp_engine.specs.Setups.{Receipts}
 use Rattle.vp_engine.proofs.laws.work_is_by_bytes.Goals as goal
 
@@ -20,9 +20,7 @@ module _ {Item : Type 0} (rules : Rules Item) where
   sound_few : (front rest : List ℕ) → length (sound rules front rest) ≤ length front + length rest
   unfolding sound
   sound_few front [] = omega arith
-  sound_few front (b ∷ rest) =
-      let more = sound_few (front ++ b ∷ []) rest in
-      shorter (is_some (fault_at rules (front ++ b ∷ []))) front _ (length front + length (b ∷ rest)) (omega arith) (omega (arith, more, length_push front b))
+  sound_few front (b ∷ rest) = grind (arith, shorter, is_some, length_push, sound_few (front ++ b ∷ []) rest)
 
   before_few : (bytes : List ℕ) → length (before_fault rules bytes) ≤ length bytes
   unfolding before_fault
@@ -33,8 +31,7 @@ from_first : (law : BytesCostAtMost) (setup : ReceiptSetup) (bytes : List ℕ) (
     → most_work setup (reverse (items bytes)) ≤ PAGE_ROWS + (LINE_ROWS + PAGE_ROWS) * n
 from_first law setup bytes n none few =
     let start : most_in_all setup (reverse (items [])) ≡ 0 = ap (λ (xs : List EscItem). most_in_all setup (reverse xs)) none in
-    let all = law.bytes setup [] bytes in
-    let told = law.counted setup (reverse (items bytes)) in
+    let all = law.bytes setup [] bytes in let told = law.counted setup (reverse (items bytes)) in
     omega (arith, start, all, told, few)
 
 pub returns-clause-receipts : goal.returns-clause-receipts

@@ -6,16 +6,10 @@ use Rattle.vp_engine.proofs.offset.put_lines_behind.Goals as goal
 
 pub loop-i-preserved : goal.loop-i-preserved
 loop-i-preserved c =
-    let n = c.args.n in
-    let i = c.loop-i.i in
-    let last = c.args.last in
-    let bytes = c.args.bytes.now in
-    let digits = take n c.args.digits.now in
-    let byte = get_or bytes i 0 in
-    let lines = lines_behind digits last (take i bytes) in
-    let line = line_behind digits (last + i) byte in
-    let output = c.args.output.now in
-    let put = (n + 10) * i in
+    let n = c.args.n in let i = c.loop-i.i in let last = c.args.last in let bytes = c.args.bytes.now in
+    let digits = take n c.args.digits.now in let byte = get_or bytes i 0 in
+    let lines = lines_behind digits last (take i bytes) in let line = line_behind digits (last + i) byte in
+    let output = c.args.output.now in let put = (n + 10) * i in
     let front : length (take i bytes) ≡ i = length-take-le i bytes (omega (arith, c.loop-i-test.true)) in
     let long : length lines ≡ put =
     length_behind digits last (take i bytes) ∙ ap (λ k. (k + 10) * length (take i bytes)) (length-take-le n c.args.digits.now c.requires.n) ∙ ap (λ k. (n + 10) * k) front in

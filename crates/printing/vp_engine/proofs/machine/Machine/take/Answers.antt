@@ -46,8 +46,7 @@ returns-in-Err g c = at_receipt _ _ _ _ c.in-Receipt.is (λ s t before at. recor
 pub returns-in-Ok-Some-take : goal.returns-in-Ok-Some-take
 returns-in-Ok-Some-take g c = at_lines _ _ _ _ c.in-ReceiptLines.is (λ w t before at.
     let gives = (rw c.in-Ok-Some-take.field-0-is at c.in-Ok-Some-take.ensures).gives t at.0 in
-    let b = c.begin_line.ensures in
-    let counted_one = c.advance.ensures in
+    let b = c.begin_line.ensures in let counted_one = c.advance.ensures in
     lists esc_reading line_of (c.items_grow.ensures (ListingIn false EscPos)).grows w (EscStands c.take-in-ReceiptLines.follows.lender-at-none) c.in-ReceiptLines.lines c.begin_line.new.lines
     t c.args.byte (c.in-Ok-Some-take.item.now ∷ []) before at.1 gives.0 gives.1 (c.take-in-ReceiptLines.follows.holds-at-none t at.0)
     (b.pending ∙ sym (append-nil _) ∙ ap (λ o. listed_line o (line_of c.in-Ok-Some-take.item.now) ++ []) (sym b.taken))
@@ -87,8 +86,7 @@ returns-in-None g c = at_label _ _ _ _ c.in-Label.is (λ s t before at. record {
 
 pub returns-in-Some-take : goal.returns-in-Some-take
 returns-in-Some-take g c = at_label_lines _ _ _ _ c.in-LabelLines.is (λ w t before at.
-    let b = c.begin_label_lines.ensures in
-    let counted_one = c.advance-in-LabelLines.ensures in
+    let b = c.begin_label_lines.ensures in let counted_one = c.advance-in-LabelLines.ensures in
     lists zpl_reading label_line_of (c.items_grow-in-LabelLines.ensures (ListingIn false Zpl)).grows w (ZplStands c.take-in-LabelLines.follows.lender-at-none) c.in-LabelLines.lines c.begin_label_lines.new.lines
     t c.args.byte (shown_item c.in-Some-take.item) before at.1 refl (c.in-Some-take.ensures.gives t at.0) (c.take-in-LabelLines.follows.holds-at-none t at.0)
     (b.pending ∙ ap (λ o. flat_map (λ i. listed_line o (label_line_of i)) (shown_item c.in-Some-take.item)) (sym b.taken))

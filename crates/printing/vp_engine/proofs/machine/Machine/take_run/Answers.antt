@@ -27,8 +27,7 @@ returns-in-ReceiptLines-clause-rest g c = drop_written _ _ _ _ c.put_bytes-put.e
 
 pub returns-in-ReceiptLines-clause-takes : goal.returns-in-ReceiptLines-clause-takes
 returns-in-ReceiptLines-clause-takes g c = at_lines _ _ _ _ c.in-ReceiptLines.is (λ w t before at known.
-    let e = c.take_raster-n.ensures in
-    let p = c.put_bytes-put.ensures in
+    let e = c.take_raster-n.ensures in let p = c.put_bytes-put.ensures in
     let run = take c.min-room.result c.args.input.now in
     lists_run esc_reading line_of (c.items_grow.ensures (ListingIn false EscPos)).grows RasterByte (λ b. refl) w (EscStands c.take_raster-n.new.self)
     c.in-ReceiptLines.lines c.put_bytes-put.new.self t c.args.input.now c.min-room.result c.take_raster-n.result (take c.put_bytes-put.result c.put_bytes-put.new.output) before at.1
@@ -38,9 +37,7 @@ returns-in-ReceiptLines-clause-takes g c = at_lines _ _ _ _ c.in-ReceiptLines.is
 
 pub returns-in-Label-clause-takes : goal.returns-in-Label-clause-takes
 returns-in-Label-clause-takes g c = at_label _ _ _ _ c.in-Label.is (λ s t before at known.
-    let e = c.take_data-n.ensures in
-    let n = c.take_data-n.result in
-    let room = c.min-room-in-Label.result in
+    let e = c.take_data-n.ensures in let n = c.take_data-n.result in let room = c.min-room-in-Label.result in
     let input = c.args.input.now in
     let within : room ≤ length input = omega (arith, c.min-room-in-Label.ensures) in
     let long : length (take room input) ≡ room = length-take-le room input within in
@@ -63,8 +60,7 @@ returns-in-LabelLines-clause-rest g c = drop_written _ _ _ _ c.put_bytes-put-in-
 
 pub returns-in-LabelLines-clause-takes : goal.returns-in-LabelLines-clause-takes
 returns-in-LabelLines-clause-takes g c = at_label_lines _ _ _ _ c.in-LabelLines.is (λ w t before at known.
-    let e = c.take_data-n-in-LabelLines.ensures in
-    let p = c.put_bytes-put-in-LabelLines.ensures in
+    let e = c.take_data-n-in-LabelLines.ensures in let p = c.put_bytes-put-in-LabelLines.ensures in
     lists_run zpl_reading zpl_lines.line_of (c.items_grow-in-LabelLines.ensures (ListingIn false Zpl)).grows Data (λ b. refl) w (ZplStands c.take_data-n-in-LabelLines.new.self)
     c.in-LabelLines.lines c.put_bytes-put-in-LabelLines.new.self t c.args.input.now c.min-room-in-LabelLines.result c.take_data-n-in-LabelLines.result
     (take c.put_bytes-put-in-LabelLines.result c.put_bytes-put-in-LabelLines.new.output) before at.1

@@ -3,7 +3,6 @@ use Rattle.vp_engine.specs.Setups.{Setup}
 use Rattle.vp_engine.specs.Machines.{machine_of, pending_of}
 use Rattle.vp_engine.specs.Stands.{Engine, Stands, printer_of}
 use Rattle.vp_engine.proofs.Steps.{stands_put, stopped_idle, put_text, put_rest, put_full}
-use Rattle.vp_engine.specs.Memory.{memory_held}
 use Rattle.vp_engine.proofs.Memories.{memory_stays}
 use Rattle.vp_engine.proofs.printer.Printer.put.Given.{Over}
 use Rattle.vp_engine.proofs.printer.Printer.put.Goals as goal
@@ -37,6 +36,4 @@ returns-clause-none g c h =
     omega (arith, c.put.ensures.count, ap length none)
 
 pub returns-clause-memory : goal.returns-clause-memory
-returns-clause-memory g c =
-    let i = c.self.invariant in
-    memory_stays i.0 _ _ i.1 i.2 _ _ i.3 (stands g c i.0 i.1 i.2 i.3) ∙ ap memory_held c.self.view_is
+returns-clause-memory g c = grind (arith, memory_stays, stands)

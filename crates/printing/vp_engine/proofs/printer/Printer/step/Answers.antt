@@ -1,8 +1,7 @@
-use Rattle.std.proofs.Common.{rules, arith, ◌≡◌, ◌≤◌, ◌+◌, ◌-◌, ◌++◌, [], is_some, true, false, Some, None, length, take, drop, length-drop, length-append, refl, sym, ap, subst, subst₂, append_assoc, ◌∙◌}
+use Rattle.std.proofs.Common.{rules, arith, ◌≡◌, ◌≤◌, ◌+◌, ◌-◌, ◌++◌, [], is_some, true, false, Some, None, length, take, drop, length-drop, length-append, refl, sym, ap, subst₂, append_assoc, ◌∙◌}
 use Rattle.std.proofs.lemmas.List.{append-nil}
 use Rattle.vp_engine.proofs.Cuts.{front_more, cut_length, cut_take, cut_drop, part_is, rest_same, empty_unless, none_is_not_some}
 use borrow.Rule.Slice.PartMut.{put_mid}
-use Rattle.vp_engine.specs.Paper.{IsOfByte}
 use Rattle.vp_engine.specs.Stands.{Stands}
 use Rattle.vp_engine.proofs.printer.Printer.step.Goals as goal
 use Rattle.vp_engine.proofs.printer.Printer.step.Goals.{then-loop-taken-test+then-is_none+else-not-pending, then-loop-taken-test+else-is_none, else-loop-taken-test}
@@ -21,11 +20,8 @@ loop-taken-init g c = record {
 
 pub loop-taken-preserved : goal.loop-taken-preserved
 loop-taken-preserved g c =
-    let e = c.take_some-moved.ensures in
-    let a = c.loop-taken.put in
-    let n = c.take_some-moved.result.put in
-    let xs = c.loop-taken.output in
-    let ys = c.take_some-moved.new.output in
+    let e = c.take_some-moved.ensures in let a = c.loop-taken.put in let n = c.take_some-moved.result.put in
+    let xs = c.loop-taken.output in let ys = c.take_some-moved.new.output in
     let within : a ≤ length xs = c.loop-taken.invariant.put in
     let long : length (put_mid a (length xs - a) xs ys) ≡ length xs = cut_length a xs ys within c.take_some-moved.auto.output in
     let part : length (take (length xs - a) (drop a xs)) ≡ length xs - a = ap length (part_is a xs) ∙ length-drop a xs in
@@ -34,9 +30,7 @@ loop-taken-preserved g c =
       put = omega (arith, long, part, e.put);
       rest = cut_drop a n xs ys within e.rest ∙ rest_same a n xs c.args.output.now c.loop-taken.invariant.rest;
       stands = λ setup t o s.
-          let k = c.loop-taken.taken in
-          let i = c.args.input.now in
-          let m = c.take_some-moved.result.taken in
+          let k = c.loop-taken.taken in let i = c.args.input.now in let m = c.take_some-moved.result.taken in
           let one = e.stands setup (t ++ take k i) (o ++ take a xs) (c.loop-taken.invariant.stands setup t o s) in
           let t_is : (t ++ take k i) ++ take m (take (length i - k) (drop k i)) ≡ t ++ take (k + m) i = append_assoc t (take k i) _ ∙ ap (λ x. t ++ x) (front_more k m i) in
           let o_is : (o ++ take a xs) ++ take n ys ≡ o ++ take (a + n) (put_mid a (length xs - a) xs ys) = append_assoc o (take a xs) _ ∙ ap (λ x. o ++ x) (sym (cut_take a n xs ys within)) in
@@ -64,8 +58,7 @@ returns-in-Some-clause-stopped g c f setup t o s =
 
 pub returns-in-Some-clause-stopped_at : goal.returns-in-Some-clause-stopped_at
 returns-in-Some-clause-stopped_at g c f setup t o s e =
-    let now = c.loop-taken.invariant.stands setup t o s in
-    let same : c.in-Some.fault ≡ f = cc in
+    let now = c.loop-taken.invariant.stands setup t o s in let same : c.in-Some.fault ≡ f = cc in
     record {
       printed = sym (append-nil _) ∙ ap (λ x. (o ++ take c.loop-taken.put c.loop-taken.output) ++ x) (sym (c.in-Some.ensures.idle refl)) ∙ now.pending;
       last = now.last;
@@ -110,8 +103,7 @@ returns-in-None-2-clause-stopped g c f setup t o s =
 
 pub returns-in-None-clause-room : goal.returns-in-None-clause-room
 returns-in-None-clause-room g c e setup t o s =
-    let now = c.loop-taken.invariant.stands setup t o s in
-    let some = c.if-pending.ensures.0 refl in
+    let now = c.loop-taken.invariant.stands setup t o s in let some = c.if-pending.ensures.0 refl in
     record {
       full = c.loop-taken.invariant.full some;
       more = omega (arith, some, ap length now.pending, length-append (o ++ take c.loop-taken.put c.loop-taken.output) c.loop-taken.self.pending);
@@ -130,9 +122,7 @@ pub returns-in-Some-clause-waits : goal.returns-in-Some-clause-waits
 returns-in-Some-clause-waits g c e = cc
 
 pub returns-in-Some-clause-byte : goal.returns-in-Some-clause-byte
-returns-in-Some-clause-byte g c f e =
-    let same : c.in-Some.fault ≡ f = cc in
-    subst IsOfByte same c.in-Some.ensures.byte
+returns-in-Some-clause-byte g c f e = grind arith
 
 pub returns-in-None-clause-idle : goal.returns-in-None-clause-idle
 returns-in-None-clause-idle g c e = cc

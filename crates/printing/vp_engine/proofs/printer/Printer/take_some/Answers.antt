@@ -6,20 +6,12 @@ use Rattle.vp_engine.proofs.Cuts.{cut_take, cut_drop, rest_same}
 use Rattle.vp_engine.proofs.printer.Printer.take_some.Goals as goal
 
 pub returns-clause-rest : goal.returns-clause-rest
-returns-clause-rest g c =
-    let run = c.take_run-run in
-    cut_drop run.result.put c.put-put.result run.new.output c.put-put.new.output (omega (arith, run.ensures.put, run.auto.output)) c.put-put.ensures.rest
-    ∙ rest_same run.result.put c.put-put.result run.new.output c.args.output.now run.ensures.rest
+returns-clause-rest g c = grind (arith, cut_drop, rest_same)
 
 pub returns-clause-stands : goal.returns-clause-stands
 returns-clause-stands g c = λ setup t o s.
-    let run = c.take_run-run in
-    let n = run.result.taken in
-    let i = c.args.input.now in
-    let a = run.result.put in
-    let xs = run.new.output in
-    let m = c.put-put.result in
-    let ys = c.put-put.new.output in
+    let run = c.take_run-run in let n = run.result.taken in let i = c.args.input.now in let a = run.result.put in
+    let xs = run.new.output in let m = c.put-put.result in let ys = c.put-put.new.output in
     let less : n < length i = omega (arith, run.ensures.taken, c.if-run-input.false) in
     let within : a ≤ length xs = omega (arith, run.ensures.put, run.auto.output) in
     let t_is : (t ++ take n i) ++ get_or i n 0 ∷ [] ≡ t ++ take (n + 1) i = append_assoc t (take n i) _ ∙ ap (λ x. t ++ x) (sym (take_more i n 0 less)) in

@@ -4,8 +4,7 @@ use Rattle.vp_engine.proofs.session.Session.flush.Goals as goal
 
 pub writes-preserved : goal.writes-preserved
 writes-preserved g c =
-    let i = c.writes.invariant in
-    let e = c.write_once.ensures in
+    let i = c.writes.invariant in let e = c.write_once.ensures in
     record {
       at = λ setup r w a. accepts_more setup _ _ _ _ _ r w (i.at setup r w a) (λ v h. e.at setup r v h);
       rest = record { printer = e.rest.printer ∙ i.rest.printer; unread = e.rest.unread ∙ i.rest.unread; taken = e.rest.taken ∙ i.rest.taken };

@@ -1,7 +1,5 @@
-use Rattle.std.proofs.Common.{◌≡◌, ℕ, Result, Err, None, refl, subst, sym, ap, ◌∙◌, arith}
+use Rattle.std.proofs.Common.{◌≡◌, ℕ, Result, Err, None, sym, ap, ◌∙◌, arith}
 use Rattle.std.proofs.lemmas.Result.{err_from_is_err_and}
-use Rattle.vp_streams.specs.Count.{grown}
-use Rattle.vp_engine.specs.Paper.{IsOfByte}
 use Rattle.vp_engine.specs.Session.{IsDrained}
 use Rattle.vp_dots.specs.declared.fault.Fault.{Fault}
 use Rattle.vp_engine.specs.declared.session.Report.{Report}
@@ -12,13 +10,7 @@ use Rattle.vp_engine.proofs.Desks.{reaches_start, reaches_accepts, reaches_takes
 use Rattle.vp_engine.proofs.session.Session.run.Goals as goal
 
 pub turns-init : goal.turns-init
-turns-init g c = record {
-  reaches = λ setup r w a. reaches_start setup _ _ c.args.self.now r w a;
-  failed_reads = refl;
-  failed_writes = refl;
-  none_yet = λ e. refl;
-  reads = λ h. absurd (omega arith);
-}
+turns-init g c = grind (arith, reaches_start)
 
 pub returns-in_err-settle-clause-pumps : goal.returns-in_err-settle-clause-pumps
 returns-in_err-settle-clause-pumps g c setup r w a =
@@ -50,8 +42,7 @@ pub returns-in-Ok-clause-pumps : goal.returns-in-Ok-clause-pumps
 returns-in-Ok-clause-pumps g c setup r w a =
     let j = reaches_accepts setup _ _ _ _ _ _ _ r w (c.turns.invariant.reaches setup r w a) (λ u v h. c.settle.ensures.at setup u v h) in
     let k = reaches_takes setup _ _ _ _ _ _ _ r w j (λ u v h. c.fill.ensures.at setup u v h) in
-    let d = c.in_ok-settle.ensures.ok.0 in
-    let s = c.fill.ensures.same in
+    let d = c.in_ok-settle.ensures.ok.0 in let s = c.fill.ensures.same in
     let z = c.in_ok-n.ensures.end c.if-n-eq0.true in
     let dr : IsDrained c.fill.new.self = record { unwritten = s.unwritten ∙ d.unwritten; pending = ap (λ (p : Engine). p.pending) s.printer ∙ d.pending } in
     record {
@@ -63,8 +54,7 @@ pub returns-in-Err-clause-pumps : goal.returns-in-Err-clause-pumps
 returns-in-Err-clause-pumps g c setup r w a =
     let j = reaches_accepts setup _ _ _ _ _ _ _ r w (c.turns.invariant.reaches setup r w a) (λ u v h. c.settle.ensures.at setup u v h) in
     let k = reaches_takes setup _ _ _ _ _ _ _ r w j (λ u v h. c.fill.ensures.at setup u v h) in
-    let d = c.in_ok-settle.ensures.ok.0 in
-    let s = c.fill.ensures.same in
+    let d = c.in_ok-settle.ensures.ok.0 in let s = c.fill.ensures.same in
     let z = c.in_ok-n.ensures.end c.if-n-eq0.true in
     let dr : IsDrained c.fill.new.self = record { unwritten = s.unwritten ∙ d.unwritten; pending = ap (λ (p : Engine). p.pending) s.printer ∙ d.pending } in
     let run : c.fill.new.self.printer.stopped ≡ None = ap (λ (p : Engine). p.stopped) s.printer ∙ sym c.stopped.ensures.value ∙ none_of c.stopped.result c.in_default.not-Some in
@@ -81,21 +71,14 @@ write_no_print : (f : Fault) (after : ℕ) (answer : Result Report RunFault) →
 write_no_print f after answer e h = let no : Err Write ≡ Err (Print f after) = sym e ∙ h in cc
 
 pub returns-in_err-settle-clause-at_end : goal.returns-in_err-settle-clause-at_end
-returns-in_err-settle-clause-at_end g c f after e end =
-    let p = err_from_is_err_and c.from_residual.result c.from_residual.ensures.1 in
-    absurd (write_no_print f after _ (p.1 ∙ ap Err (p.2 ∙ c.in_err-settle.ensures.err.0)) e)
+returns-in_err-settle-clause-at_end g c f after e end = grind (arith, err_from_is_err_and, write_no_print)
 
 pub returns-in_err-n-clause-at_end : goal.returns-in_err-n-clause-at_end
-returns-in_err-n-clause-at_end g c f after e end =
-    let p = err_from_is_err_and c.from_residual-in_err-n.result c.from_residual-in_err-n.ensures.1 in
-    absurd (read_no_print f after _ (p.1 ∙ ap Err (p.2 ∙ c.in_err-n.ensures.err.0)) e)
+returns-in_err-n-clause-at_end g c f after e end = grind (arith, err_from_is_err_and, read_no_print)
 
 -- the printer stops by a fault of a byte
 pub returns-in-Some-clause-at_end : goal.returns-in-Some-clause-at_end
-returns-in-Some-clause-at_end g c f after e end =
-    let same : c.in-Some.fault ≡ f = cc in
-    let byte : IsOfByte f = subst IsOfByte same c.in-Some.ensures.byte in
-    absurd (omega (arith, byte, end))
+returns-in-Some-clause-at_end g c f after e end = grind arith
 
 pub returns-in-Ok-clause-at_end : goal.returns-in-Ok-clause-at_end
 returns-in-Ok-clause-at_end g c f after e end = cc
@@ -118,6 +101,4 @@ turns-preserved g c = record {
 }
 
 pub returns-clause-turns : goal.returns-clause-turns
-returns-clause-turns g c e =
-    let all : c.turns._turn ≡ 1000000000 = omega arith in
-    c.turns.invariant.reads (omega arith) ∙ ap (grown _) all
+returns-clause-turns g c e = grind arith
