@@ -1,7 +1,7 @@
 -- What a text tells, byte by byte, is what it is.
 use Rattle.std.proofs.Common.{inl, inr, ◌≡◌, ◌≢◌, ◌<◌, ◌≤◌, ◌+◌, ◌-◌, ◌*◌, ◌⊎◌, ℕ, zero, suc, true, false, List, [], ◌∷◌, ◌++◌, length, take, drop, Option, Some, None, refl, sym, ap, ◌∙◌, arith, append_assoc}
 use Rattle.std.proofs.lemmas.List.{append-nil, length-append, length-take-le, length-drop, take-append-drop}
-use Rattle.std.proofs.lemmas.Bool.{cases_lt, cases_eq, cases_Bool, lt-ltb, le-ltb}
+use Rattle.std.proofs.lemmas.Bool.{cases_lt, cases_eq, lt-ltb, le-ltb}
 use Rattle.std.proofs.lemmas.Bool.Decides.{nat_tests}
 use Rattle.std.proofs.Math.Nat.{mul_comm}
 use Rattle.vp_dots.specs.Headers.{header_of}
@@ -188,13 +188,7 @@ module _ (so : Seen) (text : List ℕ) (g : so.height ≤ greatest) (next : (s :
   ]
 
   decide_header : (b : Begun text) → Decided so text
-  decide_header b = elim (cases_Bool (is_other so.width b.width)) [
-    | inl y ↦ let k = is_other_than so.width b.width y in decided_here so text (Some Width) so.width g (inr refl) (b.width, b.height, b.rest, b.header, k.1, inl k.0)
-    | inr n ↦ let e = is_before so.width b.width n in elim (cases_lt greatest (so.height + b.height)) [
-      | inl t ↦ decided_here so text (Some TooTall) b.width g e (record { high = b.height; rest = b.rest; header = b.header; taller = omega (arith, t) })
-      | inr f ↦ decide_rows b e f
-    ]
-  ]
+  decide_header b = grind (arith, is_other_than so.width b.width, decided_here so text (Some Width) so.width g, is_before so.width b.width, decided_here so text (Some TooTall) b.width g, decide_rows b)
 
   decide_from : Decided so text
   decide_from = elim (parse text) [

@@ -8,7 +8,7 @@ use Rattle.vp_join.specs.Strips.{IsOffence, without_padding, strips_rows}
 use Rattle.vp_join.specs.Told.{rows_told}
 use Rattle.vp_join.specs.Passes.{Tells, HasSize, IsMeasure, IsFound, IsCopy, Copies, Joins, IsEnding, IsRefused, IsWhole, IsExact, MayFollow, head_of, is_late, is_read_fault, is_write_fault}
 use Rattle.vp_join.specs.declared.fault.JoinFault.{JoinFault}
-use Rattle.vp_join.specs.declared.fault.JoinFault.TheVariants.{Header, Width, TooTall, Short, Differ, Read, Write, TooManyTurns}
+use Rattle.vp_join.specs.declared.fault.JoinFault.TheVariants.{Differ, Read, Write, TooManyTurns}
 use Rattle.vp_join.specs.declared.fault.Offence.{Offence}
 use Rattle.vp_join.specs.declared.passes.Measured.{Measured}
 use Rattle.vp_join.specs.declared.reading.Size.{Size}
@@ -137,15 +137,7 @@ differs_not text second size d h f s = grind arith
 
 -- where both readers tell the same text
 pub exact : (text : List ℕ) (c d k0 k2 : Option (List ℕ)) (result : Result ℕ JoinFault) → Joins (Some text) c (Some text) d k0 k2 result → IsExact text k0 k2 result
-exact text c d k0 k2 (Ok height) j = grind (arith, all_read)
-exact text c d k0 k2 (Err Header) j = exact_offence _ text j.first j.second j.written c k0 k2 j.consumed_first j.appended j.ending
-exact text c d k0 k2 (Err Width) j = exact_offence _ text j.first j.second j.written c k0 k2 j.consumed_first j.appended j.ending
-exact text c d k0 k2 (Err TooTall) j = exact_offence _ text j.first j.second j.written c k0 k2 j.consumed_first j.appended j.ending
-exact text c d k0 k2 (Err Short) j = exact_offence _ text j.first j.second j.written c k0 k2 j.consumed_first j.appended j.ending
-exact text c d k0 k2 (Err Differ) j = grind (arith, differs_not, all_read)
-exact text c d k0 k2 (Err Read) j = tt
-exact text c d k0 k2 (Err Write) j = tt
-exact text c d k0 k2 (Err TooManyTurns) j = tt
+exact text c d k0 k2 result j = grind (arith, all_read, exact_offence, differs_not)
 
 pub exact_of : (text : List ℕ) (a b c d k0 k2 : Option (List ℕ)) (result : Result ℕ JoinFault) → Joins a c b d k0 k2 result → a ≡ Some text → b ≡ Some text → IsExact text k0 k2 result
 exact_of text a b c d k0 k2 result j e f = exact text c d k0 k2 result (rw (e, f) at j)

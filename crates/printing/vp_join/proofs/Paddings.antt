@@ -1,5 +1,5 @@
 -- Where the padding is, row by row.
-use Rattle.std.proofs.Common.{inl, inr, ◌≡◌, ℕ, ◌+◌, ◌-◌, ◌*◌, ◌/◌, ◌%◌, ◌<◌, ◌≤◌, Bool, false, eqb, ltb, leb, ◌&&◌, ◌||◌, List, length, get_or, set, refl, sym, ap, ◌∙◌, arith}
+use Rattle.std.proofs.Common.{inl, inr, ◌≡◌, ℕ, ◌+◌, ◌-◌, ◌*◌, ◌/◌, ◌%◌, ◌<◌, ◌≤◌, Bool, false, eqb, ltb, leb, ◌&&◌, ◌||◌, List, length, get_or, set, sym, ap, ◌∙◌, arith}
 use Rattle.std.proofs.lemmas.Nat.{mod-mul-add, mod_below}
 use Rattle.std.proofs.Math.Nat.{div-add-mod}
 use Rattle.std.proofs.lemmas.Bool.{cases_lt, lt-leb, le-ltb}
@@ -54,10 +54,7 @@ module _ (w given : ℕ) where
 
   -- nothing is to be done before the first row's last byte
   pub none_done : (n : ℕ) (row : List ℕ) → 0 < w → n ≡ row_bytes w → Painted White (done (n - 1 - given % n)) row row
-  none_done n row some e = painted_none White (done (n - 1 - given % n)) row (λ d l. elim (cases_lt d (8 * (n - 1 - given % n))) [
-    | inl b ↦ rw (first_row w given some d (rw e at b)) (and_false (ltb d (8 * (n - 1 - given % n))))
-    | inr o ↦ rw (le-ltb d (8 * (n - 1 - given % n)) o) refl
-  ])
+  none_done n row some e = grind (arith, painted_none, first_row, and_false, le-ltb)
 
   -- one more row's last byte is done
   module _ (p last n mask v : ℕ) (a b : List ℕ) (some : 0 < w) (e : n ≡ row_bytes w) (at : given + last + 1 ≡ p * n + n) where

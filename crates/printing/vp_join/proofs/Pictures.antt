@@ -1,8 +1,8 @@
 -- The rows of strips without padding are the bytes of their image.
-use Rattle.std.proofs.Common.{inl, inr, ◌≡◌, ◌≢◌, ◌⊎◌, ◌∷◌, eq-eqb, ◌<◌, ◌+◌, ◌*◌, ◌/◌, ◌%◌, ◌^◌, ℕ, zero, suc, Bool, not, cond, eqb, ltb, leb, ◌&&◌, List, [], ◌++◌, length, get_or, refl, sym, ap, ◌∙◌, arith}
+use Rattle.std.proofs.Common.{inl, inr, ◌≡◌, ◌<◌, ◌+◌, ◌*◌, ◌/◌, ◌%◌, ◌^◌, ℕ, zero, suc, Bool, not, cond, eqb, ltb, leb, ◌&&◌, List, [], ◌++◌, length, get_or, sym, ap, ◌∙◌, arith}
 use Rattle.std.specs.List.{range_with_len, flat_map}
 use Rattle.std.proofs.lemmas.Nat.{mod_below, div-add-mod'}
-use Rattle.std.proofs.lemmas.Bool.{cases_lt, cases_eq, ne_eqb, lt-ltb, le-ltb, lt-leb, le-leb}
+use Rattle.std.proofs.lemmas.Bool.{cases_lt, ne_eqb, lt-ltb, le-ltb, lt-leb, le-leb}
 use Rattle.std.proofs.Math.Nat.{mul-le-mul_right}
 use Rattle.vp_dots.specs.Dots.{dot}
 use Rattle.vp_dots.specs.Headers.{header_of}
@@ -25,16 +25,10 @@ module _ (i : Image) (raw : List ℕ) (long : length raw ≡ i.height * row_byte
   -- dot x of row y
   pub dot_in_row : (d x y : ℕ) → d ≡ 8 * (y * row_bytes i.width) + x → x < 8 * row_bytes i.width → y < i.height → dot (image_rows i) d ≡ (ltb x i.width && i.is_black x y)
   unfolding dot
-  dot_in_row d x y e l m =
-      let q : d / 8 ≡ y * row_bytes i.width + x / 8 = omega (arith, e) in
-      let r : d % 8 ≡ x % 8 = omega (arith, e) in
-      rw (q, r) (image_bit i x y l m)
+  dot_in_row d x y e l m = grind (arith, image_bit i x y l m)
 
   row_below : (d : ℕ) → d < 8 * (i.height * row_bytes i.width) → 0 < 8 * row_bytes i.width → d / (8 * row_bytes i.width) < i.height
-  row_below d l p = elim (cases_lt (d / (8 * row_bytes i.width)) i.height) [
-    | inl k ↦ k
-    | inr g ↦ absurd (omega (arith, l, div-add-mod' d (8 * row_bytes i.width), mul-le-mul_right (8 * row_bytes i.width) g))
-  ]
+  row_below d l p = grind (arith, div-add-mod', mul-le-mul_right)
 
   dots_are : (d : ℕ) → d < 8 * length raw → dot (image_rows i) d ≡ (not (is_padding i.width d) && dot raw d)
   dots_are d l =
@@ -54,19 +48,10 @@ module _ (i : Image) (raw : List ℕ) (long : length raw ≡ i.height * row_byte
       ]
 
   pub rows_are : image_rows i ≡ without_padding i.width raw
-  rows_are = row_is (image_rows i) (length raw) (λ d. not (is_padding i.width d) && dot raw d) (length-image_rows i ∙ sym long)
-      (fits_pieces (image_row i) (λ k. fits-row_of (row_bytes i.width) (λ x. ltb x i.width && i.is_black x k)) 0 i.height) dots_are
+  rows_are = grind (arith, row_is (image_rows i) (length raw), length-image_rows i, fits_pieces (image_row i), fits-row_of (row_bytes i.width), dots_are)
 
 -- the text of the image
 pub pbm_is : (i : Image) (raw : List ℕ) → length raw ≡ i.height * row_bytes i.width
     → ((x y : ℕ) → x < i.width → y < i.height → i.is_black x y ≡ dot raw (8 * (y * row_bytes i.width) + x))
     → pbm i ≡ cond (eqb i.height 0) [] (header_of i.width i.height) ++ without_padding i.width raw
-pbm_is i raw long dots = go (cases_eq i.height 0)
-  where
-    no_raw : (r : List ℕ) → length r ≡ 0 → [] ≡ without_padding i.width r
-    no_raw [] e = refl
-    no_raw (b ∷ r) e = absurd (omega (arith, e))
-
-    go : ((i.height ≡ 0) ⊎ (i.height ≢ 0)) → pbm i ≡ cond (eqb i.height 0) [] (header_of i.width i.height) ++ without_padding i.width raw
-    go (inl z) = rw (eq-eqb i.height 0 z) (no_raw raw (omega (arith, long, ap (λ h. h * row_bytes i.width) z)))
-    go (inr n) = rw (ne_eqb i.height 0 n) (ap (λ x. header_of i.width i.height ++ x) (rows_are i raw long dots))
+pbm_is i raw long dots = grind (arith, ne_eqb, rows_are)

@@ -48,9 +48,7 @@ has_size text size t = let m = measured text size t in record { image = image_of
 
 -- the text of the joined image
 pub pbm_told : (text : List ℕ) (size : Size) → (m : Measured text size) → pbm (image_of size (strips_rows m.strips)) ≡ head_of size ++ without_padding size.width (rows_told text)
-pbm_told text size m =
-    pbm_is (image_of size (strips_rows m.strips)) (strips_rows m.strips) (length-rows_of size.width m.strips m.begins.are ∙ ap (λ h. h * row_bytes size.width) (sym m.height_is)) (λ x y l k. refl)
-    ∙ ap (λ r. head_of size ++ without_padding size.width r) (sym m.rows_is)
+pbm_told text size m = grind (arith, pbm_is (image_of size (strips_rows m.strips)) (strips_rows m.strips), length-rows_of size.width m.strips m.begins.are)
 
 -- there is no width where there is no image
 no_strips : (width height : ℕ) (strips : List Strip) → AreStrips width strips → height ≡ height_of strips → height ≡ 0 → strips ≡ []

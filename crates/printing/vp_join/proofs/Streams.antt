@@ -1,5 +1,5 @@
 -- Bytes that are read and written in pieces.
-use Rattle.std.proofs.Common.{◌≡◌, ℕ, ◌+◌, List, [], ◌++◌, take, drop, Option, sym, ap, ◌∙◌, subst, arith}
+use Rattle.std.proofs.Common.{◌≡◌, ℕ, ◌+◌, List, [], ◌++◌, take, drop, Option, arith}
 use Rattle.std.proofs.lemmas.List.{append-nil}
 use Rattle.std.proofs.Math.Seq.{take-add}
 use Rattle.std.proofs.KnownBytes.{Appends-trans}
@@ -18,5 +18,4 @@ took_more a b c bytes k n h j = rw (take-add k n bytes) (Appends-trans a b c (ta
 
 -- all of a piece is written
 pub wrote_all : (a b c : Option (List ℕ)) (before taken rest piece : List ℕ) → Appends a b before → Appends b c taken → taken ++ rest ≡ piece → rest ≡ [] → Appends a c (before ++ piece)
-wrote_all a b c before taken rest piece h k s e =
-    subst (λ z. Appends a c (before ++ z)) (sym (append-nil taken) ∙ ap (λ z. taken ++ z) (sym e) ∙ s) (Appends-trans a b c before taken h k)
+wrote_all a b c before taken rest piece h k s e = grind (arith, append-nil, Appends-trans)

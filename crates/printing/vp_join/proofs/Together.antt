@@ -1,9 +1,8 @@
 -- Images of one width, one after the other, are strips.
-use Rattle.std.proofs.Common.{◌≡◌, ℕ, ◌+◌, ◌*◌, ◌≤◌, List, [], ◌∷◌, ◌++◌, flat_map, refl, sym, ap, subst, ◌∙◌, arith}
+use Rattle.std.proofs.Common.{◌≡◌, ℕ, ◌+◌, ◌*◌, ◌≤◌, List, [], ◌∷◌, flat_map, refl, sym, ap, ◌∙◌, arith}
 use Rattle.std.proofs.lemmas.Bool.{ne_eqb}
 use Rattle.std.proofs.lemmas.List.{append-nil}
 use Rattle.vp_dots.specs.Dots.{dot}
-use Rattle.vp_dots.specs.Headers.{header_of}
 use Rattle.vp_dots.specs.Images.{Image, row_bytes, image_rows, pbm}
 use Rattle.vp_dots.proofs.ImageLaws.{length-image_rows}
 use Rattle.vp_join.specs.Strips.{greatest, Strip, IsNumber, AreStrips, height_of, strips_rows, strips_text, IsJoined, AreImages, height_together}
@@ -23,22 +22,11 @@ heights (image ∷ images) = ap (λ h. image.height + h) (heights images)
 module _ (width : ℕ) (fits : IsNumber width) where
   are_strips : (images : List Image) → AreImages width images → height_together images ≤ greatest → AreStrips width (strips_of images)
   are_strips [] are most = tt
-  are_strips (image ∷ images) are most = (
-    record {
-      width_is = are.0.0;
-      width_fits = subst IsNumber (sym are.0.0) fits;
-      height_fits = record { least = are.0.1; most = omega (arith, most) };
-      length_is = length-image_rows image;
-    },
-    are_strips images are.1 (omega (arith, most)),
-  )
+  are_strips (image ∷ images) are most = grind (arith, length-image_rows, are_strips images are.1)
 
   texts : (images : List Image) → AreImages width images → flat_map pbm images ≡ strips_text (strips_of images)
   texts [] are = refl
-  texts (image ∷ images) are =
-      let some : image.height ≡ 0 → ⊥ = λ z. let least = are.0.1 in absurd (omega (arith, least, z)) in
-      let text : pbm image ≡ header_of image.width image.height ++ image_rows image = rw (ne_eqb image.height 0 some) refl in
-      ap (λ t. t ++ flat_map pbm images) text ∙ ap (λ t. (header_of image.width image.height ++ image_rows image) ++ t) (texts images are.1)
+  texts (image ∷ images) are = grind (arith, ne_eqb, texts images are.1)
 
   pub together : (images : List Image) → AreImages width images → height_together images ≤ greatest →
       (image : Image) × IsJoined (flat_map pbm images) image × (image.width ≡ width) × (image.height ≡ height_together images)

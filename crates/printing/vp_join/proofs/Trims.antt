@@ -53,8 +53,7 @@ fits_front y z f i = grind (arith, get_or_append_left, get_or_past)
 -- the same where the piece is the front of a longer room
 pub without_padding-room : (w given m : ℕ) (r x y z : List ℕ) → given ≡ length r → length x ≡ m → ((i : ℕ) → get_or (y ++ z) i 0 < 2 ^ 8)
     → Painted White (λ d. is_padding w (8 * given + d)) x y → without_padding w (r ++ x) ≡ without_padding w r ++ take m (y ++ z)
-without_padding-room w given m r x y z e l fits p =
-    without_padding-append w r x y (fits_front y z fits) (rw e at p) ∙ ap (λ v. without_padding w r ++ v) (sym (ap (λ n. take n (y ++ z)) (sym (p.length_is ∙ l)) ∙ take-append_seam y z))
+without_padding-room w given m r x y z e l fits p = grind (arith, without_padding-append w r x y, fits_front y z fits, take-append_seam y z)
 
 -- the rows so far are a front of those with a piece more
 pub without_padding-front : (w : ℕ) (r x : List ℕ) → (y : List ℕ) × (without_padding w (r ++ x) ≡ without_padding w r ++ y)

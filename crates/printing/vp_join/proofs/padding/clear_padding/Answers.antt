@@ -4,10 +4,7 @@ use Rattle.vp_join.proofs.Paddings.{none_done, one_done, first_at, next_at}
 use Rattle.vp_join.proofs.padding.clear_padding.Goals as goal
 
 pub rows-init : goal.rows-init
-rows-init c = record {
-  at = first_at c.args.given c.bytes_of_row-bytes.result (omega (arith, c.bytes_of_row-bytes.ensures));
-  painted = none_done c.args.width c.args.given c.bytes_of_row-bytes.result c.args.rows.now (omega arith) c.bytes_of_row-bytes.ensures;
-}
+rows-init c = grind (arith, first_at c.args.given c.bytes_of_row-bytes.result, none_done c.args.width c.args.given c.bytes_of_row-bytes.result c.args.rows.now)
 
 pub rows-preserved : goal.rows-preserved
 rows-preserved c = record {

@@ -1,4 +1,10 @@
-use Rattle.std.proofs.Common.{arith, [], ◌++◌, length, take, refl, ap, ◌∙◌, sym, append_assoc}
+use Rattle.std.proofs.Common.{arith, ℕ, List, [], ◌++◌, length, take, refl, ap, ◌∙◌, sym, append_assoc, Option}
+use Rattle.std.specs.Prelude.{Result, ⊤}
+use Rattle.std.specs.Io.KnownBytes.{Consumes, IsAtEnd}
+use Rattle.vp_join.specs.Passes.{IsCopy, IsCopied, Copies}
+use Rattle.vp_join.specs.declared.fault.JoinFault.{JoinFault}
+use Rattle.vp_join.specs.declared.reading.Reading.{Reading}
+use Rattle.vp_join.specs.declared.reading.Size.{Size}
 use Rattle.std.proofs.lemmas.List.{append-nil, length-append, length-take-le}
 use Rattle.std.proofs.lemmas.Result.{err_from_is_err_and}
 use Rattle.std.proofs.KnownBytes.{Consumes-nil, Consumes-trans, Consumes-kept, Appends-nil, Appends-trans}
@@ -9,6 +15,10 @@ use Rattle.vp_join.proofs.Streams.{ends_at, wrote_all}
 use Rattle.vp_join.proofs.Trims.{length-without_padding, without_padding-front}
 use Rattle.vp_join.proofs.Counts.{calls_more}
 use Rattle.vp_join.proofs.passes.copy.Goals as goal
+
+-- all that was given is written
+rows_all : (a b c h k : Option (List ℕ)) (size : Size) (s : Reading) (n : ℕ) (result : Result ⊤ JoinFault) (i : IsCopied a b h k size s n) → Consumes a c i.bytes → IsCopy result size i.bytes [] (IsAtEnd c) → Copies a c h k size result
+rows_all a b c h k size s n result i consumed answer = grind (arith, append-nil (without_padding size.width i.rows), given_rows s i.bytes i.rows i.stands, length-without_padding size.width i.rows)
 
 pub turns-init : goal.turns-init
 turns-init g c = record {
@@ -21,41 +31,19 @@ turns-init g c = record {
 }
 
 pub returns-in_default : goal.returns-in_default
-returns-in_default g c =
-    let i = c.turns.invariant.copied in
-    let w = c.args.size.width in
-    record {
-      copies = record {
-        bytes = i.bytes;
-        taken = without_padding w i.rows;
-        rest = [];
-        consumed = Consumes-kept _ _ _ i.bytes i.consumed c.in_default.ensures.bytes;
-        front = append-nil (without_padding w i.rows) ∙ ap (without_padding w) (sym (given_rows c.turns.reading i.bytes i.rows i.stands));
-        fits = omega (arith, length-without_padding w i.rows, i.given_is, i.fits);
-        appended = i.appended;
-        answer = tt;
-      };
-      reads = record { calls = _; within = omega arith; counted = calls_more _ _ _ c.turns._turn c.turns.invariant.reads c.in_default.ensures.reads; all = λ e. absurd (cc e) };
-      failed_reads = c.in_default.ensures.failed ∙ ap (λ n. grown n 1) c.turns.invariant.failed_reads;
-      failed_writes = c.turns.invariant.failed_writes;
-    }
+returns-in_default g c = record {
+  copies = rows_all _ _ _ _ _ c.args.size c.turns.reading _ _ c.turns.invariant.copied (Consumes-kept _ _ _ c.turns.invariant.copied.bytes c.turns.invariant.copied.consumed c.in_default.ensures.bytes) tt;
+  reads = record { calls = _; within = omega arith; counted = calls_more _ _ _ c.turns._turn c.turns.invariant.reads c.in_default.ensures.reads; all = λ e. absurd (cc e) };
+  failed_reads = c.in_default.ensures.failed ∙ ap (λ n. grown n 1) c.turns.invariant.failed_reads;
+  failed_writes = c.turns.invariant.failed_writes;
+}
 
 pub returns-then-is_of_size : goal.returns-then-is_of_size
 returns-then-is_of_size g c =
     let i = c.turns.invariant.copied in
-    let w = c.args.size.width in
     let k = c.in-Ok.ensures.bytes in
     record {
-      copies = record {
-        bytes = i.bytes;
-        taken = without_padding w i.rows;
-        rest = [];
-        consumed = ends_at _ _ _ i.bytes c.read.new.buf c.in-Ok.n c.if-n-eq0.true i.consumed k.0;
-        front = append-nil (without_padding w i.rows) ∙ ap (without_padding w) (sym (given_rows c.turns.reading i.bytes i.rows i.stands));
-        fits = omega (arith, length-without_padding w i.rows, i.given_is, i.fits);
-        appended = i.appended;
-        answer = (c.if-is_of_size.ensures i.bytes i.rows i.stands, refl, k.1 c.if-n-eq0.true (omega (arith, c.read.auto.buf)));
-      };
+      copies = rows_all _ _ _ _ _ c.args.size c.turns.reading _ _ i (ends_at _ _ _ i.bytes c.read.new.buf c.in-Ok.n c.if-n-eq0.true i.consumed k.0) (c.if-is_of_size.ensures i.bytes i.rows i.stands, refl, k.1 c.if-n-eq0.true (omega (arith, c.read.auto.buf)));
       reads = record { calls = _; within = omega arith; counted = calls_more _ _ _ c.turns._turn c.turns.invariant.reads c.in-Ok.ensures.reads; all = λ e. absurd (cc e) };
       failed_reads = c.in-Ok.ensures.failed ∙ c.turns.invariant.failed_reads;
       failed_writes = c.turns.invariant.failed_writes;
@@ -64,19 +52,10 @@ returns-then-is_of_size g c =
 pub returns-then-n-eq0 : goal.returns-then-n-eq0
 returns-then-n-eq0 g c =
     let i = c.turns.invariant.copied in
-    let w = c.args.size.width in
     let k = c.in-Ok.ensures.bytes in
     record {
-      copies = record {
-        bytes = i.bytes;
-        taken = without_padding w i.rows;
-        rest = [];
-        consumed = ends_at _ _ _ i.bytes c.read.new.buf c.in-Ok.n c.if-n-eq0.true i.consumed k.0;
-        front = append-nil (without_padding w i.rows) ∙ ap (without_padding w) (sym (given_rows c.turns.reading i.bytes i.rows i.stands));
-        fits = omega (arith, length-without_padding w i.rows, i.given_is, i.fits);
-        appended = i.appended;
-        answer = λ more f t. c.if-is_of_size.ensures i.bytes i.rows i.stands (rw (f (k.1 c.if-n-eq0.true (omega (arith, c.read.auto.buf))), append-nil i.bytes) at t);
-      };
+      copies = rows_all _ _ _ _ _ c.args.size c.turns.reading _ _ i (ends_at _ _ _ i.bytes c.read.new.buf c.in-Ok.n c.if-n-eq0.true i.consumed k.0)
+          (λ more f t. c.if-is_of_size.ensures i.bytes i.rows i.stands (rw (f (k.1 c.if-n-eq0.true (omega (arith, c.read.auto.buf))), append-nil i.bytes) at t));
       reads = record { calls = _; within = omega arith; counted = calls_more _ _ _ c.turns._turn c.turns.invariant.reads c.in-Ok.ensures.reads; all = λ e. absurd (cc e) };
       failed_reads = c.in-Ok.ensures.failed ∙ c.turns.invariant.failed_reads;
       failed_writes = c.turns.invariant.failed_writes;
@@ -155,21 +134,9 @@ turns-preserved g c =
     }
 
 pub returns : goal.returns
-returns g c =
-    let i = c.turns.invariant.copied in
-    let w = c.args.size.width in
-    record {
-      copies = record {
-        bytes = i.bytes;
-        taken = without_padding w i.rows;
-        rest = [];
-        consumed = i.consumed;
-        front = append-nil (without_padding w i.rows) ∙ ap (without_padding w) (sym (given_rows c.turns.reading i.bytes i.rows i.stands));
-        fits = omega (arith, length-without_padding w i.rows, i.given_is, i.fits);
-        appended = i.appended;
-        answer = tt;
-      };
-      reads = record { calls = c.turns._turn; within = c.turns.auto._turn-end; counted = c.turns.invariant.reads; all = λ e. omega arith };
-      failed_reads = c.turns.invariant.failed_reads;
-      failed_writes = c.turns.invariant.failed_writes;
-    }
+returns g c = record {
+  copies = rows_all _ _ _ _ _ c.args.size c.turns.reading _ _ c.turns.invariant.copied c.turns.invariant.copied.consumed tt;
+  reads = record { calls = c.turns._turn; within = c.turns.auto._turn-end; counted = c.turns.invariant.reads; all = λ e. omega arith };
+  failed_reads = c.turns.invariant.failed_reads;
+  failed_writes = c.turns.invariant.failed_writes;
+}

@@ -1,4 +1,4 @@
-use Rattle.std.proofs.Common.{arith, [], ◌++◌, take, refl, ap, ◌∙◌}
+use Rattle.std.proofs.Common.{arith, [], ◌++◌, take, ap, ◌∙◌}
 use Rattle.std.proofs.KnownBytes.{Consumes-nil, Consumes-trans, Consumes-kept}
 use Rattle.vp_join.specs.Told.{Told}
 use Rattle.vp_streams.specs.Count.{grown}
@@ -7,12 +7,7 @@ use Rattle.vp_join.proofs.Counts.{calls_more, no_turns, no_read_fault, found_is,
 use Rattle.vp_join.proofs.passes.measure.Goals as goal
 
 pub turns-init : goal.turns-init
-turns-init g c = record {
-  after = record { bytes = []; consumed = Consumes-nil _; stands = record { more = []; stands = c.new-reading.ensures.stands } };
-  wide = c.new-reading.ensures.wide;
-  reads = refl;
-  failed = refl;
-}
+turns-init g c = grind (arith, Consumes-nil)
 
 pub returns-in_default : goal.returns-in_default
 returns-in_default g c =
@@ -88,11 +83,4 @@ turns-preserved g c =
     }
 
 pub returns : goal.returns
-returns g c =
-    let i = c.turns.invariant.after in
-    record {
-      measures = record { bytes = i.bytes; consumed = i.consumed; answer = tt };
-      reads = record { calls = c.turns.turn; within = c.turns.auto.turn-end; counted = c.turns.invariant.reads; all = λ e. omega arith };
-      reads_told = tt;
-      failed = c.turns.invariant.failed;
-    }
+returns g c = grind arith

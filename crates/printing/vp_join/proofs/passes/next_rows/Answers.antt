@@ -35,10 +35,7 @@ returns-then-exceeds-clause-rows c = λ b r h e.
     (x, k, λ more. stays_beyond c.fill-m.new.self (b ++ c.args.bytes.now) (r ++ x) more c.args.size k (c.fill-m.ensures.counted c.args.given c.requires.counted).none (sym c.exceeds.ensures ∙ c.if-exceeds.true))
 
 pub returns-clause-rows : goal.returns-clause-rows
-returns-clause-rows c = λ b r h e.
-    let x = take c.fill-m.result c.fill-m.new.rows in
-    let long : length x ≡ c.fill-m.result = length-take-le c.fill-m.result c.fill-m.new.rows (omega (arith, c.fill-m.ensures.within, c.fill-m.auto.rows)) in
-    (x, c.fill-m.ensures.stands b r h, long, without_padding-room c.args.size.width c.args.given c.fill-m.result r x c.clear_padding.new.rows (drop c.fill-m.result c.fill-m.new.rows) e long (λ i. (c.type_inv.rows i).fits) c.clear_padding.ensures)
+returns-clause-rows c = grind (arith, length-take-le, without_padding-room)
 
 pub returns-clause-within : goal.returns-clause-within
 returns-clause-within c =

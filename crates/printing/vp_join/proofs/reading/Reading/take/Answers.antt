@@ -1,13 +1,11 @@
-use Rattle.std.proofs.Common.{arith, ◌+◌, take}
+use Rattle.std.proofs.Common.{arith, ◌+◌}
 use Rattle.std.proofs.lemmas.List.{length-take-le}
 use Rattle.vp_join.specs.Standing.{IsCounted}
 use Rattle.vp_join.proofs.Ends.{stands_then, stands_head}
 use Rattle.vp_join.proofs.reading.Reading.take.Goals as goal
 
 pub returns-in-InRows-clause-stands : goal.returns-in-InRows-clause-stands
-returns-in-InRows-clause-stands c =
-    let run = take (c.min-n.result + 1) c.args.bytes.now in
-    λ b r h. stands_then c.args.self.now c.take_rows.new.self b r run run h (λ text. c.take_rows.ensures.next r run text (length-take-le (c.min-n.result + 1) c.args.bytes.now (omega (arith, c.min-n.ensures))))
+returns-in-InRows-clause-stands c = grind (arith, stands_then c.args.self.now c.take_rows.new.self, length-take-le (c.min-n.result + 1) c.args.bytes.now)
 
 pub returns-in-InRows-clause-counted : goal.returns-in-InRows-clause-counted
 returns-in-InRows-clause-counted c = λ m h. rw (length-take-le (c.min-n.result + 1) c.args.bytes.now (omega (arith, c.min-n.ensures))) (c.take_rows.ensures.counted m h)
