@@ -5,6 +5,7 @@ pub mod Columns
 pub mod Counts
 pub mod Alike
 pub mod Framed
+pub mod Handing
 pub mod Alone
 pub mod Folds
 pub mod White

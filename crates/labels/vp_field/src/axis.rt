@@ -1,5 +1,5 @@
 //! Where a line of dots lies on a line of places.
-ghost use Rattle.std.specs.Prelude.{◌≡◌, ℕ, ◌+◌, ◌^◌, ◌<◌, ◌≤◌, Bool, true, false, ℤ, pos, neg_ℤ, ◌-ℤ◌, ◌+ℤ◌, ◌≤ℤ◌, ◌<ℤ◌, option_map, unwrap_or, Some, IfSome};
+ghost use Rattle.std.specs.Prelude.{◌≡◌, ℕ, ◌+◌, ◌-◌, ◌^◌, ◌<◌, ◌≤◌, Bool, true, false, ℤ, pos, neg_ℤ, ◌-ℤ◌, ◌+ℤ◌, ◌≤ℤ◌, ◌<ℤ◌, option_map, unwrap_or, Some, IfSome};
 ghost use Rattle.vp_field.specs.Places.{at_place};
 ghost use Rattle.vp_field.specs.Views.{counted_back};
 ghost use Rattle.vp_field.specs.Axes.{dot_on, read_at, IsWithin};
@@ -22,6 +22,16 @@ pub enum Lines {
     Along,
     /// Along its columns.
     Across,
+}
+
+/// Where dots of a line lie on places.
+#[derive(Clone, Copy)]
+pub struct Window {
+    /// The first place on which one of them lies, and the one behind the last.
+    pub from: u32,
+    pub to: u32,
+    /// The first of those that lie there.
+    pub first: u32,
 }
 
 /// The place that is as far from the last of `size` places as place `at` is from the first.
@@ -49,6 +59,38 @@ fn last_before(at: i64, from: u32, places: u32) -> i64
     ensures { result ≡ at -ℤ pos from -ℤ pos places +ℤ pos 1 }
 {
     at - i64::from(from) - i64::from(places) + 1
+}
+
+/// A number with the other sign.
+fn negated(at: i64) -> i64
+    requires low { neg_ℤ (pos (2 ^ 41)) ≤ℤ at }
+    requires high { at ≤ℤ pos (2 ^ 41) }
+    ensures { result ≡ pos 0 -ℤ at }
+{
+    -at
+}
+
+/// Which of the first `places` places are `size` places from `at` on, where the first of these shows dot
+/// `first` of `size`, or the one that is nearest.
+fn window_of(at: i64, first: i64, size: u32, places: u32) -> Window
+    requires low { neg_ℤ (pos (2 ^ 42)) ≤ℤ at }
+    requires high { at ≤ℤ pos (2 ^ 42) }
+    ensures order { result.from ≤ result.to }
+    ensures places { result.to ≤ places }
+    ensures size { result.first ≤ size }
+    ensures before { 0 < result.from → pos (result.from - 1) <ℤ at }
+    ensures from { result.from < result.to → at ≤ℤ pos result.from }
+    ensures to { 0 < result.to → pos (result.to - 1) <ℤ (at +ℤ pos size) }
+    ensures behind { result.to < places → (at +ℤ pos size) ≤ℤ pos result.to }
+    ensures above { 0 < result.first → pos (result.first - 1) <ℤ first }
+    ensures first { result.first < size → first ≤ℤ pos result.first }
+{
+    let to = clamped(at + i64::from(size), places);
+    Window {
+        from: clamped(at, to),
+        to,
+        first: clamped(first, size),
+    }
 }
 
 impl Axis {
@@ -146,6 +188,28 @@ impl Axis {
                 (behind.saturating_sub(size), behind)
             }
             Axis::Back(_) => (0, 0),
+        }
+    }
+
+    /// Where the first `size` dots lie on the first `places` places.
+    pub fn window(self, size: u32, places: u32) -> Window
+        requires { IsWithin (2 ^ 41) self }
+        ensures order { result.from ≤ result.to }
+        ensures to { result.to ≤ places }
+        ensures inside { (p : ℕ) → result.from ≤ p → p < result.to
+            → let v = result.first + read_at self (result.to - result.from) (p - result.from)
+            in (v < size) × (dot_on self (pos p) ≡ pos v) }
+        ensures outside { (p v : ℕ) → p < places → v < size → dot_on self (pos p) ≡ pos v
+            → (result.from ≤ p) × (p < result.to) }
+    {
+        match self {
+            Axis::Forward(at) => window_of(at, negated(at), size, places),
+            Axis::Back(at) => window_of(
+                last_before(at, 0, size),
+                last_before(at, 0, places),
+                size,
+                places,
+            ),
         }
     }
 

@@ -1,80 +1,32 @@
 //! Blocks of lines whose rows fall on columns: many of them drawn at once, and laid 64 by 64.
-ghost use Rattle.std.specs.Prelude.{◌≡◌, ℕ, ◌+◌, ◌-◌, ◌*◌, ◌<◌, ◌≤◌, ◌^◌, nat_le, ◌&&◌, Bool, true, pos, slice_index, length, MatchOption, IfSome};
-ghost use Rattle.vp_dots.specs.Dots.{dot, shifted, span};
+ghost use Rattle.std.specs.Prelude.{◌≡◌, ℕ, ◌+◌, ◌-◌, ◌*◌, ◌<◌, ◌≤◌, ◌^◌, nat_le, ◌&&◌, true, false, pos, slice_index, slice_index_or, length, drop, [], ◌++◌, ◌⊎◌, MatchOption};
+ghost use Rattle.vp_dots.specs.Dots.{dot, span};
 ghost use Rattle.vp_dots.specs.declared.square.TheConstants.{SIDE};
 ghost use Rattle.vp_dots.specs.Painting.{Painted};
 ghost use Rattle.vp_dots.specs.Places.{RowsPainted};
 ghost use Rattle.vp_dots.specs.Words.{word_dot};
 ghost use Rattle.vp_dots.specs.declared.Op.TheVariants.{Black};
-ghost use Rattle.vp_glyph.specs.Blocks.{block_height, block_dot, block_pieces};
+ghost use Rattle.vp_glyph.specs.Blocks.{block_dot, block_pieces};
 ghost use Rattle.vp_glyph.specs.Halves.{half_dot};
 ghost use Rattle.vp_glyph.specs.Layouts.{layout_of};
-ghost use Rattle.vp_field.specs.Axes.{dot_on, laid, read_at, IsWithin};
+ghost use Rattle.vp_field.specs.Axes.{laid, read_at, IsWithin};
 ghost use Rattle.vp_field.specs.Bands.{ShownPainted};
-ghost use Rattle.vp_field.specs.Places.{at_place};
 ghost use Rattle.vp_field.specs.declared.axis.Lines.TheVariants.{Across};
-ghost use Rattle.vp_field.specs.declared.block_columns.TheConstants.{COLUMNS, ROW_WORDS};
+ghost use Rattle.vp_field.specs.declared.counted_columns.TheConstants.{COLUMNS};
 ghost use Rattle.vp_label_size.specs.declared.TheConstants.{WIDEST, BAND_ROWS};
 
-use crate::axis::Axis;
+use crate::axis::{Axis, Window};
+use crate::counted_columns::{COLUMNS, CountedColumns, Handed, ROW_WORDS};
 use crate::laid::Laid;
 use crate::line::drawn_at;
 use crate::plain::{mixed_halves, word_of_plain};
 use crate::square::{are_white, paint_square};
 use vp_dots::{Ink, Op, SIDE, Small, paint_into, paint_word};
 use vp_glyph::Block;
-use vp_label_size::{BAND_ROWS, LabelBand, WIDEST};
+use vp_label_size::{BAND_ROWS, LabelBand};
 
-/// As many rows are drawn at once as a band has columns.
-const COLUMNS: usize = WIDEST as usize;
-
-/// So many words have the columns of a label, and some more.
-const ROW_WORDS: usize = 20;
-
-/// The bytes of as many words.
+/// The bytes of the columns of a label, and some more.
 const ROW_BYTES: usize = 8 * ROW_WORDS;
-
-/// A block of lines, how its rows and their dots lie on a band, and the fronts of the rows that may fall on
-/// the label's columns.
-#[derive(Drop)]
-struct BlockColumns<'a, A: Small> {
-    block: &'a Block<'a, A>,
-    columns: Axis,
-    rows: Axis,
-    /// The band's first row.
-    first: u32,
-    /// The first of the rows that were drawn.
-    top: u32,
-    /// The offset at which they were drawn.
-    at: i64,
-    /// How many columns of the label there are, and rows that were drawn.
-    seen: u32,
-    fronts: &'a [u32; COLUMNS],
-    ghost most: { seen ≤ WIDEST },
-    ghost drawn: { (i x : ℕ) → i < seen → x < 32
-        → top + i < block_height block.now.h block.now.rows block.now.pitch
-        → half_dot (slice_index fronts.now i) x
-        ≡ shifted at (λ x. block_dot (layout_of block.now) block.now.text.now x (top + i)) x },
-    ghost falls: { (line dots : ℕ → Bool) → ((d : ℕ) → d < 32 → dots d ≡ shifted at line d) → (p : ℕ)
-        → p < 32 → at_place line (dot_on rows (pos (first + p))) ≡ dots (read_at rows 32 p) },
-    ghost from: { (x v : ℕ) → x < seen → v < block_height block.now.h block.now.rows block.now.pitch
-        → dot_on columns (pos x) ≡ pos v → top ≤ v },
-    ghost to: { (x v : ℕ) → x < seen → v < block_height block.now.h block.now.rows block.now.pitch
-        → dot_on columns (pos x) ≡ pos v → v < top + seen },
-}
-
-/// Halves of words from one on, read along an axis.
-fn halves_along<const N: usize>(halves: &[u32; N], from: usize, axis: Axis) -> [u32; SIDE]
-    requires { from + SIDE ≤ N }
-    ensures { (i : ℕ) → i < SIDE
-        → slice_index result i ≡ slice_index halves.now (from + read_at axis SIDE i) }
-{
-    let mut along = [0u32; SIDE];
-    for i in 0..SIDE {
-        along[i] = halves[from + axis.read_at(SIDE, i)];
-    }
-    along
-}
 
 /// Blackens the dots of a word from a dot of a row on.
 fn add_word(word: u64, at: u64, row: &mut [u8])
@@ -102,145 +54,152 @@ fn paint_rows_alike<A: Small>(op: Op, dots: &[u8], x: u64, band: &mut LabelBand<
     }
 }
 
-impl<A: Small> BlockColumns<'_, A> {
-    /// The row that falls on a column of the label, as it was drawn: white where none does.
-    fn column(&self, x: u64) -> u32
-        ensures { x < self.now.seen → (k : ℕ) → k < BAND_ROWS → half_dot result (read_at self.now.rows 32 k)
-            ≡ laid Across self.now.columns self.now.rows
-            (λ u v. block_dot (layout_of self.now.block.now) self.now.block.now.text.now u v)
-            (pos x) (pos (self.now.first + k)) }
-    {
-        let Some(v) = self.columns.dot_on(x) else {
-            return 0;
-        };
-        let (_, height) = self.block.size();
-        let place = v.saturating_sub(self.top) as usize;
-        if v >= height || place >= COLUMNS {
-            return 0;
-        }
-        self.fronts[place]
-    }
+/// Makes fronts white from one on.
+fn whiten_from(from: usize, fronts: &mut [u32; COLUMNS])
+    requires { from ≤ COLUMNS }
+    ensures before { (i : ℕ) → i < from → slice_index fronts.new i ≡ slice_index fronts.old i }
+    ensures behind { (i : ℕ) → from ≤ i → slice_index fronts.new i ≡ 0 }
+{
+    fronts[from..].fill(0);
+}
 
-    /// Where the rows that fall on 64 columns of the label, the first of which is x, begin among those that
-    /// were drawn, if all of them were.
-    fn first_drawn(&self, x: u64) -> Option<usize>
-        requires { x < 2 ^ 32 }
-        ensures { MatchOption result (Unit {0}) (λ place. (place + SIDE ≤ COLUMNS) × ((i : ℕ) → i < SIDE
-            → let v = self.now.top + (place + read_at self.now.columns SIDE i)
-            in (v < block_height self.now.block.now.h self.now.block.now.rows self.now.block.now.pitch)
-            × (dot_on self.now.columns (pos (x + i)) ≡ pos v))) }
-    {
-        let v = self
-            .columns
-            .dot_on(x + self.columns.read_at(SIDE, 0) as u64)?;
-        let place = v.checked_sub(self.top)? as usize;
-        let (_, height) = self.block.size();
-        if place + SIDE > COLUMNS || height.saturating_sub(v) < SIDE as u32 {
-            return None;
-        }
-        Some(place)
-    }
+/// Lets so many fronts stand the other way round.
+fn turn_round(many: usize, fronts: &mut [u32; COLUMNS])
+    requires { many ≤ COLUMNS }
+    ensures turned { (i : ℕ) → i < many
+        → slice_index fronts.new i ≡ slice_index fronts.old (many - 1 - i) }
+    ensures behind { (i : ℕ) → many ≤ i → slice_index fronts.new i ≡ slice_index fronts.old i }
+{
+    fronts[..many].reverse();
+}
 
-    /// The rows that fall on 64 columns of the label, the first of which is x.
-    fn columns(&self, x: u64) -> [u32; SIDE]
-        requires { x < 2 ^ 32 }
-        ensures { (i k : ℕ) → i < SIDE → x + i < self.now.seen → k < BAND_ROWS
-            → half_dot (slice_index result i) (read_at self.now.rows 32 k) ≡ laid Across self.now.columns
-            self.now.rows (λ u v. block_dot (layout_of self.now.block.now) self.now.block.now.text.now u v)
-            (pos (x + i)) (pos (self.now.first + k)) }
-    {
-        if let Some(place) = self.first_drawn(x) {
-            return halves_along(self.fronts, place, self.columns);
-        }
-        let mut columns = [0u32; SIDE];
-        for i in 0..SIDE {
-            columns[i] = self.column(x + i as u64);
-        }
-        columns
+/// Lets so many fronts stand in the order of the columns on which they fall along an axis, and white ones
+/// behind them.
+fn in_order(axis: Axis, many: usize, fronts: &mut [u32; COLUMNS])
+    requires { many ≤ COLUMNS }
+    ensures order { (i : ℕ) → i < many
+        → slice_index fronts.new i ≡ slice_index fronts.old (read_at axis many i) }
+    ensures white { (i : ℕ) → many ≤ i → slice_index fronts.new i ≡ 0 }
+{
+    whiten_from(many, fronts);
+    if let Axis::Back(_) = axis {
+        turn_round(many, fronts);
     }
+}
 
-    /// So many words of columns of the label, the first of which is x, as a row of dots, if each column is
-    /// black or white as a whole.
-    fn plain_row(&self, x: u64, words: usize) -> Option<[u8; ROW_BYTES]>
-        requires x { x < 2 ^ 31 }
-        requires words { words ≤ ROW_WORDS }
-        ensures { IfSome result (λ row. (i k : ℕ) → i < SIDE * words → x + i < self.now.seen
-            → k < BAND_ROWS
-            → dot row i ≡ laid Across self.now.columns self.now.rows
-            (λ u v. block_dot (layout_of self.now.block.now) self.now.block.now.text.now u v)
-            (pos (x + i)) (pos (self.now.first + k))) }
-    {
-        let mut row = [0u8; ROW_BYTES];
-        for j in 0..words {
-            let at = (SIDE * j) as u64;
-            let columns = self.columns(x + at);
-            if mixed_halves(&columns) > 0 {
-                return None;
-            }
-            add_word(word_of_plain(&columns), at, &mut row);
+/// The next columns as a row of dots, word by word as long as each of a word's columns is black or white as a
+/// whole: how many words they are, and the first columns that aren't so, if any are left.
+fn plain_row<'a>(
+    columns: &mut CountedColumns<'a>,
+    row: &mut [u8; ROW_BYTES],
+) -> (usize, Option<Handed<'a>>)
+    requires white { (i : ℕ) → dot row.old i ≡ false }
+    ensures plain { SIDE * result.0 ≤ length columns.old.left.now }
+    ensures row { (i k : ℕ) → i < SIDE * result.0 → k < BAND_ROWS
+        → dot row.new i ≡ half_dot (slice_index columns.old.left.now i) k }
+    ensures mixed { let plain = SIDE * result.0
+        in MatchOption result.1 ((columns.new.left.now ≡ []) × (length columns.old.left.now ≡ plain))
+        (λ m. (m.x ≡ columns.old.x + plain) × (length m.columns.now ≡ SIDE)
+        × (drop plain columns.old.left.now ≡ m.columns.now ++ columns.new.left.now)
+        × (columns.new.x ≡ m.x + SIDE)) }
+    ensures from { columns.new.from ≡ columns.old.from }
+    ensures end { columns.new.end ≡ columns.old.end }
+{
+    let mut words = 0;
+    while let Some(next) = columns.next() {
+        if mixed_halves(next.columns) > 0 {
+            return (words, Some(next));
         }
-        Some(row)
+        add_word(word_of_plain(next.columns), (SIDE * words) as u64, row);
+        words += 1;
     }
+    (words, None)
+}
 
-    /// Paints as many words of columns, the first of which is x, where all rows show the same row.
-    fn paint_plain(
-        &self,
-        op: Op,
-        row: &[u8; ROW_BYTES],
-        words: usize,
-        x: u64,
-        band: &mut LabelBand<A>,
-    )
-        requires x { x < 2 ^ 31 }
-        requires words { words ≤ ROW_WORDS }
-        requires row { (i k : ℕ) → i < SIDE * words → x + i < self.now.seen
-            → k < BAND_ROWS
-            → dot row.now i ≡ laid Across self.now.columns self.now.rows
-            (λ u v. block_dot (layout_of self.now.block.now) self.now.block.now.text.now u v)
-            (pos (x + i)) (pos (self.now.first + k)) }
-        ensures { ShownPainted self.now.seen op (λ d k. span x (x + SIDE * words) d
-            && laid Across self.now.columns self.now.rows
-            (λ u v. block_dot (layout_of self.now.block.now) self.now.block.now.text.now u v) (pos d)
-            (pos (self.now.first + k))) band.old band.new }
-    {
-        paint_rows_alike(op, &row[..8 * words], x, band);
+/// Paints columns, and those that come next, at once.
+fn paint_two<A: Small>(
+    left: Handed<'_>,
+    rest: &mut CountedColumns<'_>,
+    op: Op,
+    rows: Axis,
+    band: &mut LabelBand<A>,
+)
+    requires place { left.x ≤ 2 ^ 33 }
+    requires whole { length left.columns.now ≡ SIDE }
+    ensures painted { RowsPainted BAND_ROWS op (λ d k. span left.entry.x (left.entry.x + 2 * SIDE) d
+        && half_dot (slice_index (left.entry.columns.now ++ rest.old.left.now)
+        (d - left.entry.x))
+        (read_at rows BAND_ROWS k)) band.old band.new }
+    ensures rest { ((rest.new ≡ rest.old) × (rest.old.left.now ≡ [])) ⊎ ((rest.new.x ≡ rest.old.x + SIDE)
+        × (SIDE ≤ length rest.old.left.now) × (rest.new.left.now ≡ drop SIDE rest.old.left.now)) }
+    ensures from { rest.new.from ≡ rest.old.from }
+    ensures end { rest.new.end ≡ rest.old.end }
+{
+    match rest.next() {
+        Some(right) => paint_square(op, left.columns, right.columns, rows, left.x, band),
+        None => paint_square(op, left.columns, &[0; SIDE], rows, left.x, band),
     }
+}
 
-    /// Paints the columns: how many were laid.
-    fn paint(&self, op: Op, band: &mut LabelBand<A>) -> u64
-        ensures dots { ShownPainted self.now.seen op (λ x k. laid Across self.now.columns self.now.rows
-            (λ u v. block_dot (layout_of self.now.block.now) self.now.block.now.text.now u v) (pos x)
-            (pos (self.now.first + k))) band.old band.new }
-        ensures columns { result ≤ self.now.seen }
-        ensures counted { (x z k : ℕ) → z < self.now.seen → k < BAND_ROWS
-            → laid Across self.now.columns self.now.rows
-            (λ u v. block_dot (layout_of self.now.block.now) self.now.block.now.text.now u v) (pos x)
-            (pos (self.now.first + k)) ≡ true → laid Across self.now.columns self.now.rows
-            (λ u v. block_dot (layout_of self.now.block.now) self.now.block.now.text.now u v) (pos z)
-            (pos (self.now.first + k)) ≡ true → z - x < result }
-    {
-        let (_, height) = self.block.size();
-        let (from, to) = self.columns.span(height);
-        let end = to.min(u64::from(self.seen));
-        if from >= end {
-            return 0;
-        }
-        let words = ((end - from + 63) / 64) as usize;
-        if let Some(row) = self.plain_row(from, words) {
-            self.paint_plain(op, &row, words, from, band);
-            return end - from;
-        }
-        let mut laid = 0;
-        let mut x = from;
-        while x < end {
-            let left = self.columns(x);
-            let right = self.columns(x + SIDE as u64);
-            paint_square(op, &left, &right, self.rows, x, band);
-            laid += (end - x).min(2 * SIDE as u64);
-            x += 2 * SIDE as u64;
-        }
-        laid
+/// Paints columns, whose dots are read along an axis: how many.
+fn paint_columns<A: Small>(
+    columns: CountedColumns<'_>,
+    op: Op,
+    rows: Axis,
+    band: &mut LabelBand<A>,
+) -> u64
+    ensures dots { RowsPainted BAND_ROWS op (λ d k.
+        span columns.entry.x (columns.entry.x + length columns.entry.left.now) d
+        && half_dot (slice_index columns.entry.left.now (d - columns.entry.x)) (read_at rows BAND_ROWS k))
+        band.old band.new }
+    ensures counted { result ≡ columns.entry.end - columns.entry.from }
+{
+    let mut rest = columns;
+    let x = rest.place();
+    let mut row = [0u8; ROW_BYTES];
+    let (words, mut mixed) = plain_row(&mut rest, &mut row);
+    paint_rows_alike(op, &row[..8 * words], x, band);
+    while let Some(left) = mixed {
+        paint_two(left, &mut rest, op, rows, band);
+        mixed = rest.next();
     }
+    rest.counted()
+}
+
+/// Draws the fronts of the rows of a block that fall on columns of the label: on which they do, and how many
+/// lines of the text, and cells of these, were handed out and drawn.
+fn draw_columns<A: Small>(
+    block: &Block<'_, A>,
+    lying: Laid,
+    columns: u32,
+    first: u32,
+    fronts: &mut [u32; COLUMNS],
+) -> (Window, u64)
+    requires columns { IsWithin (2 ^ 41) lying.columns }
+    requires rows { IsWithin (2 ^ 41) lying.rows }
+    requires most { columns ≤ WIDEST }
+    requires white { (i : ℕ) → slice_index fronts.old i ≡ 0 }
+    ensures order { result.0.from ≤ result.0.to }
+    ensures to { result.0.to ≤ columns }
+    ensures only { (x k : ℕ) → x < columns → laid Across lying.columns lying.rows
+        (λ u v. block_dot (layout_of block.now) block.now.text.now u v) (pos x) (pos (first + k)) ≡ true
+        → (result.0.from ≤ x) × (x < result.0.to) }
+    ensures drawn { (x k : ℕ) → result.0.from ≤ x → x < result.0.to → k < BAND_ROWS
+        → laid Across lying.columns lying.rows
+        (λ u v. block_dot (layout_of block.now) block.now.text.now u v) (pos x) (pos (first + k))
+        ≡ half_dot (slice_index fronts.new
+        (read_at lying.columns (result.0.to - result.0.from) (x - result.0.from)))
+        (read_at lying.rows BAND_ROWS k) }
+    ensures pieces { result.1 ≤ 2 * block_pieces block.now.text.now }
+    ensures some { (i x : ℕ) → i < COLUMNS → x < 32 → half_dot (slice_index fronts.new i) x ≡ true
+        → 0 < result.1 }
+{
+    let (_, height) = block.size();
+    let window = lying.columns.window(height, columns);
+    let many = (window.to - window.from) as usize;
+    let at = drawn_at(lying.rows, first, 4);
+    let pieces = block.draw_fronts(window.first, at, many, fronts);
+    (window, pieces)
 }
 
 /// Paints a block of lines that lies across a band, whose first row is row `first` of the label, on the
@@ -268,24 +227,17 @@ pub fn paint_block_across<A: Small>(
         (λ u v. block_dot (layout_of block.now) block.now.text.now u v) (pos x) (pos (first + k)) ≡ true
         → columns + 2 ≤ result }
 {
-    let (_, height) = block.size();
-    let top = lying.first_line(height, first, columns);
-    let at = drawn_at(lying.rows, first, 4);
     let mut fronts = [0u32; COLUMNS];
-    let walked = block.draw_fronts(top, at, columns as usize, &mut fronts);
+    let (window, walked) = draw_columns(block, lying, columns, first, &mut fronts);
     let drew = u64::from(columns.max(1)) + walked;
     if are_white(&fronts) {
         return drew;
     }
-    let drawn = BlockColumns {
-        block,
-        columns: lying.columns,
-        rows: lying.rows,
-        first,
-        top,
-        at,
-        seen: columns,
-        fronts: &fronts,
-    };
-    drew + drawn.paint(op, band)
+    in_order(
+        lying.columns,
+        (window.to - window.from) as usize,
+        &mut fronts,
+    );
+    let drawn = CountedColumns::new(&fronts, window.from, window.to);
+    drew + paint_columns(drawn, op, lying.rows, band)
 }

@@ -19,7 +19,8 @@
 //! - `pieces`: inks that tell of how many pieces their lines are painted.
 //! - `line`, `pen`: lines of ink, drawn along places and painted on rows, and counted with their pieces as
 //!   they are handed out.
-//! - `plain`, `square`: columns of dots, turned many at once.
+//! - `counted_columns`, `plain`, `square`: columns of dots, counted as they are handed out, and turned many
+//!   at once.
 //! - `paint`, `across`, `standing`: ink painted along the rows of a band or across them.
 //! - `band`: a white band, and one cut at the label's edges.
 //! - `laws`: what the dots of a label come to.
@@ -31,6 +32,7 @@ mod band;
 mod block_band;
 mod block_columns;
 mod content;
+mod counted_columns;
 mod field;
 mod frame;
 mod laid;
