@@ -11,6 +11,7 @@ pub mod Marks
 pub mod PageRows
 pub mod Pages
 pub mod Squares
+pub mod WrittenRows
 pub mod Stretches
 pub mod RunRows
 pub mod Rows

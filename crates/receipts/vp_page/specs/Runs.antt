@@ -85,6 +85,25 @@ pub record AreRuns (begins : List ℕ) (n end : ℕ) : Type 0 where
   pub deep : (i : ℕ) → i ≤ n → slice_index begins i ≤ end
   pub from_first : (i : ℕ) → i ≤ n → slice_index begins 0 ≤ slice_index begins i
 
+-- the places in a word of the dots of n lines, in the order of their columns: from one on and before another
+abbrev pub first_place : Way → ℕ → ℕ
+first_place Up n = 0
+first_place Down n = 64 - n
+
+abbrev pub last_place : Way → ℕ → ℕ
+last_place Up n = n
+last_place Down n = 64
+
+-- the column on which that at place i begins, by the depths at which lines do
+abbrev pub edge_of : Area → Way → List ℕ → ℕ → ℕ
+edge_of a Up begins i = a.x + slice_index begins i
+edge_of a Down begins i = a.x + a.dx - slice_index begins (64 - i)
+
+-- the dot at (x, y) of ink by columns and along its lines, on the columns from one on and before another
+abbrev pub column_dot : Area → Way → ℕ → ℕ → (ℕ → ℕ → Bool) → ℕ → ℕ → Bool
+column_dot a way from to ink x y =
+    span a.y (a.y + a.dy) y && (span from to x && ink x (along_of a way y))
+
 -- lines are as the one before but where one of n different ones begins
 pub record AreDifferent (lines : List (List ℕ)) (v : ℕ) (these : List (List ℕ)) (begins : List ℕ) (n : ℕ)
     : Type 0 where

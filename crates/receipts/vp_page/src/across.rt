@@ -21,10 +21,12 @@ use crate::changes::changes_of;
 use crate::different::{MOST, begin_alike, different};
 use crate::line::{LINE_BYTES, LINE_DOTS, dots_from, start_of};
 use crate::page::{PAGE_ROWS, PAPER_BYTES, PageBand};
-use crate::runs::{blacken, columns, lay_runs, on_page, top_of};
+use crate::runs::{lay_runs, on_page, top_of};
 use crate::still::{Shade, still_from, turned_from};
 use crate::words::lay_words;
-use vp_dots::{Op, SIDE, Small, dot_of, eight_at, fill_dots, first_dots, turned_square};
+use vp_dots::{
+    NARROW, Op, SIDE, Small, dot_of, eight_at, fill_dots, first_dots, paint_narrow, turned_square,
+};
 
 /// How many lines are laid at once.
 pub const AT_ONCE: usize = 3 * SIDE;
@@ -38,7 +40,7 @@ const MANY: usize = 2 * SIDE;
 
 /// Which of the columns of n lines, from the left on, is that of line i.
 #[inline(always)]
-fn place(way: Way, n: usize, i: usize) -> usize
+pub(crate) fn place(way: Way, n: usize, i: usize) -> usize
     requires { i < n }
     ensures { result ≡ placed way n i }
 {
@@ -72,8 +74,8 @@ fn whole_square(lines: &[[u8; LINE_BYTES]], at: usize, way: Way) -> [u64; SIDE]
     square
 }
 
-/// A square of the lines' dots, from one on, in the order of their columns: white where there is no line. Mostly
-/// they are whole bytes.
+/// A square of the lines' dots, from one on, in the order of their columns: white where there is no line.
+/// Mostly they are whole bytes.
 #[inline(always)]
 pub(crate) fn square_of(lines: &[[u8; LINE_BYTES]], from: usize, way: Way) -> [u64; SIDE]
     requires few { length lines.now ≤ SIDE }
@@ -148,6 +150,44 @@ fn is_white(shade: Shade) -> bool
     match shade {
         Shade::White => true,
         Shade::Black | Shade::Mixed => false,
+    }
+}
+
+/// The columns of an area between two depths, of lines that run up or down.
+#[inline(always)]
+fn columns(area: Area, way: Way, from: u32, to: u32) -> (u64, u64)
+    requires some { from ≤ to }
+    requires deep { to ≤ area.dx }
+    ensures dots { (x : ℕ) → span result.0 result.1 x ≡
+        (span area.x (area.x + area.dx) x && span from to (depth_of area way x)) }
+    ensures wide { result.1 ≡ result.0 + (to - from) }
+    ensures near { result.1 < 2 ^ 32 }
+{
+    let (from, to) = (u64::from(from), u64::from(to));
+    let left = u64::from(area.x);
+    let right = left + u64::from(area.dx);
+    match way {
+        Way::Up => (left + from, left + to),
+        Way::Down => (right - to, right - from),
+    }
+}
+
+/// Blackens the dots from one to another, which mostly are few.
+#[inline(always)]
+fn blacken(from: u64, to: u64, row: &mut [u8])
+    requires some { from ≤ to }
+    requires near { to < 2 ^ 32 }
+    ensures { Painted Black (span from to) row.old row.new }
+{
+    if to - from <= u64::from(NARROW) {
+        paint_narrow(
+            Op::Black,
+            first_dots((to - from) as u32),
+            from as usize,
+            row,
+        );
+    } else {
+        fill_dots(Op::Black, from, to, row);
     }
 }
 

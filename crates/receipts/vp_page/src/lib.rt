@@ -9,6 +9,8 @@ mod different;
 mod laws;
 mod line;
 mod page;
+mod row_writer;
+mod run_columns;
 mod runs;
 mod still;
 mod white;

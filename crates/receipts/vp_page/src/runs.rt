@@ -1,7 +1,7 @@
 //! Lines of which each is laid across the page many times, one beside the other: squares of as many lines as
 //! a word has dots are turned, and of the page's rows that come out each different one is made once, and laid
 //! as often as it stands.
-ghost use Rattle.std.specs.Prelude.{◌≡◌, ℕ, Bool, true, false, ◌+◌, ◌-◌, ◌*◌, ◌<◌, ◌≤◌, ◌^◌, ◌&&◌, nat_lt, List, [], length, slice_index, slice_index_or};
+ghost use Rattle.std.specs.Prelude.{◌≡◌, ℕ, Bool, true, false, ◌+◌, ◌-◌, ◌*◌, ◌<◌, ◌≤◌, ◌^◌, ◌==◌, ◌&&◌, nat_lt, List, [], length, slice_index, slice_index_or};
 ghost use Rattle.vp_dots.specs.Dots.{dot, span};
 ghost use Rattle.vp_dots.specs.Words.{word_dot};
 ghost use Rattle.vp_dots.specs.Painting.{Painted};
@@ -9,18 +9,20 @@ ghost use Rattle.vp_dots.specs.Places.{RowsPainted};
 ghost use Rattle.vp_dots.specs.declared.Op.TheVariants.{Black};
 ghost use Rattle.vp_dots.specs.declared.square.TheConstants.{SIDE};
 ghost use Rattle.vp_page.specs.Lines.{line_dot};
-ghost use Rattle.vp_page.specs.Runs.{AreRuns, IsShade, across_dot, along_of, depth_of, topmost};
+ghost use Rattle.vp_page.specs.Runs.{AreRuns, IsShade, across_dot, along_of, column_dot, placed, topmost};
 ghost use Rattle.vp_page.specs.declared.line.TheConstants.{LINE_DOTS};
 ghost use Rattle.vp_page.specs.declared.page.TheConstants.{PAGE_ROWS, PAPER_DOTS};
 
-use crate::across::square_of;
+use crate::across::{place, square_of};
 use crate::along::lay_bytes;
 use crate::area::{Area, Way};
 use crate::changes::changes_of;
-use crate::line::{LINE_BYTES, drawn};
+use crate::line::{LINE_BYTES, dots_from, drawn};
 use crate::page::{PAGE_ROWS, PAPER_BYTES, PageBand};
+use crate::row_writer::RowWriter;
+use crate::run_columns::{Columns, columns_of};
 use crate::still::{Shade, still_from};
-use vp_dots::{Ink, NARROW, Op, SIDE, Small, fill_dots, first_dots, paint_narrow, turned_square};
+use vp_dots::{Ink, SIDE, Small, first_dots, turned_square};
 
 /// The depths at which lines begin, and behind them that at which the last one ends.
 pub(crate) type Begins = [u32; SIDE + 1];
@@ -73,66 +75,35 @@ fn is_black(word: u64, i: u32) -> bool
     word >> (63 - i) & 1 == 1
 }
 
-/// The columns of an area between two depths, of lines that run up or down.
+/// How many dots of a word, from one on, are known to be as that one.
 #[inline(always)]
-pub(crate) fn columns(area: Area, way: Way, from: u32, to: u32) -> (u64, u64)
-    requires some { from ≤ to }
-    requires deep { to ≤ area.dx }
-    ensures dots { (x : ℕ) → span result.0 result.1 x ≡
-        (span area.x (area.x + area.dx) x && span from to (depth_of area way x)) }
-    ensures wide { result.1 ≡ result.0 + (to - from) }
-    ensures near { result.1 < 2 ^ 32 }
+fn alike_from(word: u64, i: u32) -> u32
+    requires { i < 64 }
+    ensures some { 0 < result }
+    ensures same { (k : ℕ) → i ≤ k → k < i + result → k < 64 → word_dot word k ≡ word_dot word i }
 {
-    let (from, to) = (u64::from(from), u64::from(to));
-    let left = u64::from(area.x);
-    let right = left + u64::from(area.dx);
-    match way {
-        Way::Up => (left + from, left + to),
-        Way::Down => (right - to, right - from),
-    }
+    let rest = word << i;
+    let others = if is_black(word, i) { !rest } else { rest };
+    others.leading_zeros()
 }
 
-/// Blackens the dots from one to another, which mostly are few.
-#[inline(always)]
-pub(crate) fn blacken(from: u64, to: u64, row: &mut [u8])
-    requires some { from ≤ to }
-    requires near { to < 2 ^ 32 }
-    ensures { Painted Black (span from to) row.old row.new }
+/// The row of the page on whose columns lines show their dots of a word.
+fn spread(word: u64, columns: &Columns) -> [u8; PAPER_BYTES]
+    ensures within { (x : ℕ) → x < PAPER_DOTS → dot result x ≡ true →
+        span (slice_index columns.now.edges columns.now.first)
+        (slice_index columns.now.edges columns.now.last) x ≡ true }
+    ensures dots { (i x : ℕ) → columns.now.first ≤ i → i < columns.now.last →
+        slice_index columns.now.edges i ≤ x → x < slice_index columns.now.edges (i + 1) → x < PAPER_DOTS →
+        dot result x ≡ word_dot word i }
 {
-    if to - from <= u64::from(NARROW) {
-        paint_narrow(
-            Op::Black,
-            first_dots((to - from) as u32),
-            from as usize,
-            row,
-        );
-    } else {
-        fill_dots(Op::Black, from, to, row);
+    let mut row = RowWriter::behind(columns.edges[columns.first]);
+    let mut i = columns.first;
+    while i < columns.last {
+        let next = (i + alike_from(word, i as u32) as usize).min(columns.last);
+        row.extend(is_black(word, i as u32), columns.edges[next]);
+        i = next;
     }
-}
-
-/// The row of the page on which each of the first n dots of a word stands from the depth on at which its line
-/// begins.
-fn spread(word: u64, begins: &Begins, n: usize, area: Area, way: Way) -> [u8; PAPER_BYTES]
-    requires runs { AreRuns begins.now n area.dx }
-    ensures { (ink : ℕ → Bool) → ((i w : ℕ) → i < n → slice_index begins.now i ≤ w →
-        w < slice_index begins.now (i + 1) → word_dot word i ≡ ink w) → (x : ℕ) → x < PAPER_DOTS →
-        dot result x ≡ (span area.x (area.x + area.dx) x
-        && (span (slice_index begins.now 0) (slice_index begins.now n) (depth_of area way x)
-        && ink (depth_of area way x))) }
-{
-    let mut row = [0; PAPER_BYTES];
-    let mut first = 0;
-    for i in 0..n {
-        if !is_black(word, i as u32) {
-            let (from, to) = columns(area, way, begins[first], begins[i]);
-            blacken(from, to, &mut row);
-            first = i + 1;
-        }
-    }
-    let (from, to) = columns(area, way, begins[first], begins[n]);
-    blacken(from, to, &mut row);
-    row
+    row.row()
 }
 
 /// How many words, from one on and before another, are known to be as the first of them.
@@ -169,28 +140,27 @@ fn lay_word<A: Small>(
     word: u64,
     at: usize,
     rows: usize,
-    begins: &Begins,
-    n: usize,
+    columns: &Columns,
     area: Area,
     way: Way,
     band: &mut PageBand<A>,
 )
-    requires runs { AreRuns begins.now n area.dx }
     requires long { at + rows ≤ area.dy }
-    ensures { (ink : ℕ → ℕ → Bool) → ((i u w : ℕ) → i < n → at ≤ u → u < at + rows →
-        slice_index begins.now i ≤ w → w < slice_index begins.now (i + 1) → word_dot word i ≡ ink u w) →
+    ensures { (ink : ℕ → ℕ → Bool) → ((i u x : ℕ) → columns.now.first ≤ i → i < columns.now.last →
+        at ≤ u → u < at + rows → slice_index columns.now.edges i ≤ x →
+        x < slice_index columns.now.edges (i + 1) → word_dot word i ≡ ink x u) →
         RowsPainted PAGE_ROWS Black (λ x y. span at (at + rows) (along_of area way y)
-        && across_dot area way (slice_index begins.now 0) (slice_index begins.now n) ink x y)
-        band.old band.new }
+        && column_dot area way (slice_index columns.now.edges columns.now.first)
+        (slice_index columns.now.edges columns.now.last) ink x y) band.old band.new }
 {
     if word == 0 {
         return;
     }
-    let row = spread(word, begins, n, area, way);
-    let (left, right) = columns(area, way, begins[0], begins[n]);
-    let (first, bytes) = (left as usize / 8, (right - left) as usize / 8 + 2);
+    let row = spread(word, columns);
+    let left = columns.edges[columns.first] as usize;
+    let wide = columns.edges[columns.last] as usize - left;
     let top = top_of(area, way, at, rows);
-    lay_bytes(&row, first, bytes, rows, top, band);
+    lay_bytes(&row, left / 8, wide / 8 + 2, rows, top, band);
 }
 
 /// Lays the first words of a square, each along the rows of the page at one place of the lines: the first at
@@ -199,25 +169,24 @@ fn lay_turned<A: Small>(
     words: &[u64; SIDE],
     at: usize,
     rows: usize,
-    begins: &Begins,
-    n: usize,
+    columns: &Columns,
     area: Area,
     way: Way,
     band: &mut PageBand<A>,
 )
-    requires runs { AreRuns begins.now n area.dx }
     requires few { rows ≤ 64 }
     requires long { at + rows ≤ area.dy }
-    ensures { (ink : ℕ → ℕ → Bool) → ((i j w : ℕ) → i < n → j < rows → slice_index begins.now i ≤ w →
-        w < slice_index begins.now (i + 1) → word_dot (slice_index words.now j) i ≡ ink (at + j) w) →
+    ensures { (ink : ℕ → ℕ → Bool) → ((i j x : ℕ) → columns.now.first ≤ i → i < columns.now.last →
+        j < rows → slice_index columns.now.edges i ≤ x → x < slice_index columns.now.edges (i + 1) →
+        word_dot (slice_index words.now j) i ≡ ink x (at + j)) →
         RowsPainted PAGE_ROWS Black (λ x y. span at (at + rows) (along_of area way y)
-        && across_dot area way (slice_index begins.now 0) (slice_index begins.now n) ink x y)
-        band.old band.new }
+        && column_dot area way (slice_index columns.now.edges columns.now.first)
+        (slice_index columns.now.edges columns.now.last) ink x y) band.old band.new }
 {
     let mut j = 0;
     while j < rows {
         let times = alike(words, j, rows);
-        lay_word(words[j], at + j, times, begins, n, area, way, band);
+        lay_word(words[j], at + j, times, columns, area, way, band);
         j += times;
     }
 }
@@ -237,17 +206,41 @@ pub(crate) fn on_page(area: Area, way: Way) -> (usize, usize)
     }
 }
 
-/// A word of what lines show at one place, where their shade is known.
-fn word_of(lines: &[[u8; LINE_BYTES]], at: usize, shade: Shade) -> u64
+/// The first dot of a word, at another place of it.
+#[inline(always)]
+fn first_at(word: u64, place: u32) -> u64
+    requires { place < 64 }
+    ensures { (x : ℕ) → x < 64 → word_dot result x ≡ (x == place && word_dot word 0) }
+{
+    (word & first_dots(1)) >> place
+}
+
+/// A word of the lines' dots at one place, in the order of their columns.
+fn dots_at(lines: &[[u8; LINE_BYTES]], at: usize, way: Way) -> u64
+    requires few { length lines.now ≤ SIDE }
+    requires near { at < 2 ^ 62 }
+    ensures { (i : ℕ) → i < 64 → placed way 64 i < length lines.now →
+        word_dot result i ≡ line_dot lines.now (placed way 64 i) at }
+{
+    let mut word = 0;
+    for i in 0..lines.len() {
+        word |= first_at(dots_from(&lines[i], at), place(way, SIDE, i) as u32);
+    }
+    word
+}
+
+/// A word of what lines show at one place, where their shade is known, in the order of their columns.
+fn word_of(lines: &[[u8; LINE_BYTES]], at: usize, shade: Shade, way: Way) -> u64
     requires few { length lines.now ≤ SIDE }
     requires near { at < 2 ^ 62 }
     requires shade { IsShade lines.now at shade }
-    ensures { (i : ℕ) → i < length lines.now → word_dot result i ≡ line_dot lines.now i at }
+    ensures { (i : ℕ) → i < 64 → placed way 64 i < length lines.now →
+        word_dot result i ≡ line_dot lines.now (placed way 64 i) at }
 {
     match shade {
         Shade::White => 0,
         Shade::Black => u64::MAX,
-        Shade::Mixed => turned_square(&square_of(lines, at, Way::Up))[0],
+        Shade::Mixed => dots_at(lines, at, way),
     }
 }
 
@@ -269,20 +262,20 @@ pub(crate) fn lay_runs<A: Small>(
         RowsPainted PAGE_ROWS Black (across_dot area way (slice_index begins.now 0)
         (slice_index begins.now (length lines.now)) (λ u w. nat_lt u long && ink u w)) band.old band.new }
 {
-    let n = lines.len();
     let (from, below) = on_page(area, way);
     let end = below.min(long);
+    let columns = columns_of(begins, lines.len(), area, way);
     let changes = changes_of(lines);
     let mut at = from;
     while at < end {
         if let Some((shade, rows)) = still_from(lines, &changes, at, end) {
-            let word = word_of(lines, at, shade);
-            lay_word(word, at, rows, begins, n, area, way, band);
+            let word = word_of(lines, at, shade, way);
+            lay_word(word, at, rows, &columns, area, way, band);
             at += rows;
         } else {
             let rows = (end - at).min(SIDE);
-            let square = turned_square(&square_of(lines, at, Way::Up));
-            lay_turned(&square, at, rows, begins, n, area, way, band);
+            let square = turned_square(&square_of(lines, at, way));
+            lay_turned(&square, at, rows, &columns, area, way, band);
             at += rows;
         }
     }

@@ -12,7 +12,7 @@ loop-j-preserved g c =
     record {
       within = c.alike-times.ensures.within;
       laid = λ ink same. rw next (rows_then _ _ _ _ _ _ (λ x y. grind (arith, nat_tests)) (c.loop-j.invariant.laid ink same)
-          (c.lay_word.ensures ink (λ i u w h p l q r. grind (arith, c.alike-times.ensures.within, c.alike-times.ensures.same (u - (at + j)), same i (u - at) w h))));
+          (c.lay_word.ensures ink (λ i u x h k p l q r. grind (arith, c.alike-times.ensures.within, c.alike-times.ensures.same (u - (at + j)), same i (u - at) x h k))));
     }
 
 pub returns : goal.returns

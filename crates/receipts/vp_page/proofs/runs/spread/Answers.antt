@@ -1,47 +1,39 @@
-use Rattle.std.proofs.Common.{◌≡◌, ℕ, ◌+◌, ◌∙◌, Bool, get_or, sym, arith}
+use Rattle.std.proofs.Common.{inl, inr, ◌≡◌, ℕ, ◌+◌, ◌<◌, ◌≤◌, ◌∙◌, sym, ap, get_or, ◌&&◌, ◌||◌, arith}
+use Rattle.std.proofs.lemmas.Bool.{cases_lt}
 use Rattle.vp_dots.specs.Dots.{span}
-use Rattle.vp_dots.specs.declared.Op.TheVariants.{Black}
-use Rattle.vp_dots.proofs.Paints.{painted_same}
-use Rattle.vp_page.specs.Runs.{depth_of}
-use Rattle.vp_page.proofs.PageRows.{row_made}
-use Rattle.vp_page.proofs.RunRows.{more_white, rises, run_more}
-use Rattle.vp_page.proofs.runs.spread.Goals.{then-not-is_black, else-not-is_black}
+use Rattle.vp_page.specs.Written.{written_dot}
+use Rattle.vp_page.specs.declared.page.TheConstants.{PAPER_DOTS}
+use Rattle.vp_page.proofs.RunRows.{rises}
+use Rattle.vp_page.proofs.WrittenRows.{run_before, run_on, run_within}
 use Rattle.vp_page.proofs.runs.spread.Goals as goal
 
-pub columns-from-requires-clause-some : goal.columns-from-requires-clause-some
-columns-from-requires-clause-some c = rises _ _ _ _ _ c.requires.runs c.loop-i.invariant.before (omega (arith, c.loop-i-test.true))
-
-pub columns-from-requires-2-clause-some : goal.columns-from-requires-2-clause-some
-columns-from-requires-2-clause-some c = rises _ _ _ _ _ c.requires.runs (omega (arith, c.loop-i.invariant.before, c.loop-i.auto.i-end)) (omega arith)
+pub extend-requires-clause-on : goal.extend-requires-clause-on
+extend-requires-clause-on c =
+    let columns = c.args.columns.now in
+    let next : c.loop-i.i ≤ c.min-next.result = omega (arith, c.min-next.ensures, c.loop-i-test.true) in
+    rw c.loop-i.invariant.to (rises columns.edges columns.last c.loop-i.i c.min-next.result (λ j h l. columns.rise j (omega (arith, h, c.loop-i.invariant.from)) l) next (omega (arith, c.min-next.ensures)))
 
 pub loop-i-preserved : goal.loop-i-preserved
 loop-i-preserved c =
-    let a = c.args.area in
+    let columns = c.args.columns.now in
     let i = c.loop-i.i in
-    let begins = c.args.begins.now in
-    let deep : ℕ → ℕ = depth_of a c.args.way in
-    let inside : ℕ → Bool = λ x. span a.x (a.x + a.dx) x in
-    elim c.if-not-is_black.branch [
-      | then-not-is_black w ↦ rw (w.row-is, w.first-is) (record {
-        before = omega arith;
-        black = λ k p q. absurd (omega (arith, p, q));
-        done = λ ink same. painted_same Black _ _ _ _ (λ d l. more_white (get_or begins 0 0) (get_or begins i 0) (get_or begins (i + 1) 0) (deep d) (inside d)
-            (c.requires.runs.from_first i (omega (arith, c.loop-i-test.true)))
-            (c.requires.runs.rise i c.loop-i-test.true) (ink (deep d)) (λ p q. sym (same i (deep d) c.loop-i-test.true p q) ∙ sym c.is_black.ensures ∙ w.if-not-is_black.true))
-            (run_more begins c.args.word c.loop-i.first i c.args.n a.dx deep inside _ ink _ _ _ c.requires.runs c.loop-i.invariant.before (omega (arith, c.loop-i-test.true)) c.loop-i.invariant.black same
-            w.columns-from.ensures.dots (c.loop-i.invariant.done ink same) w.blacken.ensures);
-      })
-      | else-not-is_black w ↦ rw (w.row-is, w.first-is) (record {
-        before = omega (arith, c.loop-i.invariant.before);
-        black = λ k p q. grind (arith, c.loop-i.invariant.black k p, c.is_black.ensures, w.if-not-is_black.false);
-        done = c.loop-i.invariant.done;
-      })
-    ]
+    let next = c.min-next.result in
+    let edge : ℕ → ℕ = λ k. get_or columns.edges k 0 in
+    let inside : next ≤ columns.last = omega (arith, c.min-next.ensures) in
+    let on : i ≤ next = omega (arith, c.min-next.ensures, c.loop-i-test.true) in
+    let up : (f k : ℕ) → columns.first ≤ f → f ≤ k → k ≤ columns.last → edge f ≤ edge k = λ f k h l m. rises columns.edges columns.last f k (λ j p q. columns.rise j (omega (arith, h, p)) q) l m in
+    let is : (x : ℕ) → x < PAPER_DOTS → written_dot c.extend.new.self x ≡ (written_dot c.loop-i.row x || (span (edge i) (edge next) x && c.is_black.result)) = λ x m. c.extend.ensures.dots x m ∙ ap (λ t. written_dot c.loop-i.row x || (span t (edge next) x && c.is_black.result)) c.loop-i.invariant.to in
+    record {
+      from = omega (arith, c.loop-i.invariant.from, on);
+      inside = inside;
+      to = c.extend.ensures.to;
+      within = λ x m. run_within (edge i) (edge next) (edge columns.first) x _ _ _ (is x m) (up columns.first i (omega arith) c.loop-i.invariant.from c.loop-i.invariant.inside) (up i next c.loop-i.invariant.from on inside) (c.loop-i.invariant.within x m);
+      dots = λ k x h l p q m. elim (cases_lt k i) [
+        | inl b ↦ run_before (edge i) (edge next) 0 x _ _ _ (is x m) _ (c.loop-i.invariant.dots k x h b p q m) (omega (arith, q, up (k + 1) i (omega (arith, h)) (omega (arith, b)) c.loop-i.invariant.inside))
+        | inr g ↦ run_on (edge i) (edge next) (edge columns.first) x _ _ _ (is x m) _ (c.is_black.ensures ∙ sym (c.alike_from.ensures.same k g (omega (arith, l, c.min-next.ensures)) (omega (arith, l, inside, columns.few))))
+            (omega (arith, p, up i k c.loop-i.invariant.from g (omega (arith, l, inside)))) (omega (arith, q, up (k + 1) next (omega (arith, h)) (omega (arith, l)) inside)) (c.loop-i.invariant.within x m)
+      ];
+    }
 
-pub returns : goal.returns
-returns c = λ ink same x h.
-    let a = c.args.area in
-    let last : c.loop-i.i ≡ c.args.n = omega (arith, c.loop-i-test.false, c.loop-i.auto.i-end) in
-    row_made _ x c.blacken-2.new.row (run_more c.args.begins.now c.args.word c.loop-i.first c.args.n c.args.n a.dx (depth_of a c.args.way) (λ x. span a.x (a.x + a.dx) x) _ ink _ _ _ c.requires.runs
-    (omega (arith, c.loop-i.invariant.before, last)) (omega arith) (λ k r s. c.loop-i.invariant.black k r (omega (arith, s, last))) same c.columns-from-2.ensures.dots
-    (c.loop-i.invariant.done ink same) c.blacken-2.ensures) h
+pub returns-clause-dots : goal.returns-clause-dots
+returns-clause-dots c = λ i x h l p q m. c.row.ensures x m ∙ c.loop-i.invariant.dots i x h (omega (arith, l, c.loop-i-test.false)) p q m

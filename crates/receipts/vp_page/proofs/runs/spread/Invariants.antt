@@ -1,16 +1,19 @@
-use Rattle.std.proofs.Common.{◌≡◌, ℕ, ◌+◌, ◌<◌, ◌≤◌, true, Bool, ◌&&◌, get_or, replicate}
+use Rattle.std.proofs.Common.{◌≡◌, ℕ, ◌+◌, ◌-◌, ◌<◌, ◌≤◌, true, get_or}
 use Rattle.vp_dots.specs.Dots.{span}
 use Rattle.vp_dots.specs.Words.{word_dot}
-use Rattle.vp_dots.specs.Painting.{Painted}
-use Rattle.vp_dots.specs.declared.Op.TheVariants.{Black}
-use Rattle.vp_page.specs.Runs.{depth_of}
+use Rattle.vp_page.specs.Written.{written_dot}
+use Rattle.vp_page.specs.declared.page.TheConstants.{PAPER_DOTS}
 use Rattle.vp_page.proofs.runs.spread.Given as goal
 
--- the lines before the first of a run are done, and those from it on are black
+-- the lines before this one are written
 abbrev pub invariant-loop-i : goal.invariant-loop-i
 invariant-loop-i l = record {
-  before : l.first ≤ l.i;
-  black : (k : ℕ) → l.first ≤ k → k < l.i → word_dot l.word k ≡ true;
-  done : (ink : ℕ → Bool) → ((i w : ℕ) → i < l.n → get_or l.begins i 0 ≤ w → w < get_or l.begins (i + 1) 0 → word_dot l.word i ≡ ink w)
-      → Painted Black (λ x. span l.area.x (l.area.x + l.area.dx) x && (span (get_or l.begins 0 0) (get_or l.begins l.first 0) (depth_of l.area l.way x) && ink (depth_of l.area l.way x))) (replicate 72 0) l.row;
+  from : l.columns.first ≤ l.i;
+  inside : l.i ≤ l.columns.last;
+  to : l.row.to ≡ get_or l.columns.edges l.i 0;
+  within : (x : ℕ) → x < PAPER_DOTS → written_dot l.row x ≡ true → span (get_or l.columns.edges l.columns.first 0) (get_or l.columns.edges l.i 0) x ≡ true;
+  dots : (k x : ℕ) → l.columns.first ≤ k → k < l.i → get_or l.columns.edges k 0 ≤ x → x < get_or l.columns.edges (k + 1) 0 → x < PAPER_DOTS → written_dot l.row x ≡ word_dot l.word k;
 }
+
+abbrev pub decreases-loop-i : goal.decreases-loop-i
+decreases-loop-i l = l.columns.last - l.i

@@ -10,7 +10,7 @@ pub invariant_of-self : goal.invariant_of-self
 invariant_of-self g c =
     let n = length c.args.lines.now in
     laid_on _ c.self.inside.laid _ _ c.self.inside.band _ c.self.invariant (c.lay_runs.ensures (λ u w. line_dot c.args.lines.now (run_of c.args.begins.now n w) u)
-    (λ i u w h p q. ap (λ k. line_dot c.args.lines.now k u) (sym (run_is c.args.begins.now n i w h c.requires.runs.rise p q))))
+    (λ i u w h p q. ap (λ k. line_dot c.args.lines.now k u) (sym (run_is c.args.begins.now n i w h (λ j _. c.requires.runs.rise j) p q))))
     c.with-self-inside.ensures.within c.with-self-inside.ensures.these (λ x y h e. c.with-self-inside.ensures.others y h (rw c.of.ensures (in_area c.args.area x y _ e)))
 
 pub returns : goal.returns
