@@ -1,16 +1,14 @@
 -- A line as the lowest rows of a bitmap.
-use Rattle.std.proofs.Common.{◌≡◌, ℕ, ◌-◌, ◌/◌, ◌%◌, ◌<◌, ◌≤◌, Bool, true, false, leb, ◌&&◌, ◌||◌, max, pos, refl, eqb, ap, ◌∙◌, arith, List, [], ◌∷◌, length, get_or, replicate, if◌then◌else◌, lit≤}
-use Rattle.std.proofs.lemmas.Bool.{lt-leb}
+use Rattle.std.proofs.Common.{◌≡◌, ℕ, ◌-◌, ◌/◌, ◌%◌, ◌<◌, ◌≤◌, Bool, true, false, max, pos, refl, eqb, ap, ◌∙◌, arith, List, [], length, get_or, replicate, if◌then◌else◌, lit≤}
 use Rattle.std.proofs.lemmas.Bool.Decides.{nat_tests}
 use Rattle.std.proofs.lemmas.List.{get_or-replicate, length-replicate}
 use Rattle.std.proofs.lemmas.Nat.Bits.{bit_at-zero}
 use Rattle.vp_dots.specs.Dots.{dot, bit, span}
 use Rattle.vp_dots.specs.Places.{placed, RowsPainted}
 use Rattle.vp_dots.specs.declared.Op.TheVariants.{Black}
-use Rattle.vp_receipt_settings.specs.Line.{Placed}
 use Rattle.vp_page.specs.declared.line.TheConstants.{LINE_BYTES, LINE_DOTS}
 use Rattle.vp_receipt_settings.specs.declared.text.TheConstants.{LINE_ROWS}
-use Rattle.vp_strips.specs.LineDots.{any_dot, ink_placed, HasDots, IsWhiteAbove}
+use Rattle.vp_strips.specs.LineDots.{HasDots, IsWhiteAbove}
 
 -- a white row
 pub dot_white : (n x : ℕ) → x / 8 < n → dot (replicate n 0) x ≡ false
@@ -21,10 +19,7 @@ white_rows : (high wide : ℕ) (bitmap : List (List ℕ)) → bitmap ≡ replica
 white_rows high wide bitmap e y h = ap (λ (rows : List (List ℕ)). get_or rows y []) e ∙ get_or-replicate high y (replicate wide 0) [] h
 
 pub blank : (high wide : ℕ) (bitmap : List (List ℕ)) → high ≡ LINE_ROWS → wide ≡ LINE_BYTES → bitmap ≡ replicate high (replicate wide 0) → HasDots [] bitmap
-blank high wide bitmap a b e = record {
-  rows_are = λ y h. ap length (white_rows high wide bitmap e y (omega arith)) ∙ length-replicate {A = ℕ} wide 0 ∙ b;
-  dots_are = λ x y k h. ap (λ row. dot row x) (white_rows high wide bitmap e y (omega arith)) ∙ dot_white wide x (omega arith);
-}
+blank high wide bitmap a b e = grind (arith, white_rows, length-replicate, dot_white)
 
 -- a white bitmap has no row in use
 pub none_used : (bitmap : List (List ℕ)) → HasDots [] bitmap → IsWhiteAbove 0 bitmap
@@ -52,23 +47,7 @@ cleared used from old new e is rows =
       dots_are = λ x y k h. (row y h).1 x k;
     }
 
-item_after : (a b i o : Bool) → (if (b && (a && i)) then true else o) ≡ (a && b && i || o)
-item_after a b i o = grind arith
-
 -- ink on the lowest rows
 module _ (at high : ℕ) (ink : ℕ → ℕ → Bool) (old new : List (List ℕ)) (few : high ≤ LINE_ROWS) (p : RowsPainted LINE_ROWS Black (placed (pos at) (pos (LINE_ROWS - high)) ink) old new) where
   pub inked_white : (used : ℕ) → IsWhiteAbove used old → IsWhiteAbove (max used high) new
-  inked_white used w = record {
-    few = omega (arith, few, w.few);
-    rows_are = λ y h. (p.rows_are y h).length_is ∙ w.rows_are y h;
-    white = λ x y h k.
-        let below : y < LINE_ROWS = omega (arith, k) in
-        (p.rows_are y below).dots_are x (omega (arith, h, w.rows_are y below)) ∙ rw (lt-leb (LINE_ROWS - high) y (omega (arith, k))) (w.white x y h (omega (arith, k)));
-  }
-
-  pub inked_line : (wide : ℕ) (line : List Placed) → HasDots line old → HasDots (ink_placed at wide high ink ∷ line) new
-  inked_line wide line d = record {
-    rows_are = λ y h. (p.rows_are y h).length_is ∙ d.rows_are y h;
-    dots_are = λ x y h k. (p.rows_are y k).dots_are x (omega (arith, h, d.rows_are y k)) ∙ ap (λ b. if placed (pos at) (pos (LINE_ROWS - high)) ink x y then true else b) (d.dots_are x y h k)
-        ∙ item_after (leb at x) (leb (LINE_ROWS - high) y) (ink (x - at) (y - (LINE_ROWS - high))) (any_dot line LINE_ROWS x y);
-  }
+  inked_white used w = grind arith

@@ -1,8 +1,7 @@
 -- Many dots of a row made black.
-use Rattle.std.proofs.Common.{◌≡◌, ℕ, ◌+◌, ◌-◌, ◌/◌, ◌<◌, ◌≤◌, Bool, true, eqb, ltb, leb, ◌&&◌, ◌||◌, refl, arith, List, length, get_or, replicate}
+use Rattle.std.proofs.Common.{◌≡◌, ℕ, ◌+◌, ◌/◌, ◌<◌, ◌≤◌, Bool, true, eqb, ◌&&◌, refl, arith, List, length, get_or, replicate}
 use Rattle.std.specs.Int.{bit_at}
 use Rattle.std.proofs.lemmas.List.{get_or-replicate, length-replicate}
-use Rattle.std.proofs.lemmas.Bool.Decides.{nat_tests}
 use lib.Lanes.{put_chunk}
 use Rattle.vp_dots.specs.Dots.{bit, span}
 use Rattle.vp_dots.specs.Painting.{Painted}
@@ -22,8 +21,3 @@ black_lane n j k m h = rw (get_or-replicate {A = ℕ} n j 255 0 m) (every_at 8 (
 pub black_block : (n i : ℕ) (row : List ℕ) → i + n ≤ length row → Painted Black (λ d. span i (i + n) (d / 8)) row (put_chunk i row (replicate n 255))
 black_block n i row room = painted_same Black (λ d. span i (i + n) (d / 8) && true) (λ d. span i (i + n) (d / 8)) row _ (λ d l. and_all (span i (i + n) (d / 8)))
     (painted_block Black (λ d. true) i n row (replicate n 255) (length-replicate {A = ℕ} n 255) room (λ j m k h. black_lane n j k m h))
-
--- whole bytes, and the dots before and behind them
-pub three_spans : (s : Bool) (at from end to x : ℕ) → at ≤ from → from ≤ end → end ≤ to
-    → (s && span at to x) ≡ ((s && span from end x || s && (leb at x && ltb (x - at) (from - at))) || s && (leb end x && ltb (x - end) (to - end)))
-three_spans s at from end to x h k l = grind (arith, nat_tests)

@@ -1,7 +1,8 @@
+use Rattle.std.proofs.lemmas.Bool.Decides.{nat_tests}
 -- The dots of a row, each of them twice.
-use Rattle.std.proofs.Common.{◌≡◌, ℕ, ◌+◌, ◌-◌, ◌*◌, ◌/◌, ◌%◌, ◌^◌, ◌<◌, ◌≤◌, true, eqb, ltb, ◌&&◌, inl, inr, refl, sym, ap, ◌∙◌, arith, List, [], ◌∷◌, length, replicate, get_or, set, length-set, bit_and, min, eq-eqb}
+use Rattle.std.proofs.Common.{◌≡◌, ℕ, ◌+◌, ◌-◌, ◌*◌, ◌/◌, ◌%◌, ◌^◌, ◌<◌, ◌≤◌, eqb, ltb, ◌&&◌, refl, ap, ◌∙◌, arith, List, [], ◌∷◌, length, replicate, get_or, set, length-set, bit_and, min}
 use Rattle.std.specs.Int.{bit_at}
-use Rattle.std.proofs.lemmas.Bool.{agree_below, agree_below_at, cases_lt, cases_eq, lt-ltb, le-ltb, ne_eqb}
+use Rattle.std.proofs.lemmas.Bool.{agree_below_at, lt-ltb, le-ltb}
 use Rattle.std.proofs.lemmas.List.{length-replicate}
 use Rattle.std.proofs.lemmas.Nat.{shr-shr}
 use Rattle.std.proofs.lemmas.Nat.Bits.{bit_at_and, bit_at_ones, bit_at-lt}
@@ -15,15 +16,12 @@ abbrev pub doubled_halves : List ℕ
 doubled_halves = 0 ∷ 3 ∷ 12 ∷ 15 ∷ 48 ∷ 51 ∷ 60 ∷ 63 ∷ 192 ∷ 195 ∷ 204 ∷ 207 ∷ 240 ∷ 243 ∷ 252 ∷ 255 ∷ []
 
 -- checked bit by bit
-each_twice : agree_below (λ n. bit (get_or doubled_halves (n / 8) 0) (n % 8)) (λ n. bit (n / 8) (n % 8 / 2)) 128 ≡ true
-unfolding bit
-each_twice = refl
-
 pub bit-doubled_half : (half k : ℕ) → half < 16 → k < 8 → bit (get_or doubled_halves half 0) k ≡ bit half (k / 2)
+unfolding bit
 bit-doubled_half half k h l =
     let q : (8 * half + k) / 8 ≡ half = omega arith in
     let r : (8 * half + k) % 8 ≡ k = omega arith in
-    rw (q, r) at (agree_below_at (λ n. bit (get_or doubled_halves (n / 8) 0) (n % 8)) (λ n. bit (n / 8) (n % 8 / 2)) 128 (8 * half + k) each_twice (omega arith))
+    rw (q, r) at (agree_below_at (λ n. bit (get_or doubled_halves (n / 8) 0) (n % 8)) (λ n. bit (n / 8) (n % 8 / 2)) 128 (8 * half + k) refl (omega arith))
 
 -- the bits of a byte's halves
 bit_high : (byte k : ℕ) → bit (byte / 2 ^ 4) k ≡ bit byte (4 + k)
@@ -40,10 +38,7 @@ pub record IsDoubled (row : List ℕ) (i : ℕ) (wide : List ℕ) : Type 0 where
   pub dots_are : (x : ℕ) → x < LINE_DOTS → dot wide x ≡ (ltb x (16 * i) && dot row (x / 2))
 
 pub doubled_none : (row : List ℕ) → IsDoubled row 0 (replicate LINE_BYTES 0)
-doubled_none row = record {
-  long = length-replicate {A = ℕ} LINE_BYTES 0;
-  dots_are = λ x h. dot_white LINE_BYTES x (omega arith) ∙ sym (rw (le-ltb x (16 * 0) (omega arith)) refl);
-}
+doubled_none row = grind (arith, length-replicate {A = ℕ} LINE_BYTES 0, dot_white LINE_BYTES)
 
 -- a byte written, each half of it doubled
 module _ (row wide : List ℕ) (i left right : ℕ) (left_is : (k : ℕ) → k < 8 → bit left k ≡ bit (get_or row i 0 / 2 ^ 4) (k / 2)) (right_is : (k : ℕ) → k < 8 → bit right k ≡ bit (bit_and (get_or row i 0) 15) (k / 2)) where
@@ -56,22 +51,7 @@ module _ (row wide : List ℕ) (i left right : ℕ) (left_is : (k : ℕ) → k <
   right_dots x e = grind (arith, bit_low)
 
   pub doubled_more : i < 104 → IsDoubled row i wide → IsDoubled row (i + 1) (set (set wide (2 * i) left) (2 * i + 1) right)
-  doubled_more room d =
-      let now : length wide ≡ LINE_BYTES = d.long in
-      let long : length (set wide (2 * i) left) ≡ LINE_BYTES = length-set wide (2 * i) left ∙ now in
-      record {
-        long = length-set (set wide (2 * i) left) (2 * i + 1) right ∙ long;
-        dots_are = λ x h. dot-set (set wide (2 * i) left) (2 * i + 1) right x (omega arith) ∙ elim (cases_eq (x / 8) (2 * i + 1)) [
-          | inl y ↦ rw (eq-eqb (x / 8) (2 * i + 1) y, lt-ltb x (16 * (i + 1)) (omega arith)) (right_dots x y)
-          | inr n ↦ rw (ne_eqb (x / 8) (2 * i + 1) n) (dot-set wide (2 * i) left x (omega arith) ∙ elim (cases_eq (x / 8) (2 * i)) [
-            | inl y ↦ rw (eq-eqb (x / 8) (2 * i) y, lt-ltb x (16 * (i + 1)) (omega arith)) (left_dots x y)
-            | inr m ↦ rw (ne_eqb (x / 8) (2 * i) m) (d.dots_are x h ∙ ap (λ b. b && dot row (x / 2)) (elim (cases_lt x (16 * i)) [
-              | inl b ↦ rw (lt-ltb x (16 * i) b, lt-ltb x (16 * (i + 1)) (omega arith)) refl
-              | inr g ↦ rw (le-ltb x (16 * i) g, le-ltb x (16 * (i + 1)) (omega arith)) refl
-            ]))
-          ])
-        ];
-      }
+  doubled_more room d = grind (arith, length-set, dot-set, nat_tests, right_dots, left_dots)
 
 -- past the row there is no dot
 pub doubled_all : (row wide : List ℕ) (i n : ℕ) → n ≡ min (length row) 104 → n ≤ i → IsDoubled row i wide → (x : ℕ) → x < LINE_DOTS → dot wide x ≡ dot row (x / 2)

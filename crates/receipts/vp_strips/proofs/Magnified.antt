@@ -6,7 +6,6 @@ use Rattle.std.proofs.lemmas.Bool.Decides.{nat_tests}
 use Rattle.vp_dots.specs.Dots.{span}
 use Rattle.vp_dots.specs.Places.{RowsPainted}
 use Rattle.vp_dots.specs.Words.{word_dot}
-use Rattle.vp_dots.specs.declared.Op.{Op}
 use Rattle.vp_dots.specs.declared.Op.TheVariants.{Black}
 
 -- the line that is printed on a row
@@ -16,13 +15,6 @@ line_on w v t p from to = grind (arith, le-div_iff_mul-le, div-lt_iff_lt-mul, su
 pub past_lines : (w n t : ℕ) → 0 < t → n * t ≤ w → n ≤ w / t
 past_lines w n t p from = (le-div_iff_mul-le {k = t} {x = n} {y = w} p).1 from
 
--- as many rows more, that show one line
-module _ (high : ℕ) (op : Op) (f : ℕ → ℕ → Bool) (line : ℕ → Bool) (from times : ℕ) where
-  pub rows_alike : (a b c : List (List ℕ)) → ((x k : ℕ) → from ≤ k → k < from + times → f x k ≡ line x)
-      → RowsPainted high op (λ x k. ltb k from && f x k) a b → RowsPainted high op (λ x k. span from (from + times) k && line x) b c
-      → RowsPainted high op (λ x k. ltb k (from + times) && f x k) a c
-  rows_alike a b c e p q = grind arith
-
 -- dots that are drawn once each
 pub drawn_once : (word wm x : ℕ) → wm ≡ 1 → ((u : ℕ) → 12 ≤ u → word_dot word u ≡ false) → word_dot word x ≡ (ltb x (12 * wm) && word_dot word (x / wm))
 drawn_once word wm x e white = grind (arith, lt-ltb, le-ltb)
@@ -31,11 +23,8 @@ drawn_once word wm x e white = grind (arith, lt-ltb, le-ltb)
 module _ (at x wm : ℕ) (f : ℕ → Bool) where
   second : at ≤ x → 6 * wm ≤ x - at → x - at < 12 * wm → 6 + (x - (at + 6 * wm)) / wm ≡ (x - at) / wm
   second a g l =
-      let some : 0 < wm = omega arith in
       let back : x - (at + 6 * wm) + 6 * wm ≡ x - at = omega arith in
-      let more : (x - (at + 6 * wm) + 6 * wm) / wm ≡ (x - (at + 6 * wm)) / wm + 6 = add-mul-div_right (x - (at + 6 * wm)) 6 some in
-      let q : (x - at) / wm ≡ (x - (at + 6 * wm)) / wm + 6 = rw back at more in
-      omega arith
+      omega (arith, rw back at (add-mul-div_right (x - (at + 6 * wm)) 6 (let some : 0 < wm = omega arith in some)))
 
   apart : (a b : Bool) → ((leb at x && (ltb (x - at) (6 * wm) && a)) && (leb (at + 6 * wm) x && b)) ≡ false
   apart a b = grind arith

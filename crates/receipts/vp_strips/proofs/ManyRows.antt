@@ -7,7 +7,7 @@ use Rattle.std.proofs.lemmas.Bool.{lt-ltb, le-leb}
 use Rattle.std.proofs.lemmas.List.{take_at, drop_at, drop-drop, replicate-append-replicate}
 use Rattle.vp_page.specs.declared.page.TheConstants.{PAGE_ROWS, PAPER_DOTS}
 use Rattle.vp_dots.specs.Dots.{dot}
-use Rattle.vp_dots.specs.Images.{row_of, row_from}
+use Rattle.vp_dots.specs.Images.{row_from}
 use Rattle.vp_dots.proofs.ImageLaws.{length-pieces}
 use Rattle.vp_receipt_settings.specs.declared.width.Width.{Width}
 use Rattle.vp_receipt_settings.specs.Setup.{across, row_bytes}
@@ -31,7 +31,7 @@ whole_row row page_row d y same h k = grind (arith, lt-ltb, le-leb)
 module _ (row : ℕ → List ℕ) where
   -- the first of some rows, and the others
   pub rows_cut : (y k n : ℕ) → flat_map row (range_with_len y (k + n)) ≡ flat_map row (range_with_len y k) ++ flat_map row (range_with_len (y + k) n)
-  rows_cut y zero n = ap (λ m. flat_map row (range_with_len y m)) (let e : zero + n ≡ n = omega arith in e) ∙ ap (λ a. flat_map row (range_with_len a n)) (let e : y ≡ y + zero = omega arith in e)
+  rows_cut y zero n = grind arith
   rows_cut y (suc k) n =
       ap (λ m. flat_map row (range_with_len y m)) (let e : suc k + n ≡ suc (k + n) = omega arith in e)
       ∙ ap (λ xs. row y ++ xs) (rows_cut (y + 1) k n ∙ ap (λ a. flat_map row (range_with_len (y + 1) k) ++ flat_map row (range_with_len a n)) (let e : y + 1 + k ≡ y + suc k = omega arith in e))
@@ -69,11 +69,8 @@ module _ (paper : Width) (f : ℕ → ℕ → Bool) where
       → part ≡ row (y + k) ++ drop (length (row (y + k))) (take (length room - k * bytes) (drop (k * bytes) room))
       → put_mid (k * bytes) (length room - k * bytes) room part ≡ take ((k + 1) * row_bytes paper) (rows_text paper f y n) ++ drop ((k + 1) * row_bytes paper) old
   row_copied y k n bytes old room part e h fits before new =
-      let b = row_bytes paper in
-      let next : k * b + b ≡ (k + 1) * b = sym (suc-mul k b) ∙ ap (λ m. m * b) (let e : suc k ≡ k + 1 = omega arith in e) in
-      let all = mul-le-mul_right b (let l : k + 1 ≤ n = omega arith in l) in
-      rw (e, ← next) (put_more (rows_text paper f y n) old room part (k * b) b (omega (arith, next, all, length-rows y n)) (omega (arith, next, all)) before
-      ((rw e at new) ∙ ap (λ m. row (y + k) ++ drop m (take (length room - k * b) (drop (k * b) room))) (length-row (y + k)) ∙ ap (λ xs. xs ++ drop b (take (length room - k * b) (drop (k * b) room))) (sym (row_in y k n h))))
+      let all = mul-le-mul_right (row_bytes paper) (let l : k + 1 ≤ n = omega arith in l) in
+      grind (arith, all, suc-mul, put_more (rows_text paper f y n) old room part (k * row_bytes paper) (row_bytes paper), length-rows y n, length-row (y + k), row_in y k n h)
 
   -- a row fits behind k others
   pub row_fits : (k n bytes : ℕ) (old : List ℕ) → bytes ≡ row_bytes paper → k < n → n * row_bytes paper ≤ length old → k * bytes + row_bytes paper ≤ length old
@@ -83,18 +80,13 @@ module _ (paper : Width) (f : ℕ → ℕ → Bool) where
   pub rows_copied : (y n : ℕ) (old : List ℕ) → take (n * row_bytes paper) (rows_text paper f y n) ++ drop (n * row_bytes paper) old ≡ rows_text paper f y n ++ drop (n * row_bytes paper) old
   rows_copied y n old = ap (λ xs. xs ++ drop (n * row_bytes paper) old) (first_rows y n n (omega arith))
 
--- bytes with the dots of a row across the paper
-pub paper_row_is : (paper : Width) (f : ℕ → Bool) (row : List ℕ) → row ≡ row_of (row_bytes paper) f → row ≡ paper_row paper f
-unfolding paper_row
-paper_row_is paper f row e = e
-
 -- rows with the dots of others, which begin elsewhere
 rows_moved : (paper : Width) (f g : ℕ → ℕ → Bool) (y z n : ℕ) → ((x k : ℕ) → x < across paper → k < n → f x (y + k) ≡ g x (z + k)) → rows_text paper f y n ≡ rows_text paper g z n
 rows_moved paper f g y z zero h = refl
 rows_moved paper f g y z (suc n) h =
-    ap (λ r. r ++ rows_text paper f (y + 1) n) (paper_row_near paper (λ x. f x y) (λ x. g x z) (λ x l. ap (f x) (let e : y ≡ y + 0 = omega arith in e) ∙ h x 0 l (omega arith) ∙ ap (g x) (let e : z + 0 ≡ z = omega arith in e)))
-    ∙ ap (λ r. paper_row paper (λ x. g x z) ++ r) (rows_moved paper f g (y + 1) (z + 1) n
-    (λ x k l m. ap (f x) (let e : y + 1 + k ≡ y + (k + 1) = omega arith in e) ∙ h x (k + 1) l (omega arith) ∙ ap (g x) (let e : z + (k + 1) ≡ z + 1 + k = omega arith in e)))
+    let first = paper_row_near paper (λ x. f x y) (λ x. g x z) (λ x l. let e = h x 0 l (omega arith) in grind (arith, e)) in
+    let others = rows_moved paper f g (y + 1) (z + 1) n (λ x k l m. let e = h x (k + 1) l (omega arith) in grind (arith, e)) in
+    cc
 
 -- rows of a line that isn't moved, nor clipped on the paper
 pub line_rows : (paper : Width) (bitmap : List (List ℕ)) (height length top y rows : ℕ) → across paper ≤ length → top ≡ LINE_ROWS - height + y → (0 < rows → y + rows ≤ height)
@@ -121,11 +113,6 @@ white_rows paper f y (suc n) h = grind (arith, paper_row_white, replicate-append
 drop_further : (xs : List ℕ) (i n : ℕ) → i ≤ n → drop (n - i) (drop i xs) ≡ drop n xs
 drop_further xs i n h = drop-drop (n - i) i xs ∙ ap (λ m. drop m xs) (let e : i + (n - i) ≡ n = omega arith in e)
 
--- the bytes of a part, in the room that it is a part of
-pub part_white : (from to : ℕ) (room part : List ℕ) → from ≤ to → part ≡ replicate (to - from) 0
-    → put_mid from (to - from) room part ≡ take from room ++ (replicate (to - from) 0 ++ drop to room)
-part_white from to room part h e = rw (e, drop_further room from to h) refl
-
 -- rows of which the last are white
 pub then_white : (paper : Width) (f : ℕ → ℕ → Bool) (y inked rows : ℕ) (old room new : List ℕ) → inked ≤ rows → rows * row_bytes paper ≤ length old
     → ((x k : ℕ) → y + inked ≤ k → k < y + rows → f x k ≡ false)
@@ -133,17 +120,9 @@ pub then_white : (paper : Width) (f : ℕ → ℕ → Bool) (y inked rows : ℕ)
     → new ≡ take (inked * row_bytes paper) room ++ (replicate (rows * row_bytes paper - inked * row_bytes paper) 0 ++ drop (rows * row_bytes paper) room)
     → new ≡ rows_text paper f y rows ++ drop (rows * row_bytes paper) old
 then_white paper f y inked rows old room new few fits white is e =
-    let b = row_bytes paper in
-    let front = rows_text paper f y inked in
-    let long : length front ≡ inked * b = length-rows paper f y inked in
-    let within = mul-le-mul_right b few in
-    let more : rows * b - inked * b ≡ (rows - inked) * b = omega (arith, mul-sub b rows inked, mul_comm b (rows - inked), mul_comm b rows, mul_comm b inked) in
-    let first : take (inked * b) room ≡ front = ap (take (inked * b)) is ∙ take_at front (drop (inked * b) old) (inked * b) long in
-    let behind : drop (inked * b) room ≡ drop (inked * b) old = ap (drop (inked * b)) is ∙ drop_at front (drop (inked * b) old) (inked * b) long in
-    let last : drop (rows * b) room ≡ drop (rows * b) old = sym (drop_further room (inked * b) (rows * b) within) ∙ ap (drop (rows * b - inked * b)) behind ∙ drop_further old (inked * b) (rows * b) within in
-    let all : rows_text paper f y rows ≡ front ++ replicate (rows * b - inked * b) 0 = cut_at paper f y inked rows few
-    ∙ ap (λ r. front ++ r) (white_rows paper f (y + inked) (rows - inked) (λ x k l m. white x k l (omega arith)) ∙ ap (λ n. replicate {A = ℕ} n 0) (sym more)) in
-    e ∙ rw (first, last, all, append_assoc) refl
+    let within = mul-le-mul_right (row_bytes paper) few in
+    let white_is = white_rows paper f (y + inked) (rows - inked) (λ x k l m. white x k l (omega arith)) in
+    grind (arith, length-rows paper f y inked, within, mul-sub, mul_comm, take_at, drop_at, drop_further, cut_at paper f y inked rows few, white_is, append_assoc)
 
 module _ (s : Strip) (canvas : Canvas) where
   abbrev at : ℕ → Place

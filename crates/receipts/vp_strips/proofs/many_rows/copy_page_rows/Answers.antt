@@ -1,4 +1,4 @@
-use Rattle.std.proofs.Common.{◌≡◌, ◌+◌, length, ap, sym, ◌∙◌, arith, length-drop}
+use Rattle.std.proofs.Common.{◌+◌, length, ap, ◌∙◌, arith, length-drop}
 use Rattle.std.proofs.lemmas.List.{length-take}
 use Rattle.vp_strips.specs.Jobs.{page_dot_of}
 use Rattle.vp_strips.proofs.ManyRows.{length-row, row_copied, row_fits, rows_copied}
@@ -12,10 +12,7 @@ copy_row-requires g c =
     simp (length-take, length-drop) (omega (arith, long, fits, c.loop-k.auto.room))
 
 pub loop-k-preserved : goal.loop-k-preserved
-loop-k-preserved g c = row_copied c.args.paper (page_dot_of c.args.page.now.rows) c.args.y c.loop-k.k c.args.rows c.row_bytes-bytes.result c.args.room.now c.loop-k.room c.copy_row.new.room c.row_bytes-bytes.ensures c.loop-k-test.true c.requires.fits c.loop-k.invariant
-    (rw (sym c.page_row.ensures) c.copy_row.ensures)
+loop-k-preserved g c = grind (arith, row_copied)
 
 pub returns : goal.returns
-returns g c =
-    let all : c.loop-k.k ≡ c.args.rows = omega arith in
-    (rw all at c.loop-k.invariant) ∙ rows_copied c.args.paper (page_dot_of c.args.page.now.rows) c.args.y c.args.rows c.args.room.now
+returns g c = grind (arith, rows_copied)

@@ -1,6 +1,5 @@
-use Rattle.std.proofs.Common.{◌+◌, ◌-◌, ◌<◌, sym, arith, rules}
+use Rattle.std.proofs.Common.{◌+◌, ◌-◌, ◌<◌, arith, rules}
 use Rattle.vp_glyph.specs.Cells.{cell_dot, cell_height}
-use Rattle.std.proofs.lemmas.Bool.{true≢false}
 use Rattle.vp_receipt_settings.specs.declared.text.TheConstants.{LINE_ROWS}
 use Rattle.vp_strips.proofs.SameRows.{painted_rows, same_cell_row}
 use Rattle.vp_strips.proofs.paint.Bitmap.put_cell.Goals as goal
@@ -21,4 +20,4 @@ invariant_of-self g c =
     )
 
 pub invariant_of-self-else-cell-gt1 : goal.invariant_of-self-else-cell-gt1
-invariant_of-self-else-cell-gt1 g c = (search rules, λ e. absurd (true≢false (sym e)))
+invariant_of-self-else-cell-gt1 g c = grind arith
