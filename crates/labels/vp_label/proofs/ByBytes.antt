@@ -1,5 +1,6 @@
+use Rattle.vp_label.specs.Standing.{bands}
 -- What the bytes of a format bound.
-use Rattle.std.proofs.Common.{◌≡◌, ◌≤◌, ℕ, zero, suc, ◌+◌, ◌*◌, Bool, true, false, Option, Some, None, Result, List, [], ◌∷◌, length, reverse, ap, refl, arith, lit≤, option_map}
+use Rattle.std.proofs.Common.{◌≡◌, ◌≤◌, ℕ, zero, suc, ◌+◌, ◌*◌, Bool, true, false, Option, Some, None, Result, List, [], ◌∷◌, length, reverse, refl, arith, lit≤, option_map}
 use Rattle.std.proofs.lemmas.Grind.{common_steps}
 use Rattle.std.proofs.lemmas.Nat.{mul-le}
 use Rattle.std.proofs.lemmas.List.{length_push}
@@ -75,9 +76,6 @@ kept_codes : (sheets : Sheets) (bytes : List ℕ) (s : Settings) (p : FieldParts
     → Codes fields c bytes → all_data (with_kept fields (option_map (field_of sheets bytes s p) c)) ≤ length bytes
 kept_codes sheets bytes s p fields c h = grind (arith, kept_with, closed_data)
 
-longer : (c : Option OpenContent) (n : ℕ) → begin_by c n ≤ n → (begin_by c n ≤ begin_by c (n + 1)) × (begin_by c (n + 1) ≤ n + 1)
-longer c n h = grind arith
-
 codes_within : (sheets : Sheets) (before : List Item) → Codes (entries sheets before) (content before) (stored before)
 codes_within sheets [] = record { codes = lit≤ tt; within = lit≤ tt }
 codes_within sheets (Given c name sent ∷ before) = grind (arith, codes_within sheets before, kept_codes)
@@ -105,20 +103,10 @@ bytes_read items n h = omega (arith, h, format_least (reverse items), least_reve
 
 pairs_few : (sheets : Sheets) (bytes : List ℕ) (view : View) (fields : List Field) (n : ℕ) → pairs sheets bytes view fields n ≤ n * length fields
 pairs_few sheets bytes view fields zero = omega (arith, no_pairs sheets bytes view fields)
-pairs_few sheets bytes view fields (suc n) =
-    let next : suc n ≡ n + 1 = omega arith in
-    omega (
-      arith,
-      ap (pairs sheets bytes view fields) next,
-      pairs_more sheets bytes view fields n,
-      pairs_few sheets bytes view fields n,
-      count_by-le-length (field_meets sheets bytes view n) fields,
-    )
+pairs_few sheets bytes view fields (suc n) = grind (arith, pairs_more sheets bytes view fields n, pairs_few sheets bytes view fields n, count_by-le-length (field_meets sheets bytes view n) fields)
 
 copy_plain : (bands fields codes texts bytes met work : ℕ) → work ≤ 43960 * met + 262 * (bands * texts) + 2 * (bands * codes) → met ≤ bands * fields → 6 * fields + codes + texts ≤ bytes → work ≤ 7327 * (bands * bytes)
-copy_plain bands fields codes texts bytes met work w m few =
-    let all : bands * (6 * fields + codes + texts) ≤ bands * bytes = mul-le bands (6 * fields + codes + texts) bands bytes (omega arith) few in
-    grind (arith, all, w, m)
+copy_plain bands fields codes texts bytes met work w m few = grind (arith, mul-le bands (6 * fields + codes + texts) bands bytes (omega arith) few)
 
 pub copy_few : (sheets : Sheets) (before : List Item) (view : View) (n : ℕ)
     → copy_work sheets (stored before) view (printed_entries sheets before) n ≤ 43960 * pairs sheets (stored before) view (printed_entries sheets before) n + 262 * (n * all_texts (printed_entries sheets before)) + 2 * (n * all_codes (printed_entries sheets before))

@@ -1,5 +1,6 @@
+use Rattle.vp_label.proofs.Presses.{at}
 -- What is held, by the bytes that are pending.
-use Rattle.std.proofs.Common.{◌≡◌, ◌<◌, ◌≤◌, ◌+◌, ◌-◌, ◌*◌, ◌/◌, ◌%◌, ◌∙◌, ℕ, false, List, length, ap, sym, refl, arith, length-drop}
+use Rattle.std.proofs.Common.{◌≡◌, ◌<◌, ◌≤◌, ◌+◌, ◌-◌, ◌*◌, ◌%◌, ℕ, false, List, length, refl, arith, length-drop}
 use Rattle.std.proofs.lemmas.Bool.{lt-ltb, le-ltb}
 use Rattle.std.proofs.lemmas.Nat.{div-mul-add}
 use Rattle.std.proofs.Math.Nat.{zero-mod}
@@ -33,19 +34,12 @@ header_before width height l byte none = grind arith
 
 pub between_copies : PlaceLaw → (i : Image) (p : Place) (copies : ℕ) → 0 < i.height → IsPlaceOf i.width i.height p → 0 < p.copies →
     length (pending i p) ≡ length (copies_text i copies) → IsBetween p
-between_copies law i p copies high at some whole =
-    let gone : length (copies_text i copies) - length (pending i p) ≡ 0 = omega (arith, whole) in
-    let none : bytes_above i.width i.height p.line + p.byte ≡ 0 = sym (law i p copies high at some (omega (arith, whole))) ∙ ap (λ n. n % length (pbm i)) gone ∙ zero-mod (length (pbm i)) in
-    record { line = header_before i.width i.height p.line p.byte none; byte = omega (arith, none) }
+between_copies law i p copies high at some whole = grind (arith, law i p copies high at some, zero-mod (length (pbm i)), header_before i.width i.height p.line p.byte)
 
 -- the rows of the band of a place's line
 rows_of_line : (i : Image) (l : Line) (byte : ℕ) → byte < line_bytes i.width i.height l → rows_at i (bytes_above i.width i.height l + byte) ≡ band_rows i.height l
 rows_of_line i Head byte b = rw (lt-ltb (0 + byte) (length (header_of i.width i.height)) (omega arith)) refl
-rows_of_line i (Row y) byte b =
-    let head = length (header_of i.width i.height) in
-    let w = row_bytes i.width in
-    let here : (head + y * w + byte - head) / w ≡ y = (let n : head + y * w + byte - head ≡ y * w + byte = omega arith in ap (λ k. k / w) n) ∙ div-mul-add y w byte b in
-    rw (le-ltb (head + y * w + byte) head (omega arith)) (ap (λ k. band_rows i.height (Row k)) here)
+rows_of_line i (Row y) byte b = grind (arith, le-ltb (length (header_of i.width i.height) + y * row_bytes i.width + byte) (length (header_of i.width i.height)), div-mul-add y (row_bytes i.width) byte)
 
 pub held_rows : {A : Type 0} → PlaceLaw → (sheets : Sheets) (g : Gathered A) (before : List Item) (left : List ℕ) (i : Image) (p : Place) → 0 < length left → IsPrinting sheets g left before →
     ((earlier : List Item) → IsPrinted sheets g earlier → i ≡ image sheets earlier) → left ≡ pending i p → 0 < i.height → IsPlaceOf i.width i.height p → 0 < p.copies →

@@ -1,6 +1,5 @@
 -- What follows from a command's effect.
-use Rattle.std.proofs.Common.{◌≡◌, ℕ, true, false, List, [], ◌∷◌, refl, Some, None, Bool}
-use Rattle.vp_dots.specs.declared.fault.Fault.{Fault}
+use Rattle.std.proofs.Common.{◌≡◌, ℕ, true, false, List, [], ◌∷◌, refl, Bool}
 use Rattle.vp_glyph.specs.Sheets.{Sheets}
 use Rattle.vp_zpl.specs.Spelling.{Kept}
 use Rattle.vp_zpl.specs.declared.name.Name.{Name}
@@ -9,12 +8,12 @@ use Rattle.vp_zpl.specs.declared.item.Command.TheVariants.{FormatStart, FormatEn
 use Rattle.vp_zpl.specs.Items.{Item}
 use Rattle.vp_zpl.specs.Items.Item.{Given, Data}
 use Rattle.vp_format.specs.declared.field.Field.{Field}
-use Rattle.vp_label_settings.specs.Formats.{is_open, is_open_by, stored, stored_by}
+use Rattle.vp_label_settings.specs.Formats.{is_open, stored, stored_by}
 use Rattle.vp_label_settings.specs.Refusals.{head_refusal}
 use Rattle.vp_label.specs.declared.gathered.Effect.TheVariants.{Sets, Begins, Closes, Prints}
 use Rattle.vp_label.specs.Effects.{effect_of}
 use Rattle.vp_label.specs.Entries.{entries, entries_by, closed}
-use Rattle.vp_label.specs.Refusals.{command_refusal, refusal}
+use Rattle.vp_label.specs.Refusals.{command_refusal}
 use Rattle.vp_label.specs.Prints.{prints_by, unless_empty, label_image}
 use Rattle.vp_field.specs.declared.view.View.{View}
 use Rattle.vp_label.specs.Gathered.{Holds}
@@ -34,10 +33,6 @@ pub record OnlySets (sheets : Sheets) (before : List Item) (command : Command) :
 pub sets : (sheets : Sheets) (before : List Item) (command : Command) → effect_of true command ≡ Sets → OnlySets sheets before command
 sets sheets before c e = grind arith
 
--- outside a format only ^XA begins one
-pub stays : (command : Command) → effect_of false command ≡ Sets → is_open_by command false ≡ false
-stays c e = grind arith
-
 pub closes : (opened : Bool) (command : Command) → effect_of opened command ≡ Closes → (opened ≡ true) × (command ≡ FieldSeparator)
 closes opened c e = grind arith
 
@@ -46,14 +41,6 @@ ends opened c e = grind arith
 
 pub begins_shut : (opened : Bool) (command : Command) → effect_of opened command ≡ Begins → (opened ≡ false) × (command ≡ FormatStart)
 begins_shut opened c e = grind arith
-
-pub head_refused : (sheets : Sheets) (before : List Item) (command : Command) (name : Name) (sent : List Kept) (f : Fault) → head_refusal (is_open before) command ≡ Some f →
-    refusal sheets before (Given command name sent) ≡ Some f
-head_refused sheets before c name sent f e = grind arith
-
-pub head_taken : (sheets : Sheets) (before : List Item) (command : Command) (name : Name) (sent : List Kept) → effect_of (is_open before) command ≡ Sets → head_refusal (is_open before) command ≡ None →
-    refusal sheets before (Given command name sent) ≡ None
-head_taken sheets before c name sent effect e = grind arith
 
 -- where no format is open, no field is kept
 ended : (sheets : Sheets) (opened : Bool) (name : Name) (sent : List Kept) (before : List Item) → is_open before ≡ opened →

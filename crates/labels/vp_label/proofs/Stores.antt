@@ -26,7 +26,7 @@ one-stored before b is_so = rw is_so refl
 
 pub all-stored : (before : List Item) (bytes : List ℕ) → is_open before ≡ true → stored (followed_by before (data_items bytes)) ≡ stored before ++ bytes
 all-stored before [] is_so = sym (append-nil (stored before))
-all-stored before (b ∷ bytes) is_so = all-stored (Data b ∷ before) bytes is_so ∙ ap (λ xs. xs ++ bytes) (one-stored before b is_so) ∙ append_assoc (stored before) (b ∷ []) bytes
+all-stored before (b ∷ bytes) is_so = grind (arith, append_assoc, one-stored, all-stored (Data b ∷ before) bytes)
 
 -- a byte that fits
 fits : (opened : Bool) (n : ℕ) → n < STORED → (opened && nat_le STORED n) ≡ false
@@ -40,9 +40,7 @@ refused sheets before b is_so h = rw (is_so, le-leb STORED (length (stored befor
 
 pub all_taken : (sheets : Sheets) (before : List Item) (bytes : List ℕ) → is_open before ≡ true → length (stored before) + length bytes ≤ STORED → first_refusal sheets before (data_items bytes) ≡ None
 all_taken sheets before [] is_so h = refl
-all_taken sheets before (b ∷ bytes) is_so h =
-    let more = length-append (stored before) (b ∷ []) in
-    rw (taken sheets before b (omega arith)) (all_taken sheets (Data b ∷ before) bytes is_so (omega (arith, ap length (one-stored before b is_so))))
+all_taken sheets before (b ∷ bytes) is_so h = grind (arith, length-append, one-stored, taken, all_taken sheets (Data b ∷ before) bytes)
 
 pub all_unheard : (sheets : Sheets) (before : List Item) (bytes : List ℕ) → is_open before ≡ false → first_refusal sheets before (data_items bytes) ≡ None
 all_unheard sheets before [] shut = refl
@@ -51,12 +49,7 @@ all_unheard sheets before (b ∷ bytes) shut = grind (arith, all_unheard sheets 
 pub one_refused : (sheets : Sheets) (before : List Item) (bytes : List ℕ) → is_open before ≡ true → STORED < length (stored before) + length bytes → length (stored before) ≤ STORED →
     first_refusal sheets before (data_items bytes) ≡ Some StoreFull
 one_refused sheets before [] is_so h few = absurd (omega arith)
-one_refused sheets before (b ∷ bytes) is_so h few = elim (cases_lt (length (stored before)) STORED) [
-  | inl room ↦
-      let more = length-append (stored before) (b ∷ []) in
-      rw (taken sheets before b room) (one_refused sheets (Data b ∷ before) bytes is_so (omega (arith, ap length (one-stored before b is_so))) (omega (arith, ap length (one-stored before b is_so))))
-  | inr full ↦ rw (refused sheets before b is_so full) refl
-]
+one_refused sheets before (b ∷ bytes) is_so h few = grind (arith, cases_lt, length-append, one-stored, taken, refused, one_refused sheets (Data b ∷ before) bytes)
 
 -- behind a byte that is refused each one is, for the same reason
 pub last_refused : (sheets : Sheets) (before : List Item) (bytes : List ℕ) (byte : ℕ) (f : Fault) → first_refusal sheets before (data_items (bytes ++ byte ∷ [])) ≡ Some f →

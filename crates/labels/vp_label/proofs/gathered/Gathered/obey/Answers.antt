@@ -1,35 +1,20 @@
-use Rattle.std.proofs.Common.{◌≡◌, ◌∙◌, arith, sym, ap, subst, refl, length, [], ◌∷◌}
-use Rattle.std.proofs.lemmas.Result.{err_from_is_err_and}
+use Rattle.std.proofs.Common.{◌≡◌, ◌∙◌, arith, sym, ap, refl, length, [], ◌∷◌}
 use Rattle.vp_zpl.specs.declared.name.Name.{Name}
 use Rattle.vp_zpl.specs.Items.Item.{Given}
-use Rattle.vp_format.specs.Formats.{Held}
 use Rattle.vp_label_settings.specs.declared.settings.Settings.{Settings}
 use Rattle.vp_label_settings.specs.declared.in_force.InForce.{InForce}
 use Rattle.vp_label_settings.specs.Formats.{is_open, stored}
-use Rattle.vp_label_settings.specs.Refusals.{head_refusal}
 use Rattle.vp_label_settings.specs.Settings.{settings_of, quantity}
 use Rattle.vp_label.specs.Entries.{printed_entries}
 use Rattle.vp_copies.specs.Copies.{copies_text}
-use Rattle.vp_label.specs.Gathered.{AreKept}
 use Rattle.vp_label.specs.Effects.{effect_of}
 use Rattle.vp_label.specs.Prints.{label_image, view_of}
 use Rattle.vp_label.specs.declared.gathered.Effect.TheVariants.{Sets, Begins, Closes, Prints}
-use Rattle.vp_label.proofs.Effects.{holds_still, head_refused, head_taken, begins_shut, closes, ends, idle, printed_copies, same_text}
+use Rattle.vp_label.proofs.Effects.{holds_still, begins_shut, closes, ends, idle, printed_copies, same_text}
 use Rattle.vp_label.proofs.gathered.Gathered.obey.Goals as goal
 
 no_name : Name
 no_name = record { sign = 0; first = 0; second = 0 }
-
-pub returns-in_err-in_force-clause-refusal : goal.returns-in_err-in_force-clause-refusal
-returns-in_err-in_force-clause-refusal g c = λ before name sent g.
-    let p = err_from_is_err_and c.from_residual.result c.from_residual.ensures.1 in
-    rw (p.1, p.2) (head_refused c.args.sheets.now before c.args.command name sent _ (ap (λ o. head_refusal o c.args.command) (sym g.in_force.is_open) ∙ c.in_err-in_force.ensures.refusal))
-
-pub returns-in-Sets-clause-refusal : goal.returns-in-Sets-clause-refusal
-returns-in-Sets-clause-refusal g c = λ before name sent g.
-    let e : effect_of (is_open before) c.args.command ≡ Sets = ap (λ o. effect_of o c.args.command) (sym g.in_force.is_open) ∙ sym c.of.ensures ∙ c.in-Sets.is in
-    head_taken c.args.sheets.now before c.args.command name sent e
-    (ap (λ o. head_refusal o c.args.command) (sym g.in_force.is_open) ∙ c.in_ok-in_force.ensures.refusal)
 
 pub returns-in-Sets-clause-stands : goal.returns-in-Sets-clause-stands
 returns-in-Sets-clause-stands g c = λ before name sent g.
@@ -43,41 +28,26 @@ pub returns-in-Begins-clause-stands : goal.returns-in-Begins-clause-stands
 returns-in-Begins-clause-stands g c = λ before name sent g.
     let e : effect_of (is_open before) c.args.command ≡ Begins = ap (λ o. effect_of o c.args.command) (sym g.in_force.is_open) ∙ sym c.of.ensures ∙ c.in-Begins.is in
     let shut = (begins_shut (is_open before) c.args.command e).0 in
-    let fields = ap (λ (x : Held). x.fields) c.clear.ensures in
-    let stored_is = ap (λ (x : Held). x.stored) c.clear.ensures in
     record {
       in_force = c.in_ok-in_force.ensures.stands before name sent g.in_force (λ so. let h = g.held so in ap length (c.stored.ensures.bytes ∙ h.stored));
-      held = λ so. record {
-        fields = fields ∙ sym (rw shut (idle c.args.sheets.now before shut));
-        stored = stored_is ∙ sym (rw shut (c.between_formats.ensures.stored before shut));
-        kept = subst (λ (x : Held). AreKept x.stored x.fields) (sym c.clear.ensures) (λ k d l. absurd (omega arith));
-        few = omega (arith, ap length stored_is);
-      };
+      held = λ so. grind (arith, shut, idle c.args.sheets.now before shut, c.between_formats.ensures.stored before shut);
     }
 
 pub returns-in_ok-close-in-Closes-clause-stands : goal.returns-in_ok-close-in-Closes-clause-stands
 returns-in_ok-close-in-Closes-clause-stands g c = λ before name sent g.
     let e : effect_of (is_open before) c.args.command ≡ Closes = ap (λ o. effect_of o c.args.command) (sym g.in_force.is_open) ∙ sym c.of.ensures ∙ c.in-Closes.is in
-    let so = (closes (is_open before) c.args.command e).0 in
-    let separator = (closes (is_open before) c.args.command e).1 in
-    let h = g.held so in
+    let is = closes (is_open before) c.args.command e in
     record {
       in_force = c.in_ok-in_force.ensures.stands before name sent g.in_force (λ so. let h = g.held so in ap length (c.stored.ensures.bytes ∙ h.stored));
-      held = λ still. record {
-        fields = c.in_ok-close-in-Closes.ensures.fields before g so ∙ sym (rw (so, separator) refl);
-        stored = c.close.ensures.stored ∙ h.stored ∙ sym (rw (so, separator) refl);
-        kept = c.in_ok-close-in-Closes.ensures.kept;
-        few = let few = h.few in omega (arith, ap length c.close.ensures.stored);
-      };
+      held = λ still. let h = g.held is.0 in grind (arith, is, h, c.in_ok-close-in-Closes.ensures.fields before g is.0);
     }
 
 pub returns-in_ok-close-in-Prints-clause-stands : goal.returns-in_ok-close-in-Prints-clause-stands
 returns-in_ok-close-in-Prints-clause-stands g c = λ before name sent g.
     let e : effect_of (is_open before) c.args.command ≡ Prints = ap (λ o. effect_of o c.args.command) (sym g.in_force.is_open) ∙ sym c.of.ensures ∙ c.in-Prints.is in
-    let end = (ends (is_open before) c.args.command e).1 in
     record {
       in_force = c.in_ok-in_force.ensures.stands before name sent g.in_force (λ so. let h = g.held so in ap length (c.stored.ensures.bytes ∙ h.stored));
-      held = λ so. absurd (let no = rw end at so in cc);
+      held = grind (arith, ends (is_open before) c.args.command e);
     }
 
 pub returns-in_ok-close-in-Prints-clause-prints : goal.returns-in_ok-close-in-Prints-clause-prints
@@ -112,12 +82,7 @@ returns-in_ok-close-in-Prints-clause-some g c = (Given c.args.command no_name []
 pub returns-in_ok-close-in-Prints-clause-printed : goal.returns-in_ok-close-in-Prints-clause-printed
 returns-in_ok-close-in-Prints-clause-printed g c = λ before g some.
     let e : effect_of (is_open before) c.args.command ≡ Prints = ap (λ o. effect_of o c.args.command) (sym g.in_force.is_open) ∙ sym c.of.ensures ∙ c.in-Prints.is in
-    let so = (ends (is_open before) c.args.command e).0 in
-    let end = (ends (is_open before) c.args.command e).1 in
-    let held = g.held so in
+    let is = ends (is_open before) c.args.command e in
+    let held = g.held is.0 in
     let after = c.in_ok-in_force.ensures.stands before no_name [] g.in_force (λ so. let h = g.held so in ap length (c.stored.ensures.bytes ∙ h.stored)) in
-    record {
-      view = ap view_of after.settings ∙ rw (so, end) refl;
-      stored = c.close-in-Prints.ensures.stored ∙ held.stored;
-      fields = c.in_ok-close-in-Prints.ensures.fields before g so;
-    }
+    grind (arith, is, held, after, c.in_ok-close-in-Prints.ensures.fields before g is.0)

@@ -64,9 +64,7 @@ returns-in-Command-clause-pending g c =
     ∙ ap (λ (s : Sheets). prints s before item) st.sheets_are ∙ sym (one_prints sheets before item) ∙ ap (λ (i : ZplItem). all_print sheets before (shown_item i)) (sym c.in-Command.is)) c.obey.ensures.pending
 
 pub returns-in-Data-clause-pending : goal.returns-in-Data-clause-pending
-returns-in-Data-clause-pending g c =
-    on_ok_weaker c.store.result (λ none sheets before st. none ∙ sym (data_print sheets before (data_bytes c.in-Data.bytes.now))
-    ∙ ap (λ (i : ZplItem). all_print sheets before (shown_item i)) (sym c.in-Data.is)) c.store.ensures.pending
+returns-in-Data-clause-pending g c = grind (arith, on_ok_weaker, data_print)
 
 pub returns-in-Data-clause-stands : goal.returns-in-Data-clause-stands
 returns-in-Data-clause-stands g c =

@@ -1,4 +1,6 @@
-use Rattle.std.proofs.Common.{◌≡◌, ◌∷◌, ap, sym, subst, ◌∙◌, List, Some, None, arith}
+use Rattle.std.proofs.Common.{Option, ◌≡◌, ◌∷◌, ap, sym, subst, ◌∙◌, List, Some, None, arith}
+use Rattle.vp_dots.specs.declared.fault.Fault.{Fault}
+use Rattle.vp_zpl.specs.declared.item.Command.{Command}
 use Rattle.vp_zpl.specs.Spelling.{Kept}
 use Rattle.vp_zpl.specs.declared.name.Name.{Name}
 use Rattle.vp_zpl.specs.Items.{Item}
@@ -13,15 +15,15 @@ use Rattle.vp_label.specs.Standing.{Printing}
 use Rattle.vp_label.proofs.Idle.{no_copies, nothing_left}
 use Rattle.vp_label.proofs.label.Label.obey.Goals as goal
 
+-- what a command's refusal is
+abbrev Refuses : {A : Type 0} → Command → Option Fault → Printing A → Type 0
+Refuses command f p = (before : List Item) (name : Name) (sent : List Kept) → Gathers p.sheets p.gathered before → refusal p.sheets before (Given command name sent) ≡ f
+
 pub returns-in-Err-clause-refusal : goal.returns-in-Err-clause-refusal
-returns-in-Err-clause-refusal g c =
-    let P : Printing _ → Type 0 = λ p. (before : List Item) (name : Name) (sent : List Kept) → Gathers p.sheets p.gathered before → refusal p.sheets before (Given c.args.command name sent) ≡ Some c.in-Err.fault in
-    subst P c.self.view_is c.in-Err.ensures.refusal
+returns-in-Err-clause-refusal g c = subst (Refuses c.args.command (Some c.in-Err.fault)) c.self.view_is c.in-Err.ensures.refusal
 
 pub returns-then-copies-eq0-clause-refusal : goal.returns-then-copies-eq0-clause-refusal
-returns-then-copies-eq0-clause-refusal g c =
-    let P : Printing _ → Type 0 = λ p. (before : List Item) (name : Name) (sent : List Kept) → Gathers p.sheets p.gathered before → refusal p.sheets before (Given c.args.command name sent) ≡ None in
-    subst P c.self.view_is c.in-Ok.ensures.refusal
+returns-then-copies-eq0-clause-refusal g c = subst (Refuses c.args.command None) c.self.view_is c.in-Ok.ensures.refusal
 
 pub returns-then-copies-eq0-clause-stands : goal.returns-then-copies-eq0-clause-stands
 returns-then-copies-eq0-clause-stands g c =
@@ -42,9 +44,7 @@ returns-then-copies-eq0-clause-pending g c =
     ∙ ap (copies_text (label_image j.sheets view now.format.stored now.format.fields)) (sym c.if-copies-eq0.true) ∙ c.in-Ok.ensures.prints before name sent g)
 
 pub returns-clause-refusal : goal.returns-clause-refusal
-returns-clause-refusal g c =
-    let P : Printing _ → Type 0 = λ p. (before : List Item) (name : Name) (sent : List Kept) → Gathers p.sheets p.gathered before → refusal p.sheets before (Given c.args.command name sent) ≡ None in
-    subst P c.self.view_is c.in-Ok.ensures.refusal
+returns-clause-refusal g c = subst (Refuses c.args.command None) c.self.view_is c.in-Ok.ensures.refusal
 
 pub returns-clause-stands : goal.returns-clause-stands
 returns-clause-stands g c =
@@ -64,13 +64,7 @@ returns-clause-pending g c =
     ∙ ap (λ (v : View). copies_text (label_image j.sheets v held.stored held.fields) c.in-Ok.copies) view ∙ c.in-Ok.ensures.prints before name sent g)
 
 pub returns-clause-idle : goal.returns-clause-idle
-returns-clause-idle g c = λ none.
-    let j = c.self.inside in
-    let now = c.obey.new.self in
-    let q = c.begin.new.self in
-    let p = c.begin.ensures.press j.sheets in
-    let over = no_copies c.pending_law.ensures (press_image j.sheets now.format (view_of now.in_force.settings) q) q.copies.place (λ some. (let h = p.high in let e = p.height in omega arith, p.place)) none in
-    absurd (omega (arith, over, c.begin.ensures.some))
+returns-clause-idle g c = grind (arith, no_copies c.pending_law.ensures, c.begin.ensures.press c.self.inside.sheets)
 
 pub returns-clause-idle_work : goal.returns-clause-idle_work
 returns-clause-idle_work g c = λ none.

@@ -6,9 +6,9 @@ use Rattle.vp_bands.specs.Standing.{IsBefore}
 use Rattle.vp_output.specs.Lines.{IsLineOf}
 use Rattle.vp_copies.specs.Copies.{copies_text}
 use Rattle.vp_label.proofs.Counts.{between_copies, same_image}
-use Rattle.vp_label.proofs.Presses.{is_within, most}
+use Rattle.vp_label.proofs.Presses.{within_met, most}
 use Rattle.vp_label.specs.Prints.{label_image, view_of}
-use Rattle.vp_label.specs.Standing.{bands, met, painting, shown, IsPrinting, Printing}
+use Rattle.vp_label.specs.Standing.{bands, met, AreCopies, painting, shown, IsPrinting, Printing}
 use Rattle.vp_label.specs.declared.gathered.Gathered.{Gathered}
 use Rattle.vp_label.specs.Gathered.{Gathers}
 use Rattle.vp_label.proofs.Pending.{still_printing}
@@ -16,28 +16,52 @@ use Rattle.vp_label.proofs.Work.{none_left, printing_most, printing_least}
 use Rattle.vp_label.specs.Press.{left, press_image, IsPress}
 use Rattle.vp_label.specs.declared.press.Press.{Press}
 use Rattle.vp_field.specs.declared.view.View.{View}
+use Rattle.vp_label.proofs.label.Label.put.Given.{Over}
 use Rattle.vp_label.proofs.label.Label.put.Goals as goal
 
+module _ (g : Over) (c : goal.After-slice_known-2-1 g) where
+  pend : left c.self.inside.sheets c.self.inside.gathered.format c.view_of-view.result c.self.inside.press ≡ c.args.self.now.pending
+  pend = let j = c.self.inside in ap (λ v. left j.sheets j.gathered.format v j.press) c.view_of-view.ensures ∙ ap (λ (p : Printing _). p.pending) c.self.view_is
+
+  -- the band that the painter stands before
+  within : (b : ℕ) × (b ≤ bands_of c.view_of-view.result) × IsBefore c.self.inside.sheets c.self.inside.gathered.format c.view_of-view.result b c.put.new.self.painter
+  within =
+      let q = c.put.new.self in
+      let view = c.view_of-view.result in
+      let p = c.put.ensures.press in
+      let line : IsLineOf view.height q.copies.place.line = subst (λ (h : ℕ). IsLineOf h q.copies.place.line) p.height p.place.line in
+      within_met view.height (bands_of view) (λ b. IsBefore c.self.inside.sheets c.self.inside.gathered.format view b q.painter) q.copies.place refl line p.next p.over
+
+  -- behind whole copies it is behind the last one
+  ended : 0 < c.put.result → AreCopies c.args.self.now (left c.self.inside.sheets c.self.inside.gathered.format (view_of c.self.inside.gathered.in_force.settings) c.put.new.self)
+      → IsBefore c.self.inside.sheets c.self.inside.gathered.format c.view_of-view.result (bands_of c.view_of-view.result) c.put.new.self.painter
+  ended out whole =
+      let j = c.self.inside in
+      let held = j.gathered.format in
+      let q = c.put.new.self in
+      let view = c.view_of-view.result in
+      let p = c.put.ensures.press in
+      let shows : press_image j.sheets held view q ≡ label_image c.args.self.now.sheets (view_of c.args.self.now.gathered.in_force.settings) c.args.self.now.gathered.format.stored c.args.self.now.gathered.format.fields =
+      same_image j.sheets held view q p.width p.height ∙ ap (λ (v : View). label_image j.sheets v held.stored held.fields) c.view_of-view.ensures
+      ∙ ap (λ (x : Printing _). label_image x.sheets (view_of x.gathered.in_force.settings) x.gathered.format.stored x.gathered.format.fields) c.self.view_is in
+      let count : length (left j.sheets held view q) ≡ length (copies_text (press_image j.sheets held view q) whole.0) =
+      ap (λ v. length (left j.sheets held v q)) c.view_of-view.ensures ∙ whole.1 ∙ ap (λ i. length (copies_text i whole.0)) (sym shows) in
+      elim (cases_lt 0 q.copies.place.copies) [
+        | inl more ↦ c.put.ensures.ended out (between_copies c.place_law.ensures (press_image j.sheets held view q) q.copies.place whole.0 (omega (arith, p.high, p.height)) p.place more count)
+        | inr none_left ↦ p.over (omega arith)
+      ]
+
+  met_is : pairs c.self.inside.sheets c.self.inside.gathered.format.stored c.view_of-view.result c.self.inside.gathered.format.fields (bands_of c.view_of-view.result) ≡ met c.args.self.now
+  met_is = let j = c.self.inside in ap (λ (v : View). pairs j.sheets j.gathered.format.stored v j.gathered.format.fields (bands_of v)) c.view_of-view.ensures ∙ ap met c.self.view_is
+
 pub returns-clause-count : goal.returns-clause-count
-returns-clause-count g c =
-    let j = c.self.inside in
-    let pend : left j.sheets j.gathered.format c.view_of-view.result j.press ≡ c.args.self.now.pending =
-    ap (λ v. left j.sheets j.gathered.format v j.press) c.view_of-view.ensures ∙ ap (λ (p : Printing _). p.pending) c.self.view_is in
-    c.put.ensures.count ∙ ap (λ t. min (length t) (length c.args.out.now)) pend
+returns-clause-count g c = c.put.ensures.count ∙ ap (λ t. min (length t) (length c.args.out.now)) (pend g c)
 
 pub returns-clause-bytes : goal.returns-clause-bytes
-returns-clause-bytes g c =
-    let j = c.self.inside in
-    let pend : left j.sheets j.gathered.format c.view_of-view.result j.press ≡ c.args.self.now.pending =
-    ap (λ v. left j.sheets j.gathered.format v j.press) c.view_of-view.ensures ∙ ap (λ (p : Printing _). p.pending) c.self.view_is in
-    c.put.ensures.bytes ∙ ap (λ t. take c.put.result t ++ drop c.put.result c.args.out.now) pend
+returns-clause-bytes g c = c.put.ensures.bytes ∙ ap (λ t. take c.put.result t ++ drop c.put.result c.args.out.now) (pend g c)
 
 pub returns-clause-rest : goal.returns-clause-rest
-returns-clause-rest g c =
-    let j = c.self.inside in
-    let pend : left j.sheets j.gathered.format c.view_of-view.result j.press ≡ c.args.self.now.pending =
-    ap (λ v. left j.sheets j.gathered.format v j.press) c.view_of-view.ensures ∙ ap (λ (p : Printing _). p.pending) c.self.view_is in
-    sym (ap (λ v. left j.sheets j.gathered.format v c.put.new.self) c.view_of-view.ensures) ∙ c.put.ensures.rest ∙ ap (drop c.put.result) pend
+returns-clause-rest g c = let j = c.self.inside in sym (ap (λ v. left j.sheets j.gathered.format v c.put.new.self) c.view_of-view.ensures) ∙ c.put.ensures.rest ∙ ap (drop c.put.result) (pend g c)
 
 pub put-requires : goal.put-requires
 put-requires g c =
@@ -48,81 +72,28 @@ put-requires g c =
 pub returns-clause-at_most : goal.returns-clause-at_most
 returns-clause-at_most g c = λ pending.
     let j = c.self.inside in
-    let held = j.gathered.format in
-    let q = c.put.new.self in
-    let view = c.view_of-view.result in
-    let p = c.put.ensures.press in
-    let line : IsLineOf view.height q.copies.place.line = subst (λ (h : ℕ). IsLineOf h q.copies.place.line) p.height p.place.line in
-    let w : (b : ℕ) × (b ≤ bands_of view) × IsBefore j.sheets held view b q.painter = elim (cases_lt 0 q.copies.place.copies) [
-      | inl some ↦ is_within view.height (bands_of view) (λ b. IsBefore j.sheets held view b q.painter) q.copies.place.copies q.copies.place.line q.copies.place.byte refl line some (p.next some)
-      | inr none_left ↦ (bands_of view, omega arith, p.over (omega arith))
-    ] in
-    let bound = most j.sheets held view q.painter c.looks_bounded.ensures w in
-    let e : pairs j.sheets held.stored view held.fields (bands_of view) ≡ met c.args.self.now =
-    ap (λ (v : View). pairs j.sheets held.stored v held.fields (bands_of v)) c.view_of-view.ensures ∙ ap met c.self.view_is in
-    let n : bands_of view ≡ bands c.args.self.now = ap bands_of c.view_of-view.ensures ∙ ap bands c.self.view_is in
-    omega (arith, bound, e, n)
+    let bound = most j.sheets j.gathered.format c.view_of-view.result c.put.new.self.painter c.looks_bounded.ensures (within g c) in
+    omega (arith, bound, met_is g c, ap bands_of c.view_of-view.ensures, ap bands c.self.view_is)
 
 pub returns-clause-work : goal.returns-clause-work
 returns-clause-work g c = λ pending.
     let j = c.self.inside in
     let held = j.gathered.format in
-    let q = c.put.new.self in
-    let view = c.view_of-view.result in
-    let p = c.put.ensures.press in
-    let line : IsLineOf view.height q.copies.place.line = subst (λ (h : ℕ). IsLineOf h q.copies.place.line) p.height p.place.line in
-    let w : (b : ℕ) × (b ≤ bands_of view) × IsBefore j.sheets held view b q.painter = elim (cases_lt 0 q.copies.place.copies) [
-      | inl some ↦ is_within view.height (bands_of view) (λ b. IsBefore j.sheets held view b q.painter) q.copies.place.copies q.copies.place.line q.copies.place.byte refl line some (p.next some)
-      | inr none_left ↦ (bands_of view, omega arith, p.over (omega arith))
-    ] in
-    let bound = c.work_bounded.ensures.at_most j.sheets held view w.0 q.painter w.2 w.1 in
-    let e : copy_work j.sheets held.stored view held.fields (bands_of view) ≡ painting c.args.self.now =
-    ap (λ (v : View). copy_work j.sheets held.stored v held.fields (bands_of v)) c.view_of-view.ensures ∙ ap painting c.self.view_is in
-    omega (arith, bound, e)
+    let w = within g c in
+    let bound = c.work_bounded.ensures.at_most j.sheets held c.view_of-view.result w.0 c.put.new.self.painter w.2 w.1 in
+    omega (arith, bound, ap (λ (v : View). copy_work j.sheets held.stored v held.fields (bands_of v)) c.view_of-view.ensures, ap painting c.self.view_is)
 
 pub returns-clause-at_least : goal.returns-clause-at_least
 returns-clause-at_least g c = λ out whole.
-    let j = c.self.inside in
-    let held = j.gathered.format in
-    let q = c.put.new.self in
-    let view = c.view_of-view.result in
-    let p = c.put.ensures.press in
-    let left_is : left j.sheets held view q ≡ left j.sheets held (view_of j.gathered.in_force.settings) q = ap (λ v. left j.sheets held v q) c.view_of-view.ensures in
-    let shows : press_image j.sheets held view q ≡ label_image c.args.self.now.sheets (view_of c.args.self.now.gathered.in_force.settings) c.args.self.now.gathered.format.stored c.args.self.now.gathered.format.fields =
-    same_image j.sheets held view q p.width p.height ∙ ap (λ (v : View). label_image j.sheets v held.stored held.fields) c.view_of-view.ensures
-    ∙ ap (λ (x : Printing _). label_image x.sheets (view_of x.gathered.in_force.settings) x.gathered.format.stored x.gathered.format.fields) c.self.view_is in
-    let count : length (left j.sheets held view q) ≡ length (copies_text (press_image j.sheets held view q) whole.0) =
-    ap length left_is ∙ whole.1 ∙ ap (λ i. length (copies_text i whole.0)) (sym shows) in
-    let before : IsBefore j.sheets held view (bands_of view) q.painter = elim (cases_lt 0 q.copies.place.copies) [
-      | inl more ↦ c.put.ensures.ended out (between_copies c.place_law.ensures (press_image j.sheets held view q) q.copies.place whole.0 (omega (arith, p.high, p.height)) p.place more count)
-      | inr none_left ↦ p.over (omega arith)
-    ] in
-    let bound = c.looks_bounded.ensures.at_least j.sheets held view q.painter before in
-    let e : pairs j.sheets held.stored view held.fields (bands_of view) ≡ met c.args.self.now =
-    ap (λ (v : View). pairs j.sheets held.stored v held.fields (bands_of v)) c.view_of-view.ensures ∙ ap met c.self.view_is in
-    omega (arith, bound, e)
+    let bound = c.looks_bounded.ensures.at_least c.self.inside.sheets c.self.inside.gathered.format c.view_of-view.result c.put.new.self.painter (ended g c out whole) in
+    omega (arith, bound, met_is g c)
 
 pub returns-clause-shown : goal.returns-clause-shown
 returns-clause-shown g c = λ out whole.
     let j = c.self.inside in
     let held = j.gathered.format in
-    let q = c.put.new.self in
-    let view = c.view_of-view.result in
-    let p = c.put.ensures.press in
-    let left_is : left j.sheets held view q ≡ left j.sheets held (view_of j.gathered.in_force.settings) q = ap (λ v. left j.sheets held v q) c.view_of-view.ensures in
-    let shows : press_image j.sheets held view q ≡ label_image c.args.self.now.sheets (view_of c.args.self.now.gathered.in_force.settings) c.args.self.now.gathered.format.stored c.args.self.now.gathered.format.fields =
-    same_image j.sheets held view q p.width p.height ∙ ap (λ (v : View). label_image j.sheets v held.stored held.fields) c.view_of-view.ensures
-    ∙ ap (λ (x : Printing _). label_image x.sheets (view_of x.gathered.in_force.settings) x.gathered.format.stored x.gathered.format.fields) c.self.view_is in
-    let count : length (left j.sheets held view q) ≡ length (copies_text (press_image j.sheets held view q) whole.0) =
-    ap length left_is ∙ whole.1 ∙ ap (λ i. length (copies_text i whole.0)) (sym shows) in
-    let before : IsBefore j.sheets held view (bands_of view) q.painter = elim (cases_lt 0 q.copies.place.copies) [
-      | inl more ↦ c.put.ensures.ended out (between_copies c.place_law.ensures (press_image j.sheets held view q) q.copies.place whole.0 (omega (arith, p.high, p.height)) p.place more count)
-      | inr none_left ↦ p.over (omega arith)
-    ] in
-    let bound = c.work_bounded.ensures.at_least j.sheets held view q.painter before in
-    let e : shown_pairs j.sheets held.stored view held.fields (bands_of view) ≡ shown c.args.self.now =
-    ap (λ (v : View). shown_pairs j.sheets held.stored v held.fields (bands_of v)) c.view_of-view.ensures ∙ ap shown c.self.view_is in
-    omega (arith, bound, e)
+    let bound = c.work_bounded.ensures.at_least j.sheets held c.view_of-view.result c.put.new.self.painter (ended g c out whole) in
+    omega (arith, bound, ap (λ (v : View). shown_pairs j.sheets held.stored v held.fields (bands_of v)) c.view_of-view.ensures, ap shown c.self.view_is)
 
 pub returns-clause-stands : goal.returns-clause-stands
 returns-clause-stands g c = λ sheets before st. record {

@@ -1,9 +1,10 @@
-use Rattle.std.proofs.Common.{List, subst, sym, length, ◌≤◌}
+use Rattle.std.proofs.Common.{arith}
+use Rattle.std.proofs.Common.{List, subst}
 use Rattle.std.specs.Result.{OnOk}
 use Rattle.vp_glyph.specs.Sheets.{Sheets}
 use Rattle.vp_zpl.specs.Items.{Item, data_items}
 use Rattle.vp_label_settings.specs.Formats.{followed_by}
-use Rattle.vp_label.specs.Gathered.{Gathers, data_room}
+use Rattle.vp_label.specs.Gathered.{Gathers}
 use Rattle.vp_label.specs.Standing.{Printing}
 use Rattle.vp_label.proofs.label.Label.store.Goals as goal
 
@@ -14,6 +15,4 @@ returns-clause-stands g c =
     subst P c.self.view_is c.store.ensures.stands
 
 pub returns-clause-room : goal.returns-clause-room
-returns-clause-room g c = λ fits.
-    let P : Printing _ → Type 0 = λ p. length c.args.bytes.now ≤ data_room p.gathered in
-    c.store.ensures.room c.self.inside.sheets c.self.invariant.gathered (subst P (sym c.self.view_is) fits)
+returns-clause-room g c = λ fits. c.store.ensures.room c.self.inside.sheets c.self.invariant.gathered (grind arith)

@@ -1,54 +1,15 @@
-use Rattle.std.proofs.Common.{◌≡◌, ◌+◌, ◌/◌, ◌<◌, ◌≤◌, ◌++◌, ℕ, length, take, drop, ap, sym, subst, ◌∙◌, arith}
+use Rattle.std.proofs.Common.{◌≡◌, ◌<◌, ◌≤◌, ◌++◌, ℕ, length, take, drop, ap, sym, subst, ◌∙◌, arith}
 use Rattle.std.specs.Prelude.{map}
 use Rattle.vp_field.specs.Fields.{stroke_of}
 use Rattle.vp_field.specs.Strokes.{image_dot}
 use Rattle.vp_bands.specs.Meeting.{bands_of}
 use Rattle.vp_bands.specs.Standing.{IsBefore}
-use Rattle.vp_copies.specs.Copies.{ahead, pending}
-use Rattle.vp_copies.specs.Progress.{Progress, image_of, IsPainted, IsReady}
+use Rattle.vp_copies.specs.Copies.{pending}
+use Rattle.vp_copies.specs.Progress.{Progress, image_of, IsPainted}
 use Rattle.vp_output.specs.Lines.{IsLineOf}
-use Rattle.vp_output.specs.declared.place.Line.TheVariants.{Row}
-use Rattle.vp_label.specs.Press.{bands_above, left, IsNextBand}
-use Rattle.vp_label.proofs.Presses.{inside_ahead, met_behind, IsMet}
+use Rattle.vp_label.specs.Press.{bands_above, left}
+use Rattle.vp_label.proofs.Presses.{met_behind, IsMet}
 use Rattle.vp_label.proofs.press.Press.put_line.Goals as goal
-
-pub returns-then-n-gt0 : goal.returns-then-n-gt0
-returns-then-n-gt0 g c =
-    let sheets = c.args.sheets.now in
-    let held = c.args.format.now in
-    let view = c.args.view in
-    let old = c.args.self.now in
-    let now = c.prepare.new.self in
-    let next = (λ (b : ℕ). IsBefore sheets held view b now.painter) in
-    let p = c.requires.press in
-    let same = c.prepare.ensures.copies in
-    let part = c.put_rows-n.ensures in
-    let dots = image_dot view (map (stroke_of sheets held.stored) held.fields) in
-    let text : left sheets held view now ≡ left sheets held view old = ap (λ (x : Progress). pending (image_of x dots) x.place) same in
-    let some : 0 < now.copies.place.copies = subst (λ (x : Progress). 0 < x.place.copies) (sym same) c.requires.some in
-    let on = part.on c.if-n-gt0.true in
-    let inside = inside_ahead now.copies.place.copies (on.row + on.rows) some on.inside in
-    let before : next (on.row / 32 + 1) = rw on.from at c.prepare.ensures.before in
-    let painted : IsPainted (image_of now.copies dots) (Row on.row) now.band = rw on.from at c.prepare.ensures.painted in
-    record {
-      press = record {
-        width = ap (λ (x : Progress). x.width) on.value ∙ ap (λ (x : Progress). x.width) same ∙ p.width;
-        height = ap (λ (x : Progress). x.height) on.value ∙ ap (λ (x : Progress). x.height) same ∙ p.height;
-        narrow = p.narrow;
-        low = p.low;
-        high = p.high;
-        place = part.place;
-        next = λ more. subst (λ (x : Progress). IsNextBand (ahead x.place) x.place.line (bands_of view) next) (sym on.value) (rw (inside, on.same_band) before);
-        over = λ none. absurd (let e = ap (λ (x : Progress). x.place.copies) on.value in omega arith);
-        ready = subst (λ (x : Progress). IsReady (image_of x dots) x.place now.band) (sym on.value) (rw (inside, on.same_band) painted);
-      };
-      some = c.if-n-gt0.true;
-      fits = part.fits;
-      within = subst (λ t. c.put_rows-n.result ≤ length t) text (part.within dots);
-      bytes = part.bytes dots c.prepare.ensures.painted ∙ ap (λ t. take c.put_rows-n.result t ++ drop c.put_rows-n.result c.args.out.now) text;
-      rest = part.rest dots ∙ ap (drop c.put_rows-n.result) text;
-      ended = λ between. absurd (let no = sym (ap (λ (x : Progress). x.place.line) on.value) ∙ between.line in cc);
-    }
 
 pub returns : goal.returns
 returns g c =
