@@ -25,5 +25,4 @@ pub painted_on : (sheets : Sheets) (held : Held) (view : View) (b : ℕ) (t : Th
     → t.looks + meeting sheets held.stored view held.fields b ≤ looks → looks ≤ t.looks + 1 + 2 * meeting sheets held.stored view held.fields b
     → work ≤ t.work + band_work sheets held.stored view held.fields b → t.work + showing sheets held.stored view held.fields b ≤ work → work ≤ t.work + 2 ^ 37
     → IsBefore sheets held view (b + 1) (record t { links = links; marks = marks; carried = carried; looks = looks; work = work })
-painted_on sheets held view b t links marks carried looks work before threaded marked least most took shown few =
-    grind (arith, pairs_more, copy_more, shown_more)
+painted_on sheets held view b t links marks carried looks work before threaded marked least most took shown few = grind (arith, pairs_more, copy_more, shown_more)

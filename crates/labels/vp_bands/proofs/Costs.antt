@@ -1,40 +1,21 @@
 -- What a field costs in a band, and a copy.
-use Rattle.std.proofs.Common.{◌≡◌, ℕ, zero, suc, ◌+◌, ◌*◌, ◌^◌, ◌≤◌, Bool, true, false, cond, List, [], ◌∷◌, length, ap, refl, arith}
+use Rattle.std.proofs.lemmas.Bool.{cases_Bool}
+use Rattle.std.proofs.Common.{◌≡◌, ℕ, zero, suc, ◌+◌, ◌*◌, ◌≤◌, Bool, List, [], ◌∷◌, length, refl, arith, inl, inr}
 use Rattle.std.specs.Prelude.{filter, sum_by}
 use Rattle.std.proofs.lemmas.List.Sums.{sum_by-cons, length-filter}
 use Rattle.vp_glyph.specs.Sheets.{Sheets}
 use Rattle.vp_format.specs.declared.field.Content.{Content}
 use Rattle.vp_format.specs.declared.field.Field.{Field}
-use Rattle.vp_format.specs.declared.format.TheConstants.{STORED}
 use Rattle.vp_zpl.specs.declared.item.Orientation.{Orientation}
-use Rattle.vp_field.specs.Axes.{lines_of}
-use Rattle.vp_field.specs.Contents.{block_cost, most_work, orientation_of, IsStored}
-use Rattle.vp_field.specs.declared.axis.Lines.{Lines}
-use Rattle.vp_field.specs.declared.axis.Lines.TheVariants.{Along}
+use Rattle.vp_field.specs.Contents.{most_work}
 use Rattle.vp_field.specs.declared.view.View.{View}
 use Rattle.vp_bands.specs.Laws.{code_bytes, text_bytes, CostsAtMost}
 use Rattle.vp_bands.specs.Meeting.{band_work, copy_work, meeting, pairs}
 use Rattle.vp_bands.proofs.Painted.{pairs_more}
 use Rattle.vp_bands.proofs.Work.{copy_more}
 
-along : (o : Orientation) (c : Content) → lines_of (orientation_of o c) ≡ Along → most_work o c ≤ 16416 + 262 * text_bytes c + 2 * code_bytes c
-along o c e = grind arith
-
-block_lines : (l : Lines) (n : ℕ) → block_cost l (2 * n + 1) ≤ 43960 + 262 * n
-block_lines l n = grind arith
-
 of_field : (o : Orientation) (c : Content) → most_work o c ≤ 43960 + 262 * text_bytes c + 2 * code_bytes c
 of_field o c = grind arith
-
-few_codes : (stored : List ℕ) (c : Content) → IsStored stored c → code_bytes c ≤ STORED
-few_codes stored c kept = grind arith
-
-few_texts : (stored : List ℕ) (c : Content) → IsStored stored c → text_bytes c ≤ STORED
-few_texts stored c kept = grind arith
-
--- a format's bytes are few
-pub few_work : (stored : List ℕ) (o : Orientation) (c : Content) → IsStored stored c → most_work o c ≤ 2 ^ 27
-few_work stored o c kept = omega (arith, of_field o c, few_codes stored c kept, few_texts stored c kept)
 
 abbrev work : Field → ℕ
 work f = most_work f.orientation f.content
@@ -47,12 +28,10 @@ texts f = text_bytes f.content
 
 of_fields : (p : Field → Bool) (fields : List Field) → sum_by work (filter p fields) ≤ 43960 * length (filter p fields) + 262 * sum_by texts fields + 2 * sum_by codes fields
 of_fields p [] = omega arith
-of_fields p (f ∷ fields) = one (p f) (of_fields p fields)
-  where
-    one : (c : Bool) → sum_by work (filter p fields) ≤ 43960 * length (filter p fields) + 262 * sum_by texts fields + 2 * sum_by codes fields
-        → sum_by work (cond c (f ∷ filter p fields) (filter p fields)) ≤ 43960 * length (cond c (f ∷ filter p fields) (filter p fields)) + 262 * sum_by texts (f ∷ fields) + 2 * sum_by codes (f ∷ fields)
-    one true h = omega (arith, sum_by-cons work f (filter p fields), sum_by-cons codes f fields, sum_by-cons texts f fields, of_field f.orientation f.content, h)
-    one false h = omega (arith, sum_by-cons codes f fields, sum_by-cons texts f fields, h)
+of_fields p (f ∷ fields) = elim (cases_Bool (p f)) [
+  | inl e ↦ rw e (omega (arith, sum_by-cons work f (filter p fields), sum_by-cons codes f fields, sum_by-cons texts f fields, of_field f.orientation f.content, of_fields p fields))
+  | inr e ↦ rw e (omega (arith, sum_by-cons codes f fields, sum_by-cons texts f fields, of_fields p fields))
+]
 
 of_band : (sheets : Sheets) (stored : List ℕ) (view : View) (fields : List Field) (b : ℕ) → band_work sheets stored view fields b ≤ 43960 * meeting sheets stored view fields b + 262 * sum_by texts fields + 2 * sum_by codes fields
 of_band sheets stored view fields b = grind (arith, of_fields, length-filter)
@@ -65,15 +44,7 @@ of_copy : (sheets : Sheets) (stored : List ℕ) (view : View) (fields : List Fie
 of_copy sheets stored view fields zero = omega (arith, nothing sheets stored view fields)
 of_copy sheets stored view fields (suc n) =
     let next : suc n ≡ n + 1 = omega arith in
-    omega (
-      arith,
-      ap (copy_work sheets stored view fields) next,
-      ap (pairs sheets stored view fields) next,
-      copy_more sheets stored view fields n,
-      pairs_more sheets stored view fields n,
-      of_copy sheets stored view fields n,
-      of_band sheets stored view fields n,
-    )
+    rw next (omega (arith, copy_more sheets stored view fields n, pairs_more sheets stored view fields n, of_copy sheets stored view fields n, of_band sheets stored view fields n))
 
 pub costs_at_most : CostsAtMost
 costs_at_most = grind (arith, of_copy)

@@ -1,6 +1,5 @@
 -- Entries that stand for the fields of a format.
-use Rattle.std.proofs.Common.{◌≡◌, ℕ, ◌+◌, ◌<◌, ◌≤◌, List, [], ◌∷◌, ◌++◌, length, get_or, sym, true, false, ◌∙◌, arith, Option, Some}
-use Rattle.std.proofs.lemmas.Grind.{common_steps}
+use Rattle.std.proofs.Common.{◌≡◌, ℕ, ◌<◌, ◌≤◌, List, length, get_or, sym, true, false, ◌∙◌, arith, Option, Some}
 use Rattle.std.specs.Prelude.{slice_get}
 use Rattle.std.proofs.lemmas.Option.{get_or_from_slice_get}
 use Rattle.vp_glyph.specs.Sheets.{Sheets}
@@ -17,11 +16,6 @@ use Rattle.vp_bands.proofs.Painted.{NoneOf}
 abbrev pub AreSet : Sheets → Held → View → List Entry → ℕ → Type 0
 AreSet sheets held view entries n =
     (k : ℕ) (f : Field) → k < n → IsSpanned sheets held.stored view (get_or held.fields k f) (entry_at entries k)
-
--- and that of one more
-pub one_set : (sheets : Sheets) (held : Held) (view : View) (entries : List Entry) (n : ℕ) (e : Entry) → length entries ≡ n → ((f : Field) → IsSpanned sheets held.stored view (get_or held.fields n f) e)
-    → AreSet sheets held view entries n → AreSet sheets held view (entries ++ e ∷ []) (n + 1)
-one_set sheets held view entries n e len here done k f lt = grind (arith, common_steps)
 
 -- threading keeps the bands of each
 pub spans_kept : (sheets : Sheets) (held : Held) (view : View) (old new : List Entry) → length new ≡ length old → KeepsSpans old new → AreSpanned sheets held view old → AreSpanned sheets held view new

@@ -1,13 +1,13 @@
 -- The marks of the entries that are carried from band to band.
 use Rattle.std.proofs.Common.{◌≡◌, ℕ, ◌+◌, ◌<◌, ◌≤◌, true, false, nat_le, List, length, set, get_or, None, Some, arith, inl, inr, get_or-set_same, get_or-set_other}
-use Rattle.std.proofs.lemmas.Bool.{cases_eq, cases_lt, both_ways}
+use Rattle.std.proofs.lemmas.Bool.{cases_eq, cases_lt}
 use Rattle.std.proofs.lemmas.Bool.Decides.{nat_tests}
 use Rattle.vp_format.specs.Formats.{Held}
 use Rattle.vp_format.specs.declared.field.Field.{Field}
 use Rattle.vp_field.specs.declared.marks.Marks.{Marks}
 use Rattle.vp_field.specs.Fields.{no_marks, AreMarksOf}
 use Rattle.vp_fields_by_band.specs.declared.table.Entry.{Entry}
-use Rattle.vp_fields_by_band.specs.Threads.{meets, meets_at, is_carried, carried_at, IsNext}
+use Rattle.vp_fields_by_band.specs.Threads.{meets, meets_at, is_carried, IsNext}
 use Rattle.vp_fields_by_band.proofs.Next.{gap_kept}
 use Rattle.vp_bands.specs.Standing.{AreMarked}
 
@@ -28,7 +28,7 @@ marked_behind held entries marks b seen n new within next here marked k f ge lt 
   | inl at ↦ rw (at, get_or-set_same marks n new no_marks within) (here f)
   | inr other ↦ rw (get_or-set_other marks n k new no_marks other) (elim (cases_lt k seen) [
     | inl before ↦ marked k f ge before now
-    | inr past ↦ absurd (both_ways (carried_at entries (b + 1) k) (gap_kept entries b seen n next.3 k past (omega arith)) now)
+    | inr past ↦ grind (arith, gap_kept entries b seen n next.3 k past)
   ])
 ]
 
@@ -37,5 +37,5 @@ pub marked_all : (held : Held) (entries : List Entry) (marks : List Marks) (b se
     → AreMarked held entries marks (b + 1) 0 seen → AreMarked held entries marks (b + 1) 0 (length entries)
 marked_all held entries marks b seen none marked k f ge lt now = elim (cases_lt k seen) [
   | inl before ↦ marked k f ge before now
-  | inr past ↦ absurd (both_ways (carried_at entries (b + 1) k) (gap_kept entries b seen (length entries) none k past lt) now)
+  | inr past ↦ grind (arith, gap_kept entries b seen (length entries) none k past)
 ]

@@ -1,9 +1,6 @@
 -- What painting takes.
-use Rattle.std.proofs.Common.{◌≡◌, ℕ, zero, suc, ◌+◌, ◌-◌, ◌<◌, ◌≤◌, Bool, true, List, [], ◌∷◌, length, take, get_or, ap, sym, ◌∙◌, arith}
+use Rattle.std.proofs.Common.{◌≡◌, ℕ, ◌+◌, ◌-◌, ◌<◌, ◌≤◌, Bool, true, List, [], ◌∷◌, length, take, get_or, ap, ◌∙◌, arith}
 use Rattle.std.specs.Prelude.{filter, sum_by}
-use Rattle.std.specs.List.{range_with_len}
-use Rattle.std.proofs.lemmas.List.{map-id}
-use Rattle.std.proofs.lemmas.List.FromFn.{sum_by-map-range_with_len_more}
 use Rattle.std.proofs.lemmas.List.Sums.{sum_by-append, sum_by-cons}
 use Rattle.vp_glyph.specs.Sheets.{Sheets}
 use Rattle.vp_format.specs.declared.field.Field.{Field}
@@ -11,7 +8,7 @@ use Rattle.vp_field.specs.Contents.{most_work}
 use Rattle.vp_field.specs.declared.view.View.{View}
 use Rattle.vp_bands.specs.Meeting.{band_work, copy_work, bands_of}
 use Rattle.vp_bands.specs.Laws.{WorkBounded}
-use Rattle.vp_bands.proofs.Painted.{passes_next, NoneOf}
+use Rattle.vp_bands.proofs.Painted.{passes_next, NoneOf, sum_more, grows}
 
 -- the most that painting a field takes
 abbrev pub field_work : Field → ℕ
@@ -27,20 +24,12 @@ work_more p fields seen n f le lt none is now =
 -- that of one more band
 pub copy_more : (sheets : Sheets) (stored : List ℕ) (view : View) (fields : List Field) (n : ℕ) → copy_work sheets stored view fields (n + 1) ≡ copy_work sheets stored view fields n + band_work sheets stored view fields n
 unfolding copy_work
-copy_more sheets stored view fields n =
-    ap (sum_by (band_work sheets stored view fields)) (sym (map-id (range_with_len 0 (n + 1))))
-    ∙ sum_by-map-range_with_len_more (band_work sheets stored view fields) (λ c. c) 0 n n (omega arith)
-    ∙ ap (λ bands. sum_by (band_work sheets stored view fields) bands + band_work sheets stored view fields n) (map-id (range_with_len 0 n))
-
-copy_grows : (sheets : Sheets) (stored : List ℕ) (view : View) (fields : List Field) (b d : ℕ) → copy_work sheets stored view fields b ≤ copy_work sheets stored view fields (b + d)
-copy_grows sheets stored view fields b zero = omega (arith, ap (copy_work sheets stored view fields) (let e : b + zero ≡ b = omega arith in e))
-copy_grows sheets stored view fields b (suc d) =
-    omega (arith, ap (copy_work sheets stored view fields) (let e : b + suc d ≡ b + d + 1 = omega arith in e), copy_more sheets stored view fields (b + d), copy_grows sheets stored view fields b d)
+copy_more sheets stored view fields n = sum_more (band_work sheets stored view fields) n
 
 pub work_bounded : WorkBounded
 work_bounded = record {
   at_most = λ sheets held view b t before le.
-      let more = copy_grows sheets held.stored view held.fields b (bands_of view - b) in
-      omega (arith, before.work, more, ap (copy_work sheets held.stored view held.fields) (let e : b + (bands_of view - b) ≡ bands_of view = omega arith in e));
+      let all : b + (bands_of view - b) ≡ bands_of view = omega arith in
+      omega (arith, before.work, rw all at (grows (copy_work sheets held.stored view held.fields) (λ k. omega (arith, copy_more sheets held.stored view held.fields k)) b (bands_of view - b)));
   at_least = λ sheets held view t before. before.shown;
 }

@@ -1,5 +1,3 @@
-use Rattle.std.proofs.Common.{arith}
-use Rattle.vp_bands.proofs.Costs.{few_work}
 use Rattle.vp_bands.proofs.walk.paint_met.Goals.{then-begins, else-begins}
 use Rattle.vp_bands.proofs.walk.paint_met.Goals as goal
 
@@ -14,7 +12,3 @@ returns-clause-shows g c = rw c.stored.ensures.bytes at c.paint_field.ensures.sh
 
 pub returns-clause-counted : goal.returns-clause-counted
 returns-clause-counted g c = rw c.stored.ensures.bytes at c.paint_field.ensures.counted
-
-pub returns-clause-countable : goal.returns-clause-countable
-returns-clause-countable g c =
-    omega (arith, c.paint_field.ensures.work, few_work c.args.format.now.stored c.args.field.now.orientation c.args.field.now.content c.requires.kept.content)
