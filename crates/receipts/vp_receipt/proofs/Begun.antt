@@ -1,6 +1,6 @@
 -- What is printed is the images that are whole, and the raster that has begun.
 use Rattle.std.proofs.lemmas.Grind.{common_steps, flat_map-append}
-use Rattle.std.proofs.Common.{◌≡◌, ℕ, ◌+◌, ◌-◌, ◌*◌, ◌<◌, nat_lt, Bool, true, false, List, [], ◌∷◌, ◌++◌, length, flat_map, append_assoc, Option, refl, sym, ap, ◌∙◌, arith, length-append}
+use Rattle.std.proofs.Common.{◌≡◌, ℕ, ◌+◌, ◌-◌, ◌*◌, ◌<◌, nat_lt, true, false, List, [], ◌∷◌, ◌++◌, length, flat_map, append_assoc, Option, refl, sym, ap, ◌∙◌, arith, length-append}
 use Rattle.std.proofs.lemmas.Bool.{ne_eqb, eq-eqb, eqb-true, eqb-false, ltb-true, and_parts}
 use Rattle.std.proofs.lemmas.List.{append-nil}
 use Rattle.std.proofs.lemmas.Grind.{flat_map-append}
@@ -46,16 +46,9 @@ abbrev so_far : Setup → List EscItem → ℕ → List (List ℕ) → List ℕ
 so_far setup before n rows =
     header_of (across setup.width) (times_down (raster_scale before) * n) ++ flat_map (raster_row_text setup before) rows
 
-begun_on_paper : (setup : Setup) (before : List EscItem) → is_paged (mode setup before) ≡ false → 0 < rows_to_come before →
-    begun setup before ≡ so_far setup before (length (rows_come before) + rows_to_come before) (rows_come before)
-begun_on_paper setup before m some = rw (m, ne_eqb (rows_to_come before) 0 (λ e. absurd (omega arith))) refl
-
 -- the head of a raster
 head_tells : (setup : Setup) (before : List EscItem) (scale : Spelled (Option RasterScale)) (bytes rows : ℕ) → rows_to_come before ≡ 0 → Tells setup before → Tells setup (Raster scale bytes rows ∷ before)
 head_tells setup before scale bytes rows none prev = grind (arith, item_next, none_begun, ne_eqb, append-nil, line_is, ltb-true, and_parts, nat_lt)
-
-some_times : (scale : RasterScale) (n : ℕ) → 0 < n → times_down scale * n ≡ 0 → ⊥
-some_times scale n some e = grind arith
 
 -- a raster whose rows have all come
 whole_raster : (setup : Setup) (before : List EscItem) → 0 < length (rows_come before) → so_far setup before (length (rows_come before)) (rows_come before) ≡ flat_map pbm (raster_image setup before)
@@ -65,11 +58,8 @@ whole_raster setup before some =
     let high = times_down scale * length rows in
     ap (λ t. header_of (across setup.width) high ++ t)
     (sym (all_rows setup.width (raster_dot setup before (times_across scale) (raster_bytes before)) (times_down scale) rows))
-    ∙ text_of_rows setup.width high (drawn_dot setup before) (some_times scale (length rows) some)
+    ∙ text_of_rows setup.width high (drawn_dot setup before) (grind arith)
     ∙ strip_is setup.width high (drawn_dot setup before)
-
-pub by_bool : {P : Type 0} (b : Bool) → (b ≡ true → P) → (b ≡ false → P) → P
-by_bool b f g = grind arith
 
 module _ (setup : Setup) (before : List EscItem) (byte : ℕ) (prev : Tells setup before) where
   abbrev after : List EscItem
@@ -103,10 +93,10 @@ module _ (setup : Setup) (before : List EscItem) (byte : ℕ) (prev : Tells setu
 
       -- the rows with this one
       with_row : begun setup before ++ prints setup before (RasterByte byte) ≡ so_far setup after (length (rows_come before) + rows_to_come before) (rows_come after)
-      with_row = grind (arith, begun_on_paper, some, row_printed, append_assoc, append-nil, flat_map-append, come)
+      with_row = grind (arith, some, row_printed, append_assoc, append-nil, flat_map-append, come)
 
       more_rows : (rows_to_come before ≡ 1 → ⊥) → Tells setup after
-      more_rows other = grind (arith, fewer, some, one_more, ne_eqb, append_assoc, append-nil, with_row, begun_on_paper)
+      more_rows other = grind (arith, fewer, some, one_more, ne_eqb, append_assoc, append-nil, with_row)
 
       last_row : rows_to_come before ≡ 1 → Tells setup after
       last_row one =
@@ -117,7 +107,7 @@ module _ (setup : Setup) (before : List EscItem) (byte : ℕ) (prev : Tells setu
           (none_begun setup after (omega (arith, fewer, one)))
 
   byte_tells : Tells setup after
-  byte_tells = grind (arith, by_bool, on_page, last_row, eqb-true, more_rows, eqb-false, within)
+  byte_tells = grind (arith, on_page, last_row, eqb-true, more_rows, eqb-false, within)
 
 pub tells : (setup : Setup) (before : List EscItem) → IsOrderly before → Tells setup before
 tells setup [] o = refl

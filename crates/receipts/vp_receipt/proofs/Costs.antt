@@ -1,22 +1,20 @@
 -- What an item lays on a page and wipes there at most.
-use Rattle.std.proofs.Common.{◌≤◌, ℕ, ◌+◌, Bool, ◌&&◌, if◌then◌else◌, List, [], ◌∷◌, Option, Some, None, is_some, arith, lit≤}
+use Rattle.std.proofs.Common.{◌≤◌, ℕ, ◌+◌, Bool, ◌&&◌, if◌then◌else◌, List, [], ◌∷◌, Option, is_some, arith, lit≤}
 use Rattle.std.proofs.lemmas.Nat.{mul-le}
 use Rattle.vp_dots.specs.Images.{Image}
 use Rattle.vp_esc.specs.declared.item.EscItem.{EscItem}
-use Rattle.vp_esc.specs.declared.item.EscItem.TheVariants.{PrintMode, Magnify, Initialize, Character, Column8, Column24, LineFeed, FeedDots, FeedLines, CutLeavingOnePoint, CutLeavingThreePoints, Cut, FeedAndCut, Symbol, QrPrint, Raster, RasterByte, StandardMode, VerticalPosition, MoveVerticalPosition, Area as SetArea, Direction as SetDirection, PrintPage, FormFeed, Cancel}
+use Rattle.vp_esc.specs.declared.item.EscItem.TheVariants.{PrintMode, Magnify, Initialize, Character, Column8, Column24, LineFeed, FeedDots, FeedLines, CutLeavingOnePoint, CutLeavingThreePoints, Cut, FeedAndCut, Symbol, QrPrint, Raster, StandardMode, VerticalPosition, MoveVerticalPosition, Area as SetArea, Direction as SetDirection, PrintPage, FormFeed, Cancel}
 use Rattle.vp_page.specs.declared.area.Area.{Area}
 use Rattle.vp_page.specs.declared.page.TheConstants.{PAGE_ROWS}
-use Rattle.vp_page.specs.Work.{rows_laid, area_rows}
+use Rattle.vp_page.specs.Work.{rows_laid}
 use Rattle.vp_receipt_settings.specs.declared.text.TheConstants.{LINE_ROWS}
-use Rattle.vp_receipt_settings.specs.declared.width.Width.{Width}
 use Rattle.vp_receipt_settings.specs.Setup.{Setup}
-use Rattle.vp_receipt_settings.specs.Pages.{area, is_area, area_cut, is_vertical_move}
+use Rattle.vp_receipt_settings.specs.Pages.{area, is_area, is_vertical_move}
 use Rattle.vp_receipt_settings.specs.Rasters.{draws}
 use Rattle.vp_receipt_settings.specs.Symbols.{symbol_image}
 use Rattle.vp_receipt_settings.specs.Texts.{high}
 use Rattle.vp_receipt_settings.specs.Line.{Placed, Layout, breaks, character, height, is_open, layout, layout_by, layout_length, line, on_page}
-use Rattle.vp_receipt_settings.specs.Extent.{ends_line}
-use Rattle.vp_receipt.specs.PageMarks.{line_mark, raster_mark, symbol_mark_of}
+use Rattle.vp_receipt.specs.PageMarks.{line_mark, symbol_mark_of}
 use Rattle.vp_receipt.specs.Work.{CostsAtMost, most_by, mark_rows}
 use Rattle.vp_receipt.proofs.Work.{adds_at_most}
 
@@ -75,39 +73,22 @@ pub record IsOnPaper (a : Area) : Type 0 where
   pub across : a.dx ≤ PAGE_ROWS
   pub down : a.dy ≤ PAGE_ROWS
 
-cut_on_paper : (paper : Width) (x y wide high : ℕ) → IsOnPaper (area_cut paper x y wide high)
-cut_on_paper paper x y wide high = grind arith
-
-area_if : (b : Bool) (a c : Area) → IsOnPaper a → IsOnPaper c → IsOnPaper (if b then a else c)
-area_if b a c h k = grind arith
-
 on_paper : (setup : Setup) (before : List EscItem) → IsOnPaper (area setup before)
 on_paper setup [] = grind arith
-on_paper setup (SetArea x y wide high ∷ before) = grind (arith, area_if, cut_on_paper, on_paper setup before)
+on_paper setup (SetArea x y wide high ∷ before) = grind (arith, on_paper setup before)
 on_paper setup (Initialize ∷ before) = grind arith
 on_paper setup (_ ∷ before) = on_paper setup before
 
 symbol_few : (setup : Setup) (before : List EscItem) (image : Option Image) → mark_rows (symbol_mark_of setup before image) ≤ PAGE_ROWS
 symbol_few setup before image = grind (arith, on_paper)
 
-row_few : (setup : Setup) (before : List EscItem) (row : List ℕ) (ends : Bool) → mark_rows (if ends then Some (raster_mark setup before row) else None) ≤ 2
-row_few setup before row ends = grind (arith, lit≤)
-
-wiped_few : (b : Bool) (a : Area) → (if b then area_rows a else 0) ≤ PAGE_ROWS
-wiped_few b a = grind (arith, lit≤)
-
 -- the line that an item ends
 line_few : (setup : Setup) (before : List EscItem) (b : Bool) → (if b then rows_laid (line_mark setup before) else 0) ≤ LINE_ROWS
 line_few setup before b = grind (arith, line_low)
 
 item_few : (setup : Setup) (before : List EscItem) (item : EscItem) → most_by setup before item ≤ LINE_ROWS + PAGE_ROWS
-item_few setup before (Symbol kind bytes more) = grind (arith, symbol_few, line_few)
-item_few setup before QrPrint =
-    let own = symbol_few setup before (symbol_image setup before QrPrint) in
-    omega (arith, own, line_few setup before (is_open (line setup before)))
-item_few setup before (RasterByte byte) = grind (arith, row_few)
-item_few setup before Cancel = grind (arith, wiped_few, line_few)
-item_few setup before item = omega (arith, line_few setup before (ends_line setup before item && is_open (line setup before)))
+item_few setup before QrPrint = omega (arith, (symbol_few setup before (symbol_image setup before QrPrint)), line_few setup before (is_open (line setup before)))
+item_few setup before item = grind (arith, symbol_few, line_few, lit≤)
 
 pub costs_at_most : CostsAtMost
-costs_at_most = grind (arith, item_few, row_few, adds_at_most)
+costs_at_most = grind (arith, item_few, lit≤, adds_at_most)

@@ -24,7 +24,6 @@ use Rattle.vp_receipt.specs.Strips.{line_strip_rows, own_strips, own_part, print
 use Rattle.vp_receipt.specs.Effects.{line_by, line_rows_by, own_by, strips_by, page_by, part_by, prints_by, layers_by, mode_by}
 use Rattle.vp_receipt.specs.Standing.{Gathers, HasPageIf, IsActing}
 use Rattle.vp_receipt.proofs.ItemKinds.{is_ignored}
-use Rattle.vp_receipt.proofs.PageLines.{}
 
 -- the kind of item that an effect tells
 abbrev pub IsKind : EscItem → Effect → Type 0

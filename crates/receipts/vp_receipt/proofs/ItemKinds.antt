@@ -52,9 +52,6 @@ pub record Stores (setup : Setup) (before : List EscItem) (item : EscItem) : Typ
   pub layers : layers setup (item ∷ before) ≡ layers setup before
   pub prints : prints setup before item ≡ []
 
-stores : (setup : Setup) (before : List EscItem) (byte : ℕ) → Stores setup before (QrByte byte)
-stores setup before byte = record { settings = refl; line = refl; stops = refl; mode = refl; layers = refl; prints = nothing_by (mode setup before) }
-
 -- bytes that are stored leave all else alone
 pub record StoresAll (setup : Setup) (before after : List EscItem) : Type 0 where
   pub settings : settings_of setup after ≡ settings_of setup before
@@ -66,7 +63,7 @@ pub record StoresAll (setup : Setup) (before after : List EscItem) : Type 0 wher
 
 pub stores_all : (setup : Setup) (bytes : List ℕ) (before : List EscItem) → StoresAll setup before (stored_after bytes before)
 stores_all setup [] before = record { settings = refl; line = refl; stops = refl; mode = refl; layers = refl; printed = refl }
-stores_all setup (b ∷ bytes) before = grind (arith, stores, append-nil, stored_first, stores_all setup bytes (QrByte b ∷ before))
+stores_all setup (b ∷ bytes) before = grind (arith, nothing_by, append-nil, stored_first, stores_all setup bytes (QrByte b ∷ before))
 
 stored_ends : (r : Raster) (bytes : List ℕ) (before : List EscItem) → IsGathering r before → IsGathering r [] → IsGathering r (stored_after bytes before)
 stored_ends r [] before g none = g

@@ -1,6 +1,6 @@
 -- The items of bytes: those of a raster's bytes come before any other item does.
 use Rattle.std.proofs.lemmas.Grind.{common_steps}
-use Rattle.std.proofs.Common.{◌≡◌, ℕ, zero, suc, ◌+◌, ◌-◌, ◌*◌, ◌≤◌, ◌<◌, ◌==◌, Bool, true, false, List, [], ◌∷◌, ◌++◌, length, map, reverse, Option, None, inl, inr, refl, sym, subst, arith, length-append}
+use Rattle.std.proofs.Common.{◌≡◌, ℕ, suc, ◌+◌, ◌-◌, ◌*◌, ◌≤◌, ◌<◌, ◌==◌, Bool, true, false, List, [], ◌∷◌, ◌++◌, length, map, reverse, Option, None, inl, inr, refl, arith, length-append}
 use Rattle.std.specs.List.{flat_map, AllByRecursion}
 use Rattle.std.proofs.Math.Nat.{suc-mul}
 use Rattle.std.proofs.lemmas.Bool.{eqb-true, eqb-false}
@@ -13,7 +13,6 @@ use Rattle.vp_esc.specs.Split.{split, items}
 use Rattle.vp_esc.specs.Units.{is_unfinished, given, raster_bytes as given_bytes}
 use Rattle.vp_receipt_settings.specs.Rasters.{raster_bytes, rows_to_come, row_so_far}
 use Rattle.vp_receipt.proofs.Begun.{IsOrderly}
-use Rattle.vp_receipt.proofs.Images.{is_raster}
 use Rattle.vp_receipt.proofs.UnitKinds.{IsOther, IsRasterGiven, Kind, kinds}
 
 -- items onto those before them
@@ -33,12 +32,9 @@ onto_more (x ∷ xs) ys before = onto_more xs ys (x ∷ before)
 abbrev IsBetween : List EscItem → Type 0
 IsBetween before = IsOrderly before × (rows_to_come before ≡ 0)
 
-other_next : (item : EscItem) (before : List EscItem) → is_raster item ≡ false → IsBetween before → IsBetween (item ∷ before)
-other_next item before h1 h2 = grind arith
-
 others_next : (items before : List EscItem) → AllByRecursion IsOther items → IsBetween before → IsBetween (onto items before)
 others_next [] before h b = b
-others_next (item ∷ items) before h b = others_next items (item ∷ before) h.1 (other_next item before h.0.is b)
+others_next (item ∷ items) before h b = others_next items (item ∷ before) h.1 (grind arith)
 
 -- so many bytes of a raster are enough
 record IsEnough (before : List EscItem) (n : ℕ) : Type 0 where
@@ -46,11 +42,7 @@ record IsEnough (before : List EscItem) (n : ℕ) : Type 0 where
   pub within : 0 < rows_to_come before → length (row_so_far before) < raster_bytes before
 
 row_less : (rows bytes got n : ℕ) → rows * bytes ≤ got + suc n → got + 1 ≡ bytes → (rows - 1) * bytes ≤ n
-row_less zero bytes got n h e = omega arith
-row_less (suc rows) bytes got n h e =
-    let s = suc-mul rows bytes in
-    let less : suc rows - 1 ≡ rows = omega arith in
-    subst (λ r. r * bytes ≤ n) (sym less) (omega (arith, h, e, s))
+row_less rows bytes got n h e = grind (arith, suc-mul, h, e, (suc-mul rows bytes), common_steps)
 
 none_left : (rows bytes got : ℕ) → rows * bytes ≤ got + 0 → (0 < rows → got < bytes) → rows ≡ 0
 none_left rows bytes got h1 h2 = grind arith
@@ -60,26 +52,9 @@ module _ (before : List EscItem) (byte n : ℕ) (enough : IsEnough before (suc n
   after = RasterByte byte ∷ before
 
   by_row : (ends none : Bool) → (length (row_so_far before) + 1 == raster_bytes before) ≡ ends → (rows_to_come before == 0) ≡ none → IsEnough after n
-  by_row true none e z =
-      let got = eqb-true (length (row_so_far before) + 1) (raster_bytes before) e in
-      let rows : rows_to_come after ≡ rows_to_come before - 1 = rw e refl in
-      let row : row_so_far after ≡ [] = rw e refl in
-      record {
-        count = rw (rows, row) (omega (arith, row_less (rows_to_come before) (raster_bytes before) (length (row_so_far before)) n enough.count got));
-        within = λ some. rw row (omega (arith, got));
-      }
-  by_row false true e z =
-      let rows : rows_to_come after ≡ rows_to_come before = rw e refl in
-      let none : rows_to_come before ≡ 0 = eqb-true _ _ z in
-      record { count = rw (rows, none) (omega arith); within = λ some. absurd (omega (arith, rows, none, some)) }
-  by_row false false e z =
-      let rows : rows_to_come after ≡ rows_to_come before = rw e refl in
-      let row : length (row_so_far after) ≡ length (row_so_far before) + 1 = rw (e, z) (length-append (row_so_far before) (byte ∷ [])) in
-      let other : length (row_so_far before) + 1 ≡ raster_bytes before → ⊥ = eqb-false _ _ e in
-      record {
-        count = rw (rows, row) (omega (arith, enough.count));
-        within = λ some. let inside = enough.within (omega (arith, rows, some)) in omega (arith, row, inside, other);
-      }
+  by_row true none e z = grind (arith, eqb-true, row_less (rows_to_come before) (raster_bytes before) (length (row_so_far before)) n enough.count)
+  by_row false true e z = grind (arith, eqb-true)
+  by_row false false e z = grind (arith, length-append, eqb-false)
 
   enough_next : IsEnough after n
   enough_next = by_row (length (row_so_far before) + 1 == raster_bytes before) (rows_to_come before == 0) refl refl

@@ -38,15 +38,11 @@ rows_up_to : (paper : Width) (f g : ℕ → ℕ → Bool) (y n : ℕ) → y + n 
 rows_up_to paper f g y zero l h = refl
 rows_up_to paper f g y (suc n) l h = ap (λ r. r ++ rows_text paper f (y + 1) n) (paper_row_same paper (λ x. f x y) (λ x. g x y) (λ x k. h x y k (omega arith))) ∙ ap (λ r. paper_row paper (λ x. g x y) ++ r) (rows_up_to paper f g (y + 1) n (omega arith) h)
 
--- a row of the page is that of its layers
-page_shown : (layers : List Layer) (page : Paged) → HasPage layers page → (x y : ℕ) → x < PAPER_DOTS → y < PAGE_ROWS → page_dot_of page.rows x y ≡ page_dot layers x y
-page_shown layers page has x y h k = let e : x - 0 ≡ x = omega arith in rw (lt-ltb y PAGE_ROWS k, le-leb 0 x (omega arith), e, lt-ltb x PAPER_DOTS h) (has.dots_are x y h k)
-
 strip_shown : (paper : Width) (layers : List Layer) (canvas : Canvas) (rows : ℕ) → rows ≤ PAGE_ROWS → HasPage layers canvas.page → (rows ≡ 0 → ⊥)
     → whole (record { paper = paper; tall = rows; rows = rows; dots = PageDots }) canvas ≡ strip_text paper rows (page_dot layers)
 strip_shown paper layers canvas rows h has some =
     ap (λ k. header_of (across paper) rows ++ rows_text paper (page_dot_of canvas.page.rows) 0 k) (let z : rows - 0 ≡ rows = omega arith in z)
-    ∙ ap (λ r. header_of (across paper) rows ++ r) (rows_up_to paper (page_dot_of canvas.page.rows) (page_dot layers) 0 rows (omega arith) (page_shown layers canvas.page has))
+    ∙ ap (λ r. header_of (across paper) rows ++ r) (rows_up_to paper (page_dot_of canvas.page.rows) (page_dot layers) 0 rows (omega arith) (grind (arith, lt-ltb, le-leb)))
     ∙ text_of_rows paper rows (page_dot layers) some
 
 -- the strip of the page

@@ -1,11 +1,11 @@
 -- Whole rows of a raster, laid on the page one below the other.
-use Rattle.std.proofs.Common.{◌≡◌, ℕ, zero, suc, ◌+◌, ◌-◌, ◌*◌, ◌/◌, ◌%◌, ◌<◌, ◌≤◌, Bool, true, false, ltb, leb, nat_lt, ◌&&◌, ◌||◌, List, [], ◌∷◌, ◌++◌, length, take, drop, min, refl, sym, ap, subst, ◌∙◌, append_assoc, arith, Option}
+use Rattle.std.proofs.Common.{◌≡◌, ℕ, zero, suc, ◌+◌, ◌-◌, ◌*◌, ◌/◌, ◌<◌, ◌≤◌, Bool, true, ltb, leb, nat_lt, ◌&&◌, ◌||◌, List, [], ◌∷◌, ◌++◌, length, take, drop, min, refl, sym, ap, ◌∙◌, append_assoc, arith, Option}
 use Rattle.std.proofs.Math.Nat.{suc-mul, mul_comm, mul-le-mul_right, div-le_of_le-mul, div-mul-le_self, lt-div-mul-add, le_trans}
 use Rattle.std.proofs.lemmas.Bool.{lt-ltb}
 use Rattle.std.proofs.lemmas.Bool.Decides.{nat_tests}
 use Rattle.std.proofs.lemmas.List.{append-nil, take-append-drop, take-take, take_all, get_or-take, length-take, length-drop}
 use Rattle.std.proofs.lemmas.Nat.{div-mul-add}
-use Rattle.vp_dots.specs.Dots.{dot, bit}
+use Rattle.vp_dots.specs.Dots.{dot}
 use Rattle.vp_esc.specs.declared.item.EscItem.{EscItem}
 use Rattle.vp_esc.specs.declared.item.EscItem.TheVariants.{RasterByte}
 use Rattle.vp_esc.specs.declared.item.RasterScale.{RasterScale}
@@ -20,7 +20,7 @@ use Rattle.vp_receipt_settings.specs.Setup.{Setup}
 use Rattle.vp_receipt_settings.specs.Line.{mode, line}
 use Rattle.vp_receipt_settings.specs.Settings.{settings_of, page_of, IsFitPage}
 use Rattle.vp_receipt_settings.specs.Texts.{text_in_force}
-use Rattle.vp_receipt_settings.specs.Rasters.{times_across, times_down, raster_scale, raster_bytes, row_so_far, is_row_end, bytes_after, row_at}
+use Rattle.vp_receipt_settings.specs.Rasters.{times_across, times_down, raster_scale, raster_bytes, row_so_far, bytes_after, row_at}
 use Rattle.vp_receipt_settings.specs.Gathering.{IsGathering, IsPartRow, room_of, left_of}
 use Rattle.vp_receipt_settings.specs.Runs.{below}
 use Rattle.vp_receipt_settings.specs.declared.raster.Raster.{Raster}
@@ -35,11 +35,6 @@ use Rattle.vp_receipt.proofs.Runs.{layers_same}
 use Rattle.vp_page.specs.declared.page.TheConstants.{PAGE_ROWS, PAPER_DOTS}
 use Rattle.vp_page.specs.declared.line.TheConstants.{LINE_BYTES, LINE_DOTS}
 
--- the first bytes of a row have its first dots
-pub first_dots_of : (row : List ℕ) (n u : ℕ) → u / 8 < n → dot (take n row) u ≡ dot row u
-unfolding dot
-first_dots_of row n u h = ap (λ b. bit b (7 - u % 8)) (get_or-take n row (u / 8) 0 h)
-
 -- on a page a raster's bytes print nothing
 pub nothing_printed : (setup : Setup) (bytes : List ℕ) (before : List EscItem) → mode setup before ≡ Page → printed setup (bytes_after bytes before) ≡ printed setup before
 nothing_printed setup [] before e = refl
@@ -53,14 +48,9 @@ layers_stay setup (b ∷ bytes) before in_row = grind (arith, after_first, layer
 abbrev row_dot : RasterScale → List ℕ → ℕ → ℕ → Bool
 row_dot scale row u w = nat_lt w (times_down scale) && dot row (u / times_across scale)
 
-mark_same : (setup : Setup) (b : ℕ) (before : List EscItem) (row : List ℕ) → is_row_end before ≡ false → raster_mark setup (RasterByte b ∷ before) row ≡ raster_mark setup before row
-mark_same setup b before row e = ap (λ (s : Settings). mark_of s.page (times_down (raster_scale before)) (row_dot (raster_scale before) row)) (settings_same setup b before e)
-
 -- bytes that end the row lay it
 pub row_laid_by : (setup : Setup) (bytes : List ℕ) (before : List EscItem) → Lacks bytes before
     → layers setup (bytes_after bytes before) ≡ Laid (raster_mark setup before (row_so_far before ++ bytes)) ∷ layers setup before
-row_laid_by setup [] before h = absurd (omega (arith, h.some))
-row_laid_by setup (b ∷ []) before h = rw (at_end b before h) refl
 row_laid_by setup (b ∷ c ∷ bytes) before h =
     let more = not_end b c bytes before h in
     let go = goes b c bytes before h in
@@ -68,8 +58,9 @@ row_laid_by setup (b ∷ c ∷ bytes) before h =
     ap (λ xs. xs ++ c ∷ bytes) (inside b before h.rows go.room).row ∙ append_assoc (row_so_far before) (b ∷ []) (c ∷ bytes) in
     ap (layers setup) (after_first b (c ∷ bytes) before) ∙ row_laid_by setup (c ∷ bytes) (RasterByte b ∷ before) go.rest
     ∙ ap (λ xs. Laid (raster_mark setup (RasterByte b ∷ before) xs) ∷ layers setup (RasterByte b ∷ before)) row
-    ∙ ap (λ (m : Mark). Laid m ∷ layers setup (RasterByte b ∷ before)) (mark_same setup b before (row_so_far before ++ b ∷ c ∷ bytes) more)
+    ∙ ap (λ (m : Mark). Laid m ∷ layers setup (RasterByte b ∷ before)) (grind (arith, row_dot, settings_same))
     ∙ ap (λ (l : List Layer). Laid (raster_mark setup before (row_so_far before ++ b ∷ c ∷ bytes)) ∷ l) (layers_same setup b before more)
+row_laid_by setup bytes before h = grind (arith, at_end, h.some)
 
 -- the rows of an area on the page
 depth_small : (a : Area) (d : Direction) → a.x + a.dx ≤ PAPER_DOTS → a.y + a.dy ≤ PAGE_ROWS → depth a d ≤ PAGE_ROWS
@@ -81,9 +72,6 @@ row_more : (h r m p : Bool) (w top k d : ℕ) → (h ≡ true → w < 65535) →
     ≡ (h && (leb top w && (ltb (w - top) (k + d) && m)) || p)
 row_more h r m p w top k d small same = grind (arith, nat_tests)
 
-no_rows : (h t : Bool) (w k : ℕ) (b : Bool) → k ≡ 0 → (h && (t && (ltb w k && b))) ≡ false
-no_rows h t w k b e = grind (arith, nat_tests)
-
 -- dots of row k
 pub row_is : (scale : RasterScale) (wide n : ℕ) (bytes : List ℕ) (k u w y : ℕ) → k < n → y ≡ k * times_down scale + w → w < times_down scale
     → rows_dot scale wide n bytes u y ≡ dot (row_at bytes wide k) (u / times_across scale)
@@ -91,7 +79,8 @@ row_is scale wide n bytes k u w y few at in_row = grind (arith, mul-le-mul_right
 
 -- the bytes that are shown of a row have its dots
 pub front_shown : (wide v : ℕ) (bytes : List ℕ) → v < LINE_DOTS → dot (take (min wide LINE_BYTES) bytes) v ≡ dot (take wide bytes) v
-front_shown wide v bytes h = grind (arith, take-take, first_dots_of)
+unfolding dot
+front_shown wide v bytes h = grind (arith, take-take, get_or-take)
 
 -- the mark of rows at the vertical position
 abbrev rows_mark : Setup → List ℕ → ℕ → List EscItem → Mark
@@ -116,7 +105,7 @@ module _ (setup : Setup) (bytes : List ℕ) (n : ℕ) (before : List EscItem) (s
   -- so many rows one by one are the first rows of the mark
   first_laid : (k : ℕ) → k ≤ n → HaveRows bytes k before → (x y : ℕ)
       → page_dot (layers setup (bytes_after (take (k * raster_bytes before) bytes) before)) x y ≡ page_dot (Laid (first_rows (k * d) m) ∷ layers setup before) x y
-  first_laid zero few h x y = grind (arith, no_row, no_rows)
+  first_laid zero few h x y = grind (arith, no_row)
   first_laid (suc k) few h x y =
       let here = bytes_after (take (k * raster_bytes before) bytes) before in
       let row = row_at bytes (raster_bytes before) k in
@@ -142,10 +131,7 @@ module _ (setup : Setup) (bytes : List ℕ) (n : ℕ) (before : List EscItem) (s
       let less = fewer bytes k before h in
       let above = much k (omega arith) less in
       let deep = depth_small m.area m.direction fit.across fit.down in
-      let is : layers setup (bytes_after (take (suc k * raster_bytes before) bytes) before) ≡ Laid (mark_of (below (settings_of setup before) (k * d)).page d (row_dot (raster_scale before) row)) ∷ layers setup here =
-      ap (layers setup) (next_row bytes (raster_bytes before) k before) ∙ row_laid_by setup row here (lacks_row bytes k before h)
-      ∙ ap (λ (l : Mark). Laid l ∷ layers setup here) (mark_below setup bytes k before small less) in
-      subst (λ (l : List Layer). TakeAsMuch l (Laid (first_rows (suc k * d) m) ∷ layers setup before)) (sym is)
+      rw (next_row bytes (raster_bytes before) k before, row_laid_by setup row here (lacks_row bytes k before h), mark_below setup bytes k before small less)
       (record { laid = omega (arith, above.laid, suc-mul k d, deep); most = above.most; least = above.least })
 
   all_shown : (x y : ℕ) → page_dot (Laid m ∷ layers setup before) x y ≡ page_dot (Laid (first_rows (n * d) m) ∷ layers setup before) x y
@@ -176,18 +162,11 @@ pub rows_on_page : (setup : Setup) (before : List EscItem) (s t : Settings) (r n
     → IsOnPage setup (bytes_after (take (n * r.bytes) bytes) before) t now new
 rows_on_page setup before s t r now bytes n page new small fit part begins few long h e g laid =
     let have = have_rows r n bytes before part begins few h.raster long in
-    let low = subst (λ (q : Settings). q.page.vertical ≤ 65535) h.settings small in
-    let mark : mark_of s.page (n * times_down r.scale) (rows_dot r.scale r.bytes n bytes) ≡ rows_mark setup bytes n before =
-    ap (λ (q : Settings). mark_of q.page (n * times_down r.scale) (rows_dot r.scale r.bytes n bytes)) h.settings
-    ∙ ap (λ (k : RasterScale). mark_of (page_of setup before) (n * times_down k) (rows_dot k r.bytes n bytes)) h.raster.scale
-    ∙ ap (λ w. mark_of (page_of setup before) (n * times_down (raster_scale before)) (rows_dot (raster_scale before) w n bytes)) h.raster.bytes in
+    let low = rw h.settings at small in
     record {
-      settings = e ∙ ap (λ (q : Settings). below q (n * times_down r.scale)) h.settings ∙ ap (λ (k : RasterScale). below (settings_of setup before) (n * times_down k)) h.raster.scale
-          ∙ sym (rows_below setup bytes n before low have) ∙ ap (λ w. settings_of setup (bytes_after (take (n * w) bytes) before)) (sym h.raster.bytes);
+      settings = grind (arith, e, h.settings, h.raster.scale, h.raster.bytes, rows_below setup bytes n before low have);
       raster = g;
-      page = subst (λ w. HasPage (layers setup (bytes_after (take (n * w) bytes) before)) new) (sym h.raster.bytes)
-          (rows_laid setup bytes n before low (subst (λ (q : Settings). IsFitPage q.page) h.settings fit) new have
-          (subst (λ (m : Mark). HasPage (Laid m ∷ layers setup before) new) mark laid));
+      page = rw h.raster.bytes (rows_laid setup bytes n before low (rw h.settings at fit) new have (rw (h.settings, h.raster.scale, h.raster.bytes) at laid));
     }
 
 pub rest_whole : (bytes : List ℕ) (n : ℕ) → take (length bytes - n) (drop n bytes) ≡ drop n bytes
@@ -196,10 +175,7 @@ rest_whole bytes n = take_all (length bytes - n) (drop n bytes) (omega (arith, l
 -- the bytes behind others
 pub rest_on_page : (setup : Setup) (before : List EscItem) (s : Settings) (r : Raster) (bytes : List ℕ) (n : ℕ) (page : Paged)
     → IsOnPage setup (bytes_after (take (length bytes - n) (drop n bytes)) (bytes_after (take n bytes) before)) s r page → IsOnPage setup (bytes_after bytes before) s r page
-rest_on_page setup before s r bytes n page h =
-    subst (λ (items : List EscItem). IsOnPage setup items s r page)
-    (ap (λ xs. bytes_after xs (bytes_after (take n bytes) before)) (rest_whole bytes n)
-    ∙ sym (after_both (take n bytes) (drop n bytes) before) ∙ ap (λ xs. bytes_after xs before) (take-append-drop n bytes)) h
+rest_on_page setup before s r bytes n page h = rw (← take-append-drop n bytes, after_both) (rw rest_whole at h)
 
 -- bytes of which so many rows are taken, all that they have
 pub record Taken (r : Raster) (long n : ℕ) : Type 0 where

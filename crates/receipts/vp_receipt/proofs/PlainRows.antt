@@ -1,7 +1,7 @@
 -- Rows of a raster that are printed as they come.
-use Rattle.std.proofs.Common.{◌≡◌, ℕ, zero, suc, ◌+◌, ◌-◌, ◌*◌, ◌/◌, ◌<◌, ◌≤◌, ◌^◌, Bool, true, false, nat_lt, nat_le, ◌&&◌, List, [], ◌∷◌, ◌++◌, length, take, drop, min, refl, sym, ap, subst, ◌∙◌, append_assoc, arith, get_or}
+use Rattle.std.proofs.Common.{◌≡◌, ℕ, zero, suc, ◌-◌, ◌*◌, ◌/◌, ◌<◌, ◌≤◌, ◌^◌, Bool, true, nat_lt, nat_le, ◌&&◌, List, [], ◌∷◌, ◌++◌, length, take, drop, min, refl, sym, ap, subst, ◌∙◌, append_assoc, arith, get_or}
 use Rattle.vp_page.specs.Pages.{Paged}
-use Rattle.std.proofs.Math.Nat.{suc-mul, mul_comm, div-le_of_le-mul, div-mul-le_self, lt-div-mul-add, div-lt_iff_lt-mul, mul-le-mul_right, le_trans}
+use Rattle.std.proofs.Math.Nat.{suc-mul}
 use Rattle.std.proofs.Math.Seq.{take-add}
 use Rattle.std.proofs.lemmas.Bool.{and_parts, eqb-true}
 use Rattle.std.proofs.lemmas.Bool.Decides.{nat_tests}
@@ -16,38 +16,34 @@ use Rattle.vp_receipt_settings.specs.declared.page_mode.PrinterMode.TheVariants.
 use Rattle.vp_receipt_settings.specs.declared.raster.Raster.{Raster}
 use Rattle.vp_receipt_settings.specs.declared.settings.Settings.{Settings}
 use Rattle.vp_receipt_settings.proofs.Widths.{dots_across, some_bytes}
-use Rattle.vp_receipt_settings.specs.Gathering.{IsGathering, IsPartRow, left_of, room_of, run_of}
+use Rattle.vp_receipt_settings.specs.Gathering.{IsGathering, IsPartRow, room_of}
 use Rattle.vp_receipt_settings.specs.Line.{mode}
 use Rattle.vp_receipt_settings.specs.Settings.{settings_of, paper_length, printed_at}
-use Rattle.vp_receipt_settings.specs.Rasters.{raster_scale, raster_bytes, row_so_far, is_row_end, bytes_after, row_at, times_across, times_down}
+use Rattle.vp_receipt_settings.specs.Rasters.{raster_scale, raster_bytes, row_so_far, bytes_after, row_at, times_across, times_down}
 use Rattle.vp_receipt_settings.specs.Runs.{below}
 use Rattle.vp_receipt_settings.specs.Setup.{Setup, across, row_bytes}
 use Rattle.vp_receipt_settings.proofs.Runs.{after_first, settings_stay, run_inside, inside}
 use Rattle.vp_receipt_settings.proofs.WholeRows.{Lacks, at_end, not_end, goes, HaveRows, have_rows, fewer, are_whole, lacks_row, next_row, no_row, rows_below, after_both}
 use Rattle.vp_strips.specs.Rows.{paper_row, rows_text, raster_dot}
-use Rattle.vp_receipt.specs.Plain.{is_plain, rows_room, rows_put, IsOnPaper}
+use Rattle.vp_receipt.specs.Plain.{is_plain, IsOnPaper}
 use Rattle.vp_receipt.specs.PageMarks.{layers}
 use Rattle.vp_receipt.specs.Standing.{HasPageIf}
-use Rattle.vp_receipt.specs.Strips.{printed, prints, raster_row_text}
+use Rattle.vp_receipt.specs.Strips.{printed, raster_row_text}
 use Rattle.vp_receipt.proofs.PageRows.{Taken}
-use Rattle.vp_receipt.proofs.RowEnds.{row_owned, row_printed}
+use Rattle.vp_receipt.proofs.RowEnds.{row_printed}
 use Rattle.vp_receipt.proofs.Runs.{paper_stays}
 
 -- bytes that end a row print it
 row_printed_by : (setup : Setup) (bytes : List ℕ) (before : List EscItem) → mode setup before ≡ Standard → Lacks bytes before
     → printed setup (bytes_after bytes before) ≡ printed setup before ++ raster_row_text setup before (row_so_far before ++ bytes)
-row_printed_by setup [] before e h = absurd (omega (arith, h.some))
-row_printed_by setup (b ∷ []) before e h = grind (arith, row_owned, at_end, row_printed)
 row_printed_by setup (b ∷ c ∷ bytes) before e h =
-    let more : is_row_end before ≡ false = not_end b c bytes before h in
     let go = goes b c bytes before h in
-    let row : row_so_far (RasterByte b ∷ before) ++ c ∷ bytes ≡ row_so_far before ++ b ∷ c ∷ bytes =
-    ap (λ xs. xs ++ c ∷ bytes) (inside b before h.rows go.room).row ∙ append_assoc (row_so_far before) (b ∷ []) (c ∷ bytes) in
-    let none : prints setup before (RasterByte b) ≡ [] = rw (e, more) refl in
-    let first : printed setup (RasterByte b ∷ before) ≡ printed setup before = ap (λ x. printed setup before ++ x) none ∙ append-nil (printed setup before) in
+    let row : row_so_far (RasterByte b ∷ before) ++ c ∷ bytes ≡ row_so_far before ++ b ∷ c ∷ bytes = ap (λ xs. xs ++ c ∷ bytes) (inside b before h.rows go.room).row ∙ append_assoc (row_so_far before) (b ∷ []) (c ∷ bytes) in
+    let first : printed setup (RasterByte b ∷ before) ≡ printed setup before = grind (arith, append-nil, not_end) in
     ap (printed setup) (after_first b (c ∷ bytes) before) ∙ row_printed_by setup (c ∷ bytes) (RasterByte b ∷ before) e go.rest
     ∙ ap (λ xs. printed setup (RasterByte b ∷ before) ++ raster_row_text setup before xs) row
     ∙ ap (λ x. x ++ raster_row_text setup before (row_so_far before ++ b ∷ c ∷ bytes)) first
+row_printed_by setup bytes before e h = grind (arith, at_end, row_printed, h.some)
 
 -- what is in force where rows are printed as they come
 pub record IsPlain (setup : Setup) (before : List EscItem) : Type 0 where
@@ -73,8 +69,7 @@ plain_row : (setup : Setup) (before : List EscItem) (row : List ℕ) → IsPlain
 unfolding paper_row
 plain_row setup before row h long fits =
     let dots = dots_across setup.width in
-    let wide : 8 * raster_bytes before * 1 ≡ across setup.width = omega (arith, h.wide, dots) in
-    let left = at_left setup before (8 * raster_bytes before * 1) h wide in
+    let left = at_left setup before (8 * raster_bytes before * 1) h (omega (arith, h.wide, dots)) in
     let shown : ℕ → Bool = λ x. raster_dot setup before 1 (raster_bytes before) row x in
     let same : (d : ℕ) → d < 8 * row_bytes setup.width → dot row d ≡ shown d = λ d l.
     let once : d - printed_at setup before (8 * raster_bytes before * 1) ≡ d = omega (arith, left) in
@@ -87,16 +82,10 @@ plain_row setup before row h long fits =
 front_fits : (w : ℕ) (xs : List ℕ) (i : ℕ) → ((i : ℕ) → get_or xs i 0 < 2 ^ 8) → get_or (take w xs) i 0 < 2 ^ 8
 front_fits w xs i fits = grind (arith, get_or-take, get_or_past, length-take)
 
-rest_of_fits : (n : ℕ) (xs : List ℕ) → ((i : ℕ) → get_or xs i 0 < 2 ^ 8) → (i : ℕ) → get_or (drop n xs) i 0 < 2 ^ 8
-rest_of_fits n xs fits i = subst (λ b. b < 2 ^ 8) (sym (get_or-drop n xs i 0)) (fits (n + i))
-
-no_front : (bytes : List ℕ) (w : ℕ) → [] ≡ take (0 * w) bytes
-no_front bytes w = let none : 0 ≡ 0 * w = omega arith in ap (λ n. take n bytes) none
-
 -- so many rows print their bytes
 rows_printed : (setup : Setup) (bytes : List ℕ) (k : ℕ) (before : List EscItem) → ((i : ℕ) → get_or bytes i 0 < 2 ^ 8) → IsPlain setup before → HaveRows bytes k before
     → printed setup (bytes_after (take (k * raster_bytes before) bytes) before) ≡ printed setup before ++ take (k * raster_bytes before) bytes
-rows_printed setup bytes zero before fits plain h = grind (arith, no_row, append-nil, no_front)
+rows_printed setup bytes zero before fits plain h = grind (arith, no_row, append-nil)
 rows_printed setup bytes (suc k) before fits plain h =
     let w = raster_bytes before in
     let above_bytes = take (k * w) bytes in
@@ -110,7 +99,7 @@ rows_printed setup bytes (suc k) before fits plain h =
     ap (printed setup) (next_row bytes w k before)
     ∙ row_printed_by setup row here here_plain.mode lacks
     ∙ ap (λ xs. printed setup here ++ raster_row_text setup here (xs ++ row)) above.row
-    ∙ ap (λ x. printed setup here ++ x) (plain_row setup here row here_plain long (λ i. front_fits w (drop (k * w) bytes) i (rest_of_fits (k * w) bytes fits)))
+    ∙ ap (λ x. printed setup here ++ x) (plain_row setup here row here_plain long (λ i. front_fits w (drop (k * w) bytes) i (grind (arith, get_or-drop))))
     ∙ ap (λ x. x ++ row) (rows_printed setup bytes k before fits plain less)
     ∙ append_assoc (printed setup before) above_bytes row
     ∙ ap (λ x. printed setup before ++ x) (sym (ap (λ n. take n bytes) (suc-mul k w) ∙ take-add (k * w) w bytes))
@@ -127,21 +116,6 @@ pub record Told (s : Settings) (r : Raster) : Type 0 where
 pub told : (s : Settings) (r : Raster) → is_plain s r ≡ true → Told s r
 told s r h = grind (arith, and_parts, eqb-true, some_bytes)
 
-plain_of : (setup : Setup) (before : List EscItem) (s : Settings) (r : Raster) → Told s r → s ≡ settings_of setup before → IsGathering r before → IsPlain setup before
-plain_of setup before s r t e g = grind arith
-
--- the rows that are whole among bytes that there is room for
-pub all_whole : (r : Raster) (long n : ℕ) → r.got ≡ 0 → long ≤ left_of r → n ≡ min r.rows (long / r.bytes) → n ≡ long / r.bytes
-all_whole r long n begins room is = grind (arith, div-le_of_le-mul, mul_comm)
-
--- and what is left of one
-pub plain_taken : (r : Raster) (long n : ℕ) → 0 < r.bytes → r.got ≡ 0 → long ≤ left_of r → n ≡ min r.rows (long / r.bytes) → Taken r long n
-plain_taken r long n wide begins room is = grind (arith, all_whole, lt-div-mul-add, nat_tests, div-mul-le_self)
-
--- the rows that are whole have room where they are put out
-pub put_fits : (w long output : ℕ) → 0 < w → long ≤ output / w * w + (w - 1) → long / w * w ≤ output
-put_fits w long output some few = grind (arith, div-mul-le_self, suc-mul, div-lt_iff_lt-mul, le_trans, mul-le-mul_right)
-
 -- whole rows are put out, and what is left is kept
 pub rows_on_paper : (setup : Setup) (before : List EscItem) (s : Settings) (r now : Raster) (t : Settings) (last : Raster) (bytes : List ℕ) (n end : ℕ) → ((i : ℕ) → get_or bytes i 0 < 2 ^ 8) → s.page.vertical ≤ 65535
     → IsPartRow r → Told s r → Taken r (length bytes) n → end ≡ n * r.bytes → s ≡ settings_of setup before → IsGathering r before → t ≡ below s n
@@ -149,37 +123,14 @@ pub rows_on_paper : (setup : Setup) (before : List EscItem) (s : Settings) (r no
     → IsGathering last (bytes_after (drop end bytes) (bytes_after (take end bytes) before))
     → IsOnPaper setup before t last bytes end
 rows_on_paper setup before s r now t last bytes n end fits small part told taken at e g f passed room kept =
-    let plain = plain_of setup before s r told e g in
-    let low = subst (λ (q : Settings). q.page.vertical ≤ 65535) e small in
-    let have = have_rows r n bytes before part told.begins taken.few g taken.bytes in
     let here = bytes_after (take end bytes) before in
-    let width : n * raster_bytes before ≡ end = ap (λ w. n * w) (sym g.bytes) ∙ sym at in
-    let all : bytes_after bytes before ≡ bytes_after (drop end bytes) here =
-    ap (λ xs. bytes_after xs before) (sym (take-append-drop end bytes)) ∙ after_both (take end bytes) (drop end bytes) before in
-    let times : n ≡ n * times_down (raster_scale before) = (let one : n ≡ n * 1 = omega arith in one) ∙ ap (λ (k : RasterScale). n * times_down k) (sym plain.scale) in
-    let shown : printed setup here ≡ printed setup before ++ take end bytes =
-    subst (λ m. printed setup (bytes_after (take m bytes) before) ≡ printed setup before ++ take m bytes) width (rows_printed setup bytes n before fits plain have) in
-    let now_is : t ≡ settings_of setup here =
-    f ∙ ap (λ (q : Settings). below q n) e ∙ ap (below (settings_of setup before)) times ∙ sym (rows_below setup bytes n before low have)
-    ∙ ap (λ m. settings_of setup (bytes_after (take m bytes) before)) width in
+    let all : bytes_after bytes before ≡ bytes_after (drop end bytes) here = ap (λ xs. bytes_after xs before) (sym (take-append-drop end bytes)) ∙ after_both (take end bytes) (drop end bytes) before in
+    let shown : printed setup here ≡ printed setup before ++ take end bytes = grind (arith, rows_printed, have_rows) in
     record {
-      settings = now_is ∙ sym (settings_stay setup (drop end bytes) here (run_inside now (drop end bytes) here room passed)) ∙ sym (ap (settings_of setup) all);
+      settings = grind (arith, settings_stay, run_inside, rows_below);
       raster = subst (IsGathering last) (sym all) kept;
       printed = ap (printed setup) all ∙ paper_stays setup now (drop end bytes) here room passed ∙ shown;
     }
-
--- what the words for a run's room and bytes say by cases
-pub room_plain : (s : Settings) (r : Raster) (output : ℕ) → is_plain s r ≡ true → rows_room s r output ≡ min (left_of r) (output / r.bytes * r.bytes + (r.bytes - 1))
-room_plain s r output e = rw e refl
-
-pub room_else : (s : Settings) (r : Raster) (output : ℕ) → is_plain s r ≡ false → rows_room s r output ≡ run_of s.page.mode r
-room_else s r output e = rw e refl
-
-pub put_is : (s : Settings) (r : Raster) (n : ℕ) → is_plain s r ≡ true → n / r.bytes * r.bytes ≡ rows_put s r n
-put_is s r n e = rw e refl
-
-pub none_put : (s : Settings) (r : Raster) (n : ℕ) → is_plain s r ≡ false → 0 ≡ rows_put s r n
-none_put s r n e = rw e refl
 
 mode_stays : (setup : Setup) (bytes : List ℕ) (before : List EscItem) → mode setup (bytes_after bytes before) ≡ mode setup before
 mode_stays setup [] before = refl

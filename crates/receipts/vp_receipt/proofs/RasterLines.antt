@@ -1,14 +1,7 @@
 -- Rows of a raster, laid on the page as many at once as go.
-use Rattle.std.proofs.Common.{◌≡◌, ℕ, ◌+◌, ◌-◌, ◌/◌, ◌%◌, ◌*◌, ◌<◌, ◌≤◌, Bool, ltb, ◌&&◌, ◌++◌, take, min, replicate, List, length, arith, [], get_or, set, get_or-set_same, get_or-set_other}
-use Rattle.std.proofs.lemmas.Bool.{lt-ltb, le-ltb}
+use Rattle.std.proofs.Common.{◌≡◌, ℕ, ◌+◌, ◌-◌, ◌/◌, ◌%◌, ◌*◌, ◌<◌, ◌≤◌, Bool, ◌++◌, take, min, replicate, List, length, arith, [], get_or, set, get_or-set_same, get_or-set_other}
 use Rattle.std.proofs.lemmas.List.{length-take, length-append, length-replicate, get_or-replicate, get_or_past, get_or-take, get_or_append_left, get_or-append_right}
 use Rattle.vp_dots.specs.Dots.{dot}
-use Rattle.vp_esc.specs.declared.item.RasterScale.{RasterScale}
-use Rattle.vp_esc.specs.declared.item.RasterScale.TheVariants.{Normal}
-use Rattle.vp_receipt_settings.specs.Rasters.{row_at}
-use Rattle.vp_receipt.specs.PageMarks.{rows_dot}
-use Rattle.vp_receipt.proofs.PageRows.{row_is}
-use Rattle.vp_dots.specs.declared.square.TheConstants.{SIDE}
 use Rattle.vp_page.specs.declared.line.TheConstants.{LINE_BYTES, LINE_DOTS}
 
 -- a row, and white bytes behind it
@@ -17,20 +10,12 @@ pub lengthened : (row front behind white rest : List ℕ) (n m u : ℕ) → n �
 unfolding dot
 lengthened row front behind white rest n m u e f w l h = grind (arith, length-take, length-append, length-replicate, get_or_append_left, get_or-take, get_or-append_right, get_or-replicate, get_or_past)
 
--- a row that is drawn once each way, or none
-pub once_dots : (scale : RasterScale) (wide n : ℕ) (bytes : List ℕ) (y u : ℕ) → scale ≡ Normal → (ltb y n && dot (row_at bytes wide y) u) ≡ rows_dot scale wide n bytes u y
-once_dots scale wide n bytes y u once = grind (arith, lt-ltb, row_is, le-ltb)
-
 -- one more of the lines
 pub line_set : (f : ℕ → ℕ → Bool) (lines : List (List ℕ)) (i : ℕ) (line : List ℕ) → i < length lines
     → ((u : ℕ) → u < LINE_DOTS → dot line u ≡ f i u)
     → ((k u : ℕ) → k < i → u < LINE_DOTS → dot (get_or lines k []) u ≡ f k u)
     → (k u : ℕ) → k < i + 1 → u < LINE_DOTS → dot (get_or (set lines i line) k []) u ≡ f k u
 line_set f lines i line within here above k u h l = grind (arith, get_or-set_same, get_or-set_other)
-
--- one of those that there are
-pub line_there : (dot : Bool) (w high : ℕ) → w < high → dot ≡ (ltb w high && dot)
-line_there dot w high h = grind (arith, lt-ltb)
 
 -- a line that isn't the first of its row stands below another
 pub not_first : (from i times : ℕ) → from % times ≡ 0 → 0 < (from + i) % times → 0 < i
@@ -43,7 +28,3 @@ same_row w times few some h = grind arith
 -- a line is one of a row
 pub row_there : (w rows times : ℕ) → 0 < times → times ≤ 2 → w < rows * times → w / times < rows
 row_there w rows times some few h = grind arith
-
--- as many as are laid at once begin with the first line of a row
-pub row_begins : (k times : ℕ) → 0 < times → times ≤ 2 → SIDE * k % times ≡ 0
-row_begins k times some few = grind arith

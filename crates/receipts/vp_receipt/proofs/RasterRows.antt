@@ -36,10 +36,6 @@ rows_shown setup before s kept came row left length times bytes n e left_is long
     ∙ ap (λ l. clipped l length (λ x. dot came (x / times)) x) left_is ∙ ap (λ n. clipped (printed_at setup before (8 * bytes * times)) n (λ x. dot came (x / times)) x) long_is)
     ∙ ap (λ (q : Settings). rows_text q.paper (λ x y. raster_dot setup before times bytes came x) 0 n) e
 
--- a row that is laid, as often as its scale says
-laid_dots : (came kept : List ℕ) (across down : ℕ) → kept ≡ take LINE_BYTES came → (u w : ℕ) → u < LINE_DOTS → w < down → dot kept (u / across) ≡ nat_lt w down && dot came (u / across)
-laid_dots came kept across down k u w h l = grind (arith, dot_kept, div-le_self, lt-ltb)
-
 pub laid_row : (setup : Setup) (before : List EscItem) (s : Settings) (scale : RasterScale) (came kept : List ℕ) (layers : List Layer) (page : Paged) → s ≡ settings_of setup before → scale ≡ raster_scale before
     → kept ≡ take LINE_BYTES came
     → ((dots : ℕ → ℕ → Bool) → ((u w : ℕ) → u < LINE_DOTS → w < times_down scale → dot kept (u / times_across scale) ≡ dots u w) → ((u w : ℕ) → dots u w ≡ true → w < times_down scale) → HasPage (Laid (mark_of s.page (times_down scale) dots) ∷ layers) page)
@@ -47,4 +43,4 @@ pub laid_row : (setup : Setup) (before : List EscItem) (s : Settings) (scale : R
 laid_row setup before s scale came kept layers page e scale_is kept_is laid =
     subst (λ (k : RasterScale). HasPage (Laid (mark_of (page_of setup before) (times_down k) (λ u w. nat_lt w (times_down k) && dot came (u / times_across k))) ∷ layers) page) scale_is
     (subst (λ (p : PageSettings). HasPage (Laid (mark_of p (times_down scale) (λ u w. nat_lt w (times_down scale) && dot came (u / times_across scale))) ∷ layers) page) (ap (λ (q : Settings). q.page) e)
-    (laid (λ u w. nat_lt w (times_down scale) && dot came (u / times_across scale)) (laid_dots came kept (times_across scale) (times_down scale) kept_is) (λ u w h. ltb-true w (times_down scale) (and_parts _ _ h).0)))
+    (laid (λ u w. nat_lt w (times_down scale) && dot came (u / times_across scale)) (grind (arith, dot_kept, div-le_self, lt-ltb)) (λ u w h. ltb-true w (times_down scale) (and_parts _ _ h).0)))

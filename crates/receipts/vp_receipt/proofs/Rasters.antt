@@ -15,9 +15,7 @@ module _ (paper : Width) where
   rows_split f y (suc a) n =
       let count : suc a + n ≡ suc (a + n) = omega arith in
       let top : y + 1 + a ≡ y + suc a = omega arith in
-      ap (rows_text paper f y) count
-      ∙ ap (λ t. paper_row paper (λ x. f x y) ++ t) (rows_split f (y + 1) a n ∙ ap (λ z. rows_text paper f (y + 1) a ++ rows_text paper f z n) top)
-      ∙ sym (append_assoc (paper_row paper (λ x. f x y)) (rows_text paper f (y + 1) a) (rows_text paper f (y + suc a) n))
+      rw (count, rows_split f (y + 1) a n, top, append_assoc)
 
   -- rows that are all alike
   rows_alike : (f : ℕ → ℕ → Bool) (g : ℕ → Bool) (y z n : ℕ) → ((x j : ℕ) → j < n → f x (y + j) ≡ g x) → rows_text paper f y n ≡ rows_text paper (λ x y. g x) z n
@@ -56,6 +54,4 @@ module _ (paper : Width) where
 
     -- all rows, from the top
     pub all_rows : (rows : List (List ℕ)) → rows_text paper (dots rows) 0 (d * length rows) ≡ flat_map row_text rows
-    all_rows rows =
-        let top : 0 * d ≡ 0 = omega arith in
-        sym (ap (λ y. rows_text paper (dots rows) y (d * length rows)) top) ∙ rows_below [] rows
+    all_rows rows = let top : 0 * d ≡ 0 = omega arith in rw top at (rows_below [] rows)

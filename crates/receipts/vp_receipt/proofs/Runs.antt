@@ -1,6 +1,6 @@
 -- What bytes of a raster that don't end its row leave alone: the page, and what is printed.
 use Rattle.std.proofs.lemmas.Grind.{common_steps}
-use Rattle.std.proofs.Common.{◌≡◌, ℕ, ◌+◌, ◌<◌, ◌≤◌, eqb, false, List, [], ◌∷◌, ◌++◌, length, refl, sym, ap, ◌∙◌, arith, length-append, subst, if◌then◌else◌}
+use Rattle.std.proofs.Common.{◌≡◌, ℕ, ◌+◌, ◌<◌, ◌≤◌, false, List, [], ◌∷◌, ◌++◌, length, refl, sym, ap, ◌∙◌, arith, length-append, subst, if◌then◌else◌}
 use Rattle.vp_page.specs.Pages.{Paged}
 use Rattle.std.proofs.lemmas.List.{append-nil}
 use Rattle.vp_esc.specs.declared.item.EscItem.{EscItem}
@@ -9,14 +9,14 @@ use Rattle.vp_receipt_settings.specs.Setup.{Setup}
 use Rattle.vp_receipt_settings.specs.Line.{mode}
 use Rattle.vp_receipt_settings.specs.declared.raster.Raster.{Raster}
 use Rattle.vp_receipt_settings.specs.Rasters.{raster_bytes, rows_to_come, row_so_far, is_row_end, bytes_after}
-use Rattle.vp_receipt.specs.Strips.{printed, own_strips}
+use Rattle.vp_receipt.specs.Strips.{printed}
 use Rattle.vp_receipt_settings.specs.Pages.{is_paged}
 use Rattle.vp_receipt.specs.PageMarks.{layers}
 use Rattle.vp_page.specs.Layers.{Layer}
 use Rattle.vp_receipt_settings.specs.declared.page_mode.PrinterMode.{PrinterMode}
 use Rattle.vp_receipt_settings.specs.Gathering.{IsGathering, room_of}
 use Rattle.vp_receipt.specs.Standing.{HasPageIf}
-use Rattle.vp_receipt_settings.proofs.Runs.{after_first, AreInside, goes_on, inside, has_room}
+use Rattle.vp_receipt_settings.proofs.Runs.{after_first, AreInside, goes_on, inside}
 
 pub layers_same : (setup : Setup) (b : ℕ) (before : List EscItem) → is_row_end before ≡ false → layers setup (RasterByte b ∷ before) ≡ layers setup before
 layers_same setup b before e = rw e refl
@@ -34,15 +34,10 @@ prints_nothing : (setup : Setup) (bytes : List ℕ) (before : List EscItem) → 
 prints_nothing setup [] before some room = refl
 prints_nothing setup (b ∷ bytes) before some room =
     let one = inside b before some (omega arith) in
-    let more : eqb (length (row_so_far before) + 1) (raster_bytes before) ≡ false = goes_on before (omega arith) in
-    let own : own_strips setup before (RasterByte b) ≡ [] = rw more refl in
-    let first : printed setup (RasterByte b ∷ before) ≡ printed setup before =
-    ap (λ bytes. printed setup before ++ ((if is_paged (mode setup before) then [] else []) ++ (if is_paged (mode setup before) then [] else bytes))) own
-    ∙ ap (λ bytes. printed setup before ++ bytes) (nothing_by (mode setup before)) ∙ append-nil (printed setup before) in
     ap (printed setup) (after_first b bytes before)
     ∙ prints_nothing setup bytes (RasterByte b ∷ before) (omega (arith, one.rows)) (omega (arith, ap length one.row, length-append (row_so_far before) (b ∷ [])))
-    ∙ first
+    ∙ (grind (arith, nothing_by, append-nil, goes_on))
 
 -- bytes that there is room for print nothing
 pub paper_stays : (setup : Setup) (r : Raster) (bytes : List ℕ) (before : List EscItem) → length bytes ≤ room_of r → IsGathering r before → printed setup (bytes_after bytes before) ≡ printed setup before
-paper_stays setup r bytes before h1 h2 = grind (arith, common_steps, has_room, prints_nothing)
+paper_stays setup r bytes before h1 h2 = grind (arith, common_steps, prints_nothing)

@@ -12,7 +12,7 @@ use Rattle.vp_strips.specs.declared.lines.Lines.{Lines}
 use Rattle.vp_output.specs.declared.place.Place.{Place}
 use Rattle.vp_strips.specs.Jobs.{text}
 use Rattle.vp_strips.proofs.Jobs.{some_left}
-use Rattle.vp_strips.specs.Held.{Showing, Shows, IsShowing, showing_of, job_text, SomeLeft, IsJob, IsTurned}
+use Rattle.vp_strips.specs.Held.{Showing, Shows, IsShowing, job_text, SomeLeft, IsJob, IsTurned}
 use Rattle.vp_receipt.specs.Effects.{text_if}
 use Rattle.vp_receipt.specs.Standing.{ShowsLine}
 
@@ -24,18 +24,12 @@ rows_told setup showing before pending high e h = grind (arith, le-ltb, lt-ltb)
 pub shows_nothing : (setup : Setup) (showing : Option Showing) (pending : List ℕ) (before after : List EscItem) → pending ≡ [] → ShowsLine setup showing pending before → ShowsLine setup showing pending after
 shows_nothing setup showing pending before after e h = grind arith
 
--- bytes that are put out leave shown what is
-pub shows_put : (setup : Setup) (j k : Job) (canvas : Canvas) (before : List EscItem) → ((high others : ℕ) → IsShowing j canvas high others → IsShowing k canvas high others)
-    → ShowsLine setup (showing_of j canvas) (job_text j canvas) before → ShowsLine setup (showing_of k canvas) (job_text k canvas) before
-shows_put setup j k canvas before further h = grind arith
-
 pub nothing_shown : (setup : Setup) (showing : Option Showing) (pending : List ℕ) (before : List EscItem) → ((high others : ℕ) → Shows showing (length pending) high others) → ShowsLine setup showing pending before
 nothing_shown setup showing pending before h = grind arith
 
 -- a job of which nothing is left, over any canvas
 done : (j : Job) (canvas : Canvas) (p : Option Place) → SomeLeft j.strip p → text j.strip canvas p ≡ [] → p ≡ None
-done j canvas None left e = refl
-done j canvas (Some p) left e = absurd (omega (arith, some_left j.strip canvas p left, ap length e))
+done j canvas p left e = grind (arith, some_left, ap length e)
 
 front_none : (a b : List ℕ) → a ++ b ≡ [] → a ≡ []
 front_none [] b e = refl
@@ -48,9 +42,7 @@ pub text_done : (j : Job) (canvas : Canvas) → j.place ≡ None → IsTurned j.
 text_done j canvas e t = grind arith
 
 pub job_done : (j : Job) (old canvas : Canvas) (lines : Lines) → IsJob j old lines → job_text j old ≡ [] → IsJob j canvas lines
-job_done j old canvas lines was none =
-    let e = is_done j old lines was none in
-    record { low = was.low; after = was.after; place = was.place; left = was.left; line = rw e tt }
+job_done j old canvas lines was none = record { low = was.low; after = was.after; place = was.place; left = was.left; line = rw (is_done j old lines was none) tt }
 
 -- what is printed stands in its place
 pub job_replaced : (printed : Option Job) (j : Job) (old canvas : Canvas) (lines : Lines) → IfSome printed (λ job. (lines : Lines) → IsJob job canvas lines)

@@ -11,7 +11,7 @@ use Rattle.vp_esc.specs.declared.item.RasterScale.{RasterScale}
 use Rattle.vp_esc.specs.declared.item.Spelled.{Spelled}
 use Rattle.vp_esc.specs.Command.{head_len}
 use Rattle.vp_esc.specs.Qr.{qr_items, value_items}
-use Rattle.vp_esc.specs.Units.{is_unfinished, given, needs_more, given_by, given_behind, is_unfinished_named, given_named, raster_bytes, columns, tall_columns}
+use Rattle.vp_esc.specs.Units.{is_unfinished, given, needs_more, given_by, given_behind, raster_bytes, columns, tall_columns}
 use Rattle.vp_receipt.proofs.Images.{is_raster}
 
 -- an item of none
@@ -47,22 +47,16 @@ columns8 [] = none
 columns8 (b ∷ bytes) = more (other refl) (columns8 bytes)
 
 columns24 : (bytes : List ℕ) → AreOthers (tall_columns bytes)
-columns24 [] = none
-columns24 (a ∷ []) = none
-columns24 (a ∷ b ∷ []) = none
 columns24 (a ∷ b ∷ c ∷ bytes) = more (other refl) (columns24 bytes)
+columns24 bytes = none
 
 stored_other : (bytes : List ℕ) → AreOthers (map (λ b. items.QrByte b) bytes)
 stored_other [] = none
 stored_other (b ∷ bytes) = more (other refl) (stored_other bytes)
 
-value_other : (count cn function n : ℕ) (bytes : List ℕ) → AreOthers (value_items count cn function n bytes)
-unfolding value_items
-value_other count cn function n bytes = grind (arith, other, none, nat_le, more, stored_other)
-
 qr_other : (count : ℕ) (bytes : List ℕ) → AreOthers (qr_items count bytes)
-unfolding qr_items
-qr_other count bytes = grind (arith, other, none, value_other)
+unfolding qr_items value_items
+qr_other count bytes = grind (arith, other, none, nat_le, more, stored_other)
 
 -- a command from the last byte of its head on
 behind : (lead : Lead) (name : ℕ) (command : Command) (args : List ℕ) → nat_lt (length args) (head_len command args) ≡ false →
@@ -70,10 +64,6 @@ behind : (lead : Lead) (name : ℕ) (command : Command) (args : List ℕ) → na
 unfolding given_behind needs_more
 behind lead name command args h = grind (arith, other, slice_index, none, more, columns8, columns24, ltb-false, length-drop, qr_other)
 
-by_name : (lead : Lead) (name : ℕ) (command : Option Command) (args : List ℕ) → Kind (given_named lead name command args) (is_unfinished_named command args)
-unfolding given_by
-by_name lead name command args = grind (arith, none, nat_lt, behind)
-
 pub kinds : (bytes : List ℕ) → Kind (given bytes) (is_unfinished bytes)
-unfolding given is_unfinished
-kinds bytes = grind (arith, none, other, nat_lt, by_name)
+unfolding given is_unfinished given_by
+kinds bytes = grind (arith, none, other, nat_lt, behind)

@@ -1,7 +1,6 @@
-use Rattle.std.proofs.Common.{◌≡◌, ◌∷◌, false, ap, sym, ◌∙◌}
+use Rattle.std.proofs.Common.{◌∷◌, arith}
 use Rattle.vp_page.specs.Layers.{CountedAnew}
-use Rattle.vp_receipt_settings.specs.Line.{line, is_open}
-use Rattle.vp_receipt_settings.specs.declared.settings.Settings.{Settings}
+use Rattle.vp_receipt_settings.specs.Line.{line}
 use Rattle.vp_receipt.specs.PageMarks.{layers, line_dot}
 use Rattle.vp_receipt.proofs.PageLines.{line_laid, page_held}
 use Rattle.vp_receipt.proofs.act.lay_open.Goals as goal
@@ -13,6 +12,4 @@ returns-then-s-clause-page g c = λ setup before h.
     (λ rows. c.lay_line.ensures (line_dot (line setup before)) (CountedAnew ∷ layers setup before) rows page)
 
 pub returns-else-s-clause-page : goal.returns-else-s-clause-page
-returns-else-s-clause-page g c = λ setup before h.
-    let shut : is_open (line setup before) ≡ false = sym (ap (λ (q : Settings). q.is_open) h.settings) ∙ c.if-s.false in
-    rw shut (c.count_anew.ensures (layers setup before) (page_held setup before c.args.s.now _ h c.requires.mode))
+returns-else-s-clause-page g c = grind (arith, page_held, c.if-s.false, c.count_anew.ensures, c.requires.mode)

@@ -12,9 +12,7 @@ use Rattle.vp_receipt.proofs.laws.bytes_cost_at_most.Goals as goal
 -- the items that were added are no more than the bytes
 added_few : (setup : Setup) (old new added : List EscItem) (n : ℕ) → new ≡ old ++ added → length new ≤ length old + n
     → most_in_all setup (reverse new) ≤ most_in_all setup (reverse old) + (LINE_ROWS + PAGE_ROWS) * n
-added_few setup old new added n e few =
-    let take = items_take setup (reverse added) (reverse old) in
-    rw (e, reverse-append old added) (grind (arith, take, few, e, length-append old added, length-reverse added))
+added_few setup old new added n e few = rw (e, reverse-append old added) (grind (arith, (items_take setup (reverse added) (reverse old)), few, e, length-append old added, length-reverse added))
 
 pub returns : goal.returns
 returns c = record {

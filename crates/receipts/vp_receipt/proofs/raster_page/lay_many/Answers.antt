@@ -1,28 +1,16 @@
-use Rattle.std.proofs.Common.{◌≡◌, ◌+◌, ◌*◌, ◌%◌, ◌<◌, ◌∷◌, min, take, ap, sym, ◌∙◌, subst, length, arith, rules}
+use Rattle.std.proofs.Common.{◌≡◌, ◌+◌, ◌*◌, ◌<◌, ◌∷◌, min, take, ap, ◌∙◌, subst, length, arith, rules}
 use Rattle.std.proofs.lemmas.List.{length-take}
 use Rattle.vp_page.proofs.Marks.{shown_line}
-use Rattle.std.proofs.lemmas.Bool.{ltb-true, lt-ltb, and_parts}
+use Rattle.std.proofs.lemmas.Bool.{lt-ltb, and_parts, ltb-true}
 use Rattle.vp_page.specs.Layers.{Laid, first_rows}
 use Rattle.vp_page.specs.Pages.{HasPage}
 use Rattle.vp_page.specs.declared.line.TheConstants.{LINE_DOTS}
-use Rattle.vp_page.proofs.Pages.{lines_more, rows_make_an_image}
+use Rattle.vp_page.proofs.Pages.{lines_more}
 use Rattle.vp_receipt_settings.specs.Rasters.{times_down}
 use Rattle.vp_receipt.specs.PageMarks.{mark_of, rows_dot}
 use Rattle.vp_receipt.proofs.PageLines.{length_small}
-use Rattle.vp_receipt.proofs.RasterLines.{row_begins}
 use Rattle.vp_dots.specs.declared.square.TheConstants.{SIDE}
 use Rattle.vp_receipt.proofs.raster_page.lay_many.Goals as goal
-
-pub loop-k-init : goal.loop-k-init
-loop-k-init g c = λ layers page.
-    let r = c.args.raster.now in
-    let high = c.args.rows * times_down r.scale in
-    let m = mark_of c.args.p high (rows_dot r.scale r.bytes c.args.rows c.args.bytes.now) in
-    let none : 0 ≡ min (SIDE * 0) high = omega arith in
-    subst (λ n. HasPage (Laid (first_rows n m) ∷ layers) c.args.page.now) none (rows_make_an_image.none m layers _ page)
-
-pub write_lines-few-requires-clause-row_begins : goal.write_lines-few-requires-clause-row_begins
-write_lines-few-requires-clause-row_begins g c = ap (λ t. SIDE * c.loop-k.k % t) (sym c.times_down.ensures.value) ∙ row_begins c.loop-k.k c.times_down.result c.times_down.ensures.some c.times_down.ensures.few
 
 pub loop-k-preserved : goal.loop-k-preserved
 loop-k-preserved g c = λ layers page.
@@ -47,11 +35,7 @@ loop-k-preserved g c = λ layers page.
     (c.lay_lines.ensures _ (subst (λ n. HasPage (Laid (first_rows n m) ∷ layers) c.loop-k.page) here (c.loop-k.invariant layers page))))
 
 pub returns : goal.returns
-returns g c = λ layers page.
-    let r = c.args.raster.now in
-    let high = c.args.rows * times_down r.scale in
-    let m = mark_of c.args.p high (rows_dot r.scale r.bytes c.args.rows c.args.bytes.now) in
-    let all : c.args.rows * c.times_down.result ≡ high = ap (λ t. c.args.rows * t) c.times_down.ensures.value in
-    rows_make_an_image.all m (min (SIDE * c.loop-k.k) high) layers _ (λ u w e k.
-    let above = ltb-true w high (and_parts _ _ e).0 in
-    omega (arith, above, all)) (omega (arith, all)) (c.loop-k.invariant layers page)
+returns g c = grind (arith, c.times_down.ensures.value, ltb-true, and_parts, c.loop-k.invariant)
+
+pub loop-k-init : goal.loop-k-init
+loop-k-init g c = grind arith

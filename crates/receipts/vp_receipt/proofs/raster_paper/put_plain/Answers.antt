@@ -1,4 +1,4 @@
-use Rattle.std.proofs.Common.{◌≡◌, ◌≤◌, ◌*◌, ◌/◌, ◌+◌, ◌-◌, ◌<◌, ℕ, true, length, take, min, ap, sym, ◌∙◌, subst, arith}
+use Rattle.std.proofs.Common.{◌≡◌, ◌≤◌, ◌*◌, ◌/◌, ◌+◌, ◌-◌, ◌<◌, ℕ, true, length, take, min, sym, subst, arith}
 use Rattle.std.proofs.Math.Nat.{div-mul-le_self}
 use Rattle.vp_receipt_settings.specs.Gathering.{IsGathering, left_of, room_of}
 use Rattle.vp_receipt_settings.specs.Rasters.{bytes_after}
@@ -6,7 +6,7 @@ use Rattle.vp_receipt_settings.specs.declared.raster.Raster.{Raster}
 use Rattle.vp_receipt_settings.specs.declared.settings.Settings.{Settings}
 use Rattle.vp_receipt.specs.Plain.{is_plain}
 use Rattle.vp_receipt.proofs.PageRows.{Taken, rest_fits, rest_whole}
-use Rattle.vp_receipt.proofs.PlainRows.{told, all_whole, plain_taken, put_fits, rows_on_paper}
+use Rattle.vp_receipt.proofs.PlainRows.{told, rows_on_paper}
 use Rattle.vp_receipt.proofs.raster_paper.put_plain.Goals as goal
 
 -- what the code counts
@@ -20,20 +20,7 @@ record Counts (r : Raster) (long output wide n : ℕ) : Type 0 where
 
 counts : (s : Settings) (r : Raster) (long output wide n rows : ℕ) → is_plain s r ≡ true → long ≤ min (left_of r) (output / r.bytes * r.bytes + (r.bytes - 1)) → wide ≡ r.bytes → rows ≡ r.rows → n ≡ min rows (long / wide)
     → Counts r long output wide n
-counts s r long output wide n rows plain few is all n_is =
-    let t = told s r plain in
-    let m : n ≡ min r.rows (long / r.bytes) = n_is ∙ ap (λ k. min k (long / wide)) all ∙ ap (λ w. min r.rows (long / w)) is in
-    let whole = all_whole r long n t.begins (omega (arith, few)) m in
-    let at : n * wide ≡ long / r.bytes * r.bytes = ap (λ w. n * w) is ∙ ap (λ k. k * r.bytes) whole in
-    let room = put_fits r.bytes long output t.some (omega (arith, few)) in
-    record {
-      taken = plain_taken r long n t.some t.begins (omega (arith, few)) m;
-      whole = at;
-      at = ap (λ w. n * w) is;
-      within = omega (arith, at, div-mul-le_self long r.bytes);
-      fits = omega (arith, at, room);
-      some = omega (arith, is, t.some);
-    }
+counts s r long output wide n rows plain few is all n_is = grind (arith, told, div-mul-le_self, few, is)
 
 pub returns-clause-on_paper : goal.returns-clause-on_paper
 returns-clause-on_paper c = λ setup before e g.

@@ -1,14 +1,10 @@
-use Rattle.std.proofs.Common.{◌≡◌, ◌<◌, length, List, [], ap, sym, ◌∙◌, subst, arith}
+use Rattle.std.proofs.Common.{◌≡◌, ◌<◌, length, [], ap, sym, ◌∙◌, subst, arith}
 use Rattle.std.proofs.lemmas.Bool.Decides.{nat_tests}
-use Rattle.vp_page.specs.Layers.{Layer}
-use Rattle.vp_receipt_settings.specs.declared.page_mode.PrinterMode.{PrinterMode}
-use Rattle.vp_receipt_settings.specs.Symbols.{IsStored}
-use Rattle.vp_receipt_settings.specs.Line.{line, mode}
+use Rattle.vp_receipt_settings.specs.Line.{line}
 use Rattle.vp_receipt_settings.specs.Runs.{text_after}
 use Rattle.vp_strips.specs.Held.{job_text}
-use Rattle.vp_receipt.specs.PageMarks.{layers}
 use Rattle.vp_receipt.specs.Printer.{printing_of}
-use Rattle.vp_receipt.specs.Standing.{Printing, Stands, HasPageIf}
+use Rattle.vp_receipt.specs.Standing.{Printing, Stands}
 use Rattle.vp_receipt.proofs.Showing.{nothing_shown, is_done, text_done, shows_done, job_done}
 use Rattle.vp_receipt.proofs.Texts.{text_ends}
 use Rattle.vp_strips.specs.Canvases.{canvas_of}
@@ -23,8 +19,7 @@ invariant_of-self g c =
 pub returns-clause-pending : goal.returns-clause-pending
 returns-clause-pending g c =
     let r = c.self.inside in
-    let none : job_text r.job (canvas_of r.canvas) ≡ [] = ap (λ (p : Printing). p.pending) c.self.view_is ∙ c.requires.pending in
-    text_done r.job _ (is_done r.job (canvas_of r.canvas) r.lines c.self.invariant.job none) c.self.invariant.turned
+    text_done r.job _ (is_done r.job (canvas_of r.canvas) r.lines c.self.invariant.job (ap (λ (p : Printing). p.pending) c.self.view_is ∙ c.requires.pending)) c.self.invariant.turned
 
 pub returns-clause-stands : goal.returns-clause-stands
 returns-clause-stands g c = λ setup before h.
@@ -33,18 +28,16 @@ returns-clause-stands g c = λ setup before h.
     let some : 0 < length text = grind (arith, nat_tests, c.is_empty.ensures, c.if-is_empty.false) in
     let r = c.self.inside in
     let alone = c.put_text.ensures.others setup before was.settings in
-    let empty : job_text r.job (canvas_of r.canvas) ≡ [] = ap (λ (p : Printing). p.pending) c.self.view_is ∙ c.requires.pending in
-    let place = is_done r.job (canvas_of r.canvas) r.lines c.self.invariant.job empty in
+    let place = is_done r.job (canvas_of r.canvas) r.lines c.self.invariant.job (ap (λ (p : Printing). p.pending) c.self.view_is ∙ c.requires.pending) in
     let none : job_text r.job (record (canvas_of r.canvas) { bitmap = c.put_text.new.bitmap }) ≡ [] = text_done r.job _ place c.self.invariant.turned in
     record {
       sheets = was.sheets;
       settings = c.put_text.ensures.settings setup before was.settings;
       stops = was.stops ∙ sym alone.stops;
       raster = text_ends c.end.new.self text before c.requires.text some c.end.ensures.gathers;
-      stored = subst (IsStored r.kept.stored) (sym alone.stored) was.stored;
+      stored = grind (arith, alone.stored, was.stored);
       line = c.put_text.ensures.line setup before was.settings was.sheets (c.settle.ensures (line setup before) was.line);
-      page = subst (λ (l : List Layer). HasPageIf (mode setup (text_after text before)) l r.canvas.page) (sym alone.layers)
-          (subst (λ (m : PrinterMode). HasPageIf m (layers setup before) r.canvas.page) (sym alone.mode) was.page);
+      page = grind (arith, alone.layers, alone.mode, was.page);
       shows = nothing_shown setup _ _ (text_after text before) (λ high others. shows_done r.job _ high others place c.self.invariant.turned);
-      of_page = λ left. absurd (omega (arith, left, ap length none));
+      of_page = grind (arith, none);
     }

@@ -1,9 +1,7 @@
-use Rattle.std.proofs.Common.{◌∷◌, ap, sym, ◌∙◌, subst, Some}
-use Rattle.vp_receipt_settings.specs.declared.settings.Settings.{Settings}
+use Rattle.std.proofs.Common.{sym, ◌∙◌, subst, Some, arith}
 use Rattle.vp_receipt_settings.specs.Symbols.{symbol_image}
 use Rattle.vp_receipt_settings.specs.Line.{line}
-use Rattle.vp_glyph.specs.Sheets.{Sheets}
-use Rattle.vp_strips.specs.SymbolInks.{IsSymbolOf, symbol_height}
+use Rattle.vp_strips.specs.SymbolInks.{IsSymbolOf}
 use Rattle.vp_receipt.specs.Printer.{printing_of}
 use Rattle.vp_receipt.specs.Standing.{Printing, Stands, IsSettled}
 use Rattle.vp_receipt.proofs.ItemKinds.{no_page, rows_drawn}
@@ -23,12 +21,11 @@ returns-clause-stands g c = λ setup before h.
     let settled : IsSettled setup before c.self.inside.settings (record (canvas_of c.self.inside.canvas) { bitmap = c.settle.new.bitmap }) = record { settings = was.settings; sheets = was.sheets; line = c.settle.ensures (line setup before) was.line; page = was.page } in
     record {
       sheets = c.draw-self-inside.ensures.sheets ∙ was.sheets;
-      settings = c.after-self-inside.ensures.settings setup before was.settings (c.as_slice-stops.ensures.value ∙ was.stops)
-          (c.size-wide.ensures.height ∙ ap (λ (k : Sheets). symbol_height k symbol) was.sheets ∙ rows_drawn setup before item symbol drawn);
-      stops = c.take.ensures.stops before (ap (λ (s : Settings). s.text) was.settings) was.stops;
+      settings = grind (arith, c.after-self-inside.ensures.settings, c.as_slice-stops.ensures.value, c.size-wide.ensures.height, rows_drawn, drawn);
+      stops = grind (arith, c.take.ensures.stops before);
       raster = c.take.ensures.gathers before;
       stored = c.take.ensures.stored before was.stored;
-      line = gathers_none c.draw-self-inside.new.canvas.sheets c.after-self-inside.result c.draw-self-inside.new.canvas.bitmap (line setup (item ∷ before)) (line_ended setup before item symbol drawn);
+      line = grind (arith, gathers_none, line_ended, drawn);
       page = c.draw-self-inside.ensures.page setup before item settled drawn;
       shows = c.draw-self-inside.ensures.shows setup before item settled drawn;
       of_page = λ some. no_page setup before item c.requires.symbol;

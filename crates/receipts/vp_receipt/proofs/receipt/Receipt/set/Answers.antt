@@ -1,17 +1,13 @@
-use Rattle.std.proofs.Common.{◌≡◌, List, [], ◌∷◌, length, refl, ap, sym, ◌∙◌, subst, arith}
-use Rattle.vp_receipt_settings.specs.declared.effect.Effect.{Effect}
+use Rattle.std.proofs.Common.{◌≡◌, [], ◌∷◌, ap, sym, ◌∙◌, subst, arith}
 use Rattle.vp_receipt_settings.specs.declared.effect.Effect.TheVariants.{Sets}
 use Rattle.vp_receipt_settings.specs.declared.settings.Settings.{Settings}
 use Rattle.vp_receipt_settings.specs.Effects.{effect_of}
-use Rattle.vp_receipt_settings.specs.Line.{line, mode, Placed}
+use Rattle.vp_receipt_settings.specs.Line.{line, mode}
 use Rattle.vp_receipt_settings.specs.Settings.{settings_of}
-use Rattle.vp_receipt_settings.specs.Symbols.{image_rows}
 use Rattle.vp_strips.specs.Canvases.{canvas_of}
 use Rattle.vp_strips.specs.Held.{job_text}
-use Rattle.vp_strips.specs.LineDots.{HasOpen}
-use Rattle.vp_receipt.specs.Effects.{layers_by, mode_by}
 use Rattle.vp_receipt.specs.Printer.{printing_of}
-use Rattle.vp_receipt.specs.Standing.{Printing, HasPageIf, IsActing, Stands}
+use Rattle.vp_receipt.specs.Standing.{Printing, IsActing, Stands}
 use Rattle.vp_receipt.proofs.Effects.{IsKind, kind_is, Does, does, page_after}
 use Rattle.vp_receipt.proofs.ItemKinds.{no_image}
 use Rattle.vp_receipt.proofs.Runs.{nothing_by}
@@ -31,8 +27,7 @@ returns-clause-pending g c = λ setup before h.
     let item = c.args.item.now in
     let none : job_text r.job (canvas_of r.canvas) ≡ [] = ap (λ (p : Printing). p.pending) c.self.view_is ∙ c.requires.pending in
     let is : effect_of r.settings item ≡ Sets = ap (λ (p : Printing). effect_of p.settings item) c.self.view_is ∙ c.requires.effect in
-    let acts : IsActing item = subst (IsKind item) is (kind_is r.settings item) in
-    let d : Does setup before item Sets = subst (Does setup before item) (sym (ap (λ (s : Settings). effect_of s item) was.settings) ∙ is) (does setup before item acts) in
+    let d : Does setup before item Sets = rw (← was.settings, is) at (does setup before item (subst (IsKind item) is (kind_is r.settings item))) in
     text_done r.job _ (is_done r.job (canvas_of r.canvas) r.lines c.self.invariant.job none) c.self.invariant.turned
     ∙ sym (rw (d.rows, d.own, d.page) (nothing_by (mode setup before)))
 
@@ -41,8 +36,7 @@ returns-clause-stands g c = λ setup before h.
     let was : Stands setup (printing_of c.self.inside) before = subst (λ (p : Printing). Stands setup p before) (sym c.self.view_is) h in
     let r = c.self.inside in
     let item = c.args.item.now in
-    let empty : job_text r.job (canvas_of r.canvas) ≡ [] = ap (λ (p : Printing). p.pending) c.self.view_is ∙ c.requires.pending in
-    let place = is_done r.job (canvas_of r.canvas) r.lines c.self.invariant.job empty in
+    let place = is_done r.job (canvas_of r.canvas) r.lines c.self.invariant.job (ap (λ (p : Printing). p.pending) c.self.view_is ∙ c.requires.pending) in
     let none : job_text r.job (record (canvas_of r.canvas) { bitmap = c.settle.new.bitmap }) ≡ [] = text_done r.job _ place c.self.invariant.turned in
     let is : effect_of r.settings item ≡ Sets = ap (λ (p : Printing). effect_of p.settings item) c.self.view_is ∙ c.requires.effect in
     let acts : IsActing item = subst (IsKind item) is (kind_is r.settings item) in
@@ -50,13 +44,12 @@ returns-clause-stands g c = λ setup before h.
     let d : Does setup before item Sets = subst (Does setup before item) (sym now) (does setup before item acts) in
     record {
       sheets = was.sheets;
-      settings = c.after-self-inside.ensures.settings setup before was.settings (c.as_slice-stops.ensures.value ∙ was.stops) (sym (ap image_rows (no_image setup before item acts.symbol)));
-      stops = c.take.ensures.stops before (ap (λ (s : Settings). s.text) was.settings) was.stops;
+      settings = grind (arith, no_image, c.after-self-inside.ensures.settings, c.as_slice-stops.ensures.value);
+      stops = grind (arith, c.take.ensures.stops before);
       raster = c.take.ensures.gathers before;
       stored = c.take.ensures.stored before was.stored;
-      line = subst (λ (placed : List Placed). HasOpen placed c.settle.new.bitmap) (sym d.line) (c.settle.ensures (line setup before) was.line);
-      page = page_after setup before item r.canvas.page (mode setup before) refl (does setup before item acts)
-          (subst (λ (e : Effect). HasPageIf (mode_by setup before e) (layers_by setup before e) r.canvas.page) now was.page);
+      line = grind (arith, c.settle.ensures (line setup before) was.line, d.line);
+      page = grind (arith, page_after, does setup before item acts, now, was.page);
       shows = nothing_shown setup _ _ (item ∷ before) (λ high others. shows_done r.job _ high others place c.self.invariant.turned);
-      of_page = λ some. absurd (omega (arith, some, ap length none));
+      of_page = grind (arith, none);
     }
