@@ -1,8 +1,8 @@
 -- Cursors before rows.
-use Rattle.std.proofs.Common.{inl, inr, ◌≡◌, ℕ, ◌+◌, ◌-◌, ◌*◌, ◌<◌, ◌≤◌, min, true, false, cond, add-one, Result, Ok, Err, List, [], ◌++◌, take, drop, replicate, length, ap, sym, ◌∙◌, refl, subst, arith}
+use Rattle.std.proofs.Common.{◌≡◌, ℕ, ◌+◌, ◌-◌, ◌*◌, ◌<◌, ◌≤◌, min, true, false, cond, add-one, Result, Ok, Err, List, ◌++◌, take, replicate, length, ap, sym, ◌∙◌, refl, subst, arith}
 use Rattle.std.proofs.Math.Seq.{drop-length}
 use Rattle.std.proofs.lemmas.List.{length-take}
-use Rattle.std.proofs.lemmas.Bool.{cases_Bool, lt-ltb, true≢false, false≢true}
+use Rattle.std.proofs.lemmas.Bool.{lt-ltb, true≢false}
 use Rattle.vp_dots.specs.declared.fault.Fault.{Fault}
 use Rattle.vp_dots.specs.declared.fault.Fault.TheVariants.{Graphic}
 use Rattle.vp_format.specs.declared.row.RowEnd.{RowEnd}
@@ -11,24 +11,21 @@ use Rattle.vp_format.specs.declared.rows.Coding.TheVariants.{Binary}
 use Rattle.vp_format.specs.declared.rows.Spot.{Spot}
 use Rattle.vp_format.specs.declared.rows.RunMark.{RunMark}
 use Rattle.vp_format.specs.Codes.{symbols}
-use Rattle.vp_format.specs.Pictures.{Value, shown_at, bytes_before, value_of, Picture, width_of, place_of, value, is_refused, is_repeat, is_above, is_unreadable, start_of, above_from, bound_of, nibble, answer, row_after}
+use Rattle.vp_format.specs.Pictures.{shown_at, bytes_before, value_of, Picture, width_of, place_of, value, is_refused, is_repeat, is_above, is_unreadable, start_of, above_from, bound_of, nibble, answer, row_after}
 use Rattle.vp_format.specs.declared.rows.RunRows.TheInside.{Inside}
-use Rattle.vp_format.specs.Cursors.{symbols_at, above, picture_of, Advanced, IsSpot, IsWhole, IsMark, ArePassed, IsCursor, Decoded, RowRead}
+use Rattle.vp_format.specs.Cursors.{symbols_at, above, picture_of, Advanced, IsWhole, IsMark, ArePassed, IsCursor, Decoded, RowRead}
 use Rattle.vp_format.proofs.Nibbles.{nibble_append, nibble_front, nibble_zero}
-use Rattle.vp_format.proofs.Reached.{run_over, bytes_over, bytes_none}
+use Rattle.vp_format.proofs.Reached.{bytes_none}
 
 -- a row in the first bytes of a longer one
-length_take_le : (n : ℕ) (row : List ℕ) → n ≤ length row → length (take n row) ≡ n
-length_take_le n row h = omega (arith, length-take n row)
-
 pub front_decoded : (coding : Coding) (codes row new rest : List ℕ) (s after : Spot) (end : RowEnd) (n : ℕ) → n ≤ length row → length new ≡ length (take n row) → Decoded (2 * length (take n row)) coding codes s end after (take n row) new
     → Decoded (2 * n) coding codes s end after row (new ++ rest)
-front_decoded coding codes row new rest s after end n room long d = grind (arith, length_take_le, nibble_append, nibble_front)
+front_decoded coding codes row new rest s after end n room long d = grind (arith, length-take, nibble_append, nibble_front)
 
 pub front_read : (coding : Coding) (codes row new rest : List ℕ) (s : Spot) (at : ℕ) (r : Result RowEnd Fault) (n : ℕ) → n ≤ length row → length new ≡ length (take n row) → RowRead (2 * length (take n row)) coding codes s r at (take n row) new
     → RowRead (2 * n) coding codes s r at row (new ++ rest)
 front_read coding codes row new rest s at (Ok end) n room long d = front_decoded coding codes row new rest s _ end n room long d
-front_read coding codes row new rest s at (Err why) n room long refused = subst (λ (k : ℕ). is_unreadable (shown_at (2 * k) 0 (symbols_at coding codes s) (2 * k - 1)) ≡ true) (length_take_le n row room) refused
+front_read coding codes row new rest s at (Err why) n room long refused = grind (arith, length-take)
 
 -- no symbol of a decoded row is refused
 pub decoded_taken : (w : ℕ) (coding : Coding) (codes old new : List ℕ) (s after : Spot) (end : RowEnd) → 0 < w → Decoded w coding codes s end after old new → is_unreadable (shown_at w 0 (symbols_at coding codes s) (w - 1)) ≡ false
@@ -64,34 +61,9 @@ unfolding is_repeat
 marked_repeat p m h = ap is_above (marked_place p m 0 h)
 
 -- the mark before the first row
-pub symbols_none : (coding : Coding) (codes : List ℕ) → symbols coding (drop (length codes) codes) ≡ symbols coding []
-symbols_none coding codes = ap (symbols coding) (drop-length codes)
-
-pub nothing_shown : (coding : Coding) (w j : ℕ) → shown_at w 0 (symbols coding []) j ≡ Value 0
-nothing_shown coding w j = grind arith
-
-pub nothing_spelled : (coding : Coding) (w j : ℕ) → bytes_before w 0 (symbols coding []) j ≡ 0
-nothing_spelled coding w j = grind arith
-
-whole_start : (coding : Coding) (at : ℕ) → IsWhole coding (record { left = 0; digit = 0; at = at })
-whole_start coding at = grind arith
-
 pub first_mark : (p : Picture) → IsMark p (record { next = 0; here = record { left = 0; digit = 0; at = 0 }; before = record { left = 0; digit = 0; at = length p.codes } })
 unfolding above_from
-first_mark p = record {
-  here = record { at = omega arith; digit = omega arith };
-  whole = whole_start p.coding 0;
-  shown_is = λ j. ap (shown_at w 0 (symbols p.coding p.codes)) (omega arith) ∙ sym (run_over w 0 0 0 (symbols p.coding p.codes) j (omega arith));
-  bytes_is = λ j. ap (bytes_before w 0 (symbols p.coding p.codes)) (omega arith) ∙ sym (bytes_over w 0 0 (symbols p.coding p.codes) j (omega arith)) ∙ omega arith;
-  before = record { at = omega arith; digit = omega arith };
-  whole_before = whole_start p.coding (length p.codes);
-  before_is = refl;
-  above_is = λ j l. run_over w 0 0 0 _ j (omega arith) ∙ ap (λ ss. shown_at w 0 ss j) (symbols_none p.coding p.codes) ∙ nothing_shown p.coding w j;
-  above_bytes = let e = bytes_over w 0 0 (symbols p.coding (drop (length p.codes) p.codes)) w (omega arith) ∙ ap (λ ss. bytes_before w 0 ss w) (symbols_none p.coding p.codes) ∙ nothing_spelled p.coding w w in omega (arith, e);
-}
-  where
-    w : ℕ
-    w = width_of p
+first_mark p = grind (arith, bytes_none, drop-length)
 
 -- the row that was read
 pub read_value : (p : Picture) (m : RunMark) (end : RowEnd) (after : Spot) (old new : List ℕ) (j : ℕ) → IsMark p m → Decoded (width_of p) p.coding p.codes m.here end after old new → j < width_of p → nibble old j ≡ above p m.next j → nibble new j ≡ value p m.next j
@@ -109,38 +81,12 @@ start_next p y = ap (above_from p) (add-one y)
 -- the mark behind it
 pub next_mark : (p : Picture) (m n : RunMark) (end : RowEnd) (after : Spot) (old new : List ℕ) → 0 < p.row_bytes → IsMark p m → Decoded (width_of p) p.coding p.codes m.here end after old new → ((j : ℕ) → j < width_of p → nibble old j ≡ above p m.next j)
     → n.next ≡ m.next + 1 → n.here ≡ after → n.before ≡ cond end.repeats m.before m.here → IsMark p n
-next_mark p m n end after old new some h d kept next here before = record {
-  here = subst (IsSpot p.codes) (sym here) d.spot;
-  whole = subst (IsWhole p.coding) (sym here) d.whole;
-  shown_is = λ j. ap (shown_at w 0 (symbols p.coding p.codes)) (ap (λ y. w * y + j) next ∙ omega arith) ∙ h.shown_is (w + j) ∙ d.next j ∙ ap (λ s. shown_at w 0 (symbols_at p.coding p.codes s) j) (sym here);
-  bytes_is = λ j. ap (bytes_before w 0 (symbols p.coding p.codes)) (ap (λ y. w * y + j) next ∙ omega arith) ∙ h.bytes_is (w + j) ∙ d.bytes j ∙ ap (λ s. s.at + bytes_before w 0 (symbols_at p.coding p.codes s) j) (sym here);
-  before = by_end (λ s. IsSpot p.codes s) (λ _. h.before) (λ _. h.here);
-  whole_before = by_end (λ s. IsWhole p.coding s) (λ _. h.whole_before) (λ _. h.whole);
-  before_is = by_end (λ s. s.at ≡ above_from p n.next)
-      (λ e. h.before_is ∙ sym (ap (above_from p) next ∙ start_next p m.next ∙ ap (λ b. cond b (above_from p m.next) (start_of p m.next)) (marked_repeat p m h ∙ ap is_above (d.again e 0 (omega arith)))))
-      (λ e. sym (marked_start p m h) ∙ sym (ap (above_from p) next ∙ start_next p m.next ∙ ap (λ b. cond b (above_from p m.next) (start_of p m.next)) (marked_repeat p m h ∙ ap is_above (d.own e 0 (omega arith)))));
-  above_is = λ j l. by_end (λ s. shown_at w 0 (symbols_at p.coding p.codes s) j ≡ Value (value p m.next j))
-      (λ e. h.above_is j l ∙ ap Value (sym (value-at p m.next j ∙ ap (λ c. value_of c (above p m.next j)) (marked_place p m j h ∙ d.again e j l))))
-      (λ e. d.own e j l ∙ ap Value (read_value p m end after old new j h d l (kept j l))) ∙ ap Value (sym (above_next p m n j next));
-  above_bytes = by_end (λ s. bytes_before w 0 (symbols_at p.coding p.codes s) w ≤ n.here.at - s.at)
-      (λ e. omega (arith, h.above_bytes, row_bytes, there))
-      (λ e. omega (arith, row_bytes, there));
-}
-  where
-    w : ℕ
-    w = width_of p
-
-    there : n.here.at ≡ after.at
-    there = ap (λ (s : Spot). s.at) here
-
-    row_bytes : m.here.at + bytes_before w 0 (symbols_at p.coding p.codes m.here) w ≡ after.at
-    row_bytes = let e : w ≡ w + 0 = omega arith in ap (λ q. m.here.at + bytes_before w 0 (symbols_at p.coding p.codes m.here) q) e ∙ d.bytes 0 ∙ ap (λ k. after.at + k) (bytes_none w 0 (symbols_at p.coding p.codes after) 0 (omega arith)) ∙ omega arith
-
-    by_end : (P : Spot → Type 0) → (end.repeats ≡ true → P m.before) → (end.repeats ≡ false → P m.here) → P n.before
-    by_end P repeated own = elim (cases_Bool end.repeats) [
-      | inl e ↦ subst P (sym (before ∙ ap (λ b. cond b m.before m.here) e)) (repeated e)
-      | inr e ↦ subst P (sym (before ∙ ap (λ b. cond b m.before m.here) e)) (own e)
-    ]
+next_mark p m n end after old new some h d kept next here before =
+    let w = width_of p in let ss = symbols p.coding p.codes in
+    let there : (j : ℕ) → w * n.next + j ≡ w * m.next + (w + j) = λ j. ap (λ y. w * y + j) next ∙ omega arith in
+    let shown : (j : ℕ) → shown_at w 0 ss (w * n.next + j) ≡ shown_at w 0 (symbols_at p.coding p.codes after) j = λ j. ap (shown_at w 0 ss) (there j) ∙ h.shown_is (w + j) ∙ d.next j in
+    let bytes : (j : ℕ) → bytes_before w 0 ss (w * n.next + j) ≡ after.at + bytes_before w 0 (symbols_at p.coding p.codes after) j = λ j. ap (bytes_before w 0 ss) (there j) ∙ h.bytes_is (w + j) ∙ d.bytes j in
+    grind (arith, shown, bytes, start_next, marked_repeat, marked_start, value-at, marked_place, read_value, above_next, d.bytes 0, bytes_none)
 
 -- what reading a row answers
 pub answer_refused : (p : Picture) (y : ℕ) → y < p.rows → is_refused p y ≡ true → (Err Graphic ≡ answer p y) × (y ≡ row_after p y)
@@ -177,21 +123,10 @@ start_first p = let e : width_of p * 0 ≡ 0 = omega arith in ap (bytes_before (
 pub first_cursor : (c : Inside) → 0 < c.row_bytes → c.row_bytes ≤ 1024 → c.codes.at ≡ 0 → c.codes.read ≡ 0 → c.first ≡ 0 → c.refused ≡ false → c.row ≡ replicate 1024 0
     → c.mark ≡ record { next = 0; here = record { left = 0; digit = 0; at = 0 }; before = record { left = 0; digit = 0; at = length c.codes.bytes.now } } → c.passed ≡ 0 → IsCursor c
 first_cursor c some short at read first going white mark passed =
-    let p = picture_of c in let next : c.mark.next ≡ 0 = ap (λ (m : RunMark). m.next) mark in
-    let here : c.mark.here.at ≡ 0 = ap (λ (m : RunMark). m.here.at) mark in
-    let bound = ap (bound_of p) first ∙ first_bound p in
-    record {
-      some = some;
-      short = short;
-      mark = subst (IsMark p) (sym mark) (first_mark p);
-      kept = λ _ j l. ap (λ row. nibble row j) white ∙ nibble_zero 1024 j (omega arith) ∙ ap (λ y. above p y j) (sym next);
-      place = λ _. at ∙ sym here;
-      stopped = λ e. absurd (false≢true (sym going ∙ e));
-      reading = record { at = omega arith; read = omega arith };
-      least = omega (arith, here);
-      most = omega (arith, bound);
-      passed = record { bytes = omega (arith, passed, ap (start_of p) first, start_first p); rows = omega (arith, passed, first) };
-    }
+    let p = picture_of c in let m = subst (IsMark p) (sym mark) (first_mark p) in
+    let kept : (j : ℕ) → j < 2 * c.row_bytes → nibble c.row j ≡ above p c.mark.next j = λ j l.
+    ap (λ row. nibble row j) white ∙ nibble_zero 1024 j (omega arith) ∙ ap (λ y. above p y j) (sym (ap (λ (m : RunMark). m.next) mark)) in
+    grind (arith, m, kept, ap (bound_of p) first ∙ first_bound p, ap (start_of p) first ∙ start_first p)
 
 -- a cursor that goes on at a mark, behind the row above
 pub resumed_cursor : (c : Inside) (bytes from : List ℕ) (r : Result RowEnd Fault) (at : ℕ) (old : List ℕ) → c.codes.bytes.now ≡ bytes → from ≡ bytes → 0 < c.row_bytes → c.row_bytes ≤ 1024
@@ -199,13 +134,9 @@ pub resumed_cursor : (c : Inside) (bytes from : List ℕ) (r : Result RowEnd Fau
     → RowRead (2 * c.row_bytes) c.coding from c.mark.before r at old c.row
     → c.codes.read + c.mark.before.at ≡ at → c.codes.at ≡ c.mark.here.at → c.first ≡ c.mark.next → c.refused ≡ false → c.passed ≡ 1 → IsCursor c
 resumed_cursor c bytes from r at old same also some short mark above read here first going passed =
-    let p = picture_of c in
-    let m = subst (λ (b : List ℕ). IsMark (record { coding = c.coding; codes = b; row_bytes = c.row_bytes; rows = c.rows }) c.mark) (sym same) mark in
-    let decoded = subst (λ (b : List ℕ). RowRead (2 * c.row_bytes) c.coding b c.mark.before r at old c.row) (also ∙ sym same) above in
-    let taken = above_reads p c.mark r at old c.row some m decoded in let few = m.above_bytes in
-    let start = ap (start_of p) first ∙ marked_start p c.mark m in
-    let bound = ap (bound_of p) first ∙ marked_bound p c.mark m in let inside = m.here.at in
-    grind (arith, above_read, false≢true, start)
+    let p = picture_of c in let m : IsMark p c.mark = rw same mark in
+    let d : RowRead (2 * c.row_bytes) c.coding c.codes.bytes.now c.mark.before r at old c.row = rw (also ∙ sym same) at above in
+    grind (arith, above_reads p c.mark r at old c.row some m d, marked_start, marked_bound, above_read)
 
 -- the cursor behind a row
 pub next_cursor : (c n : Inside) (end : RowEnd) → IsCursor c → c.refused ≡ false → n.refused ≡ false → Advanced c.codes n.codes
@@ -213,9 +144,8 @@ pub next_cursor : (c n : Inside) (end : RowEnd) → IsCursor c → c.refused ≡
     → n.coding ≡ c.coding → n.row_bytes ≡ c.row_bytes → n.rows ≡ c.rows → n.first ≡ c.first
     → n.mark.next ≡ c.mark.next + 1 → n.mark.here ≡ record { left = end.left; digit = end.digit; at = n.codes.at } → n.mark.before ≡ cond end.repeats c.mark.before c.mark.here → ArePassed n → IsCursor n
 next_cursor c n end i going goes a d coding row_bytes rows first next here before passed =
-    let same : picture_of n ≡ picture_of c = rw (coding, row_bytes, rows, a.bytes) refl in
-    let mark : IsMark (picture_of n) n.mark = subst (λ q. IsMark q n.mark) (sym same) (next_mark (picture_of c) c.mark n.mark end _ c.row n.row i.some i.mark d (i.kept going) next here before) in
-    grind (arith, read_value, above_next, false≢true, mark, same)
+    let m : IsMark (picture_of n) n.mark = rw (coding, row_bytes, rows, a.bytes) (next_mark (picture_of c) c.mark n.mark end _ c.row n.row i.some i.mark d (i.kept going) next here before) in
+    grind (arith, read_value, above_next)
 
 -- the cursor behind a refused row
 pub stopped_cursor : (c n : Inside) → IsCursor c → c.refused ≡ false → n.refused ≡ true → Advanced c.codes n.codes → is_unreadable (shown_at (2 * c.row_bytes) 0 (symbols_at c.coding c.codes.bytes.now c.mark.here) (2 * c.row_bytes - 1)) ≡ true

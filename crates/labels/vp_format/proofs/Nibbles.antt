@@ -1,5 +1,5 @@
 -- Places of a row of bytes, two to a byte.
-use Rattle.std.proofs.Common.{inl, inr, ◌≡◌, ℕ, ◌+◌, ◌*◌, ◌/◌, ◌%◌, ◌<◌, eqb, cond, List, length, get_or, ◌++◌, take, replicate, ap, ◌∙◌, refl, arith, ◌-◌, ◌≤◌, get_or-take}
+use Rattle.std.proofs.Common.{inl, inr, ◌≡◌, ℕ, ◌+◌, ◌*◌, ◌/◌, ◌%◌, ◌<◌, eqb, cond, List, length, get_or, ◌++◌, take, replicate, ap, refl, arith, ◌≤◌, get_or-take}
 use Rattle.std.proofs.Math.ListN.{get_or-append}
 use Rattle.std.proofs.lemmas.List.{get_or-replicate, get_or-append_right, length-take, length-replicate}
 use Rattle.std.proofs.lemmas.Bool.{cases_Bool}
@@ -18,21 +18,15 @@ pub nibble_zero : (n j : ℕ) → j < 2 * n → nibble (replicate n 0) j ≡ 0
 unfolding nibble
 nibble_zero n j h = rw (get_or-replicate {A = ℕ} n (j / 2) 0 0 (omega arith)) (elim (cases_Bool (eqb (j % 2) 0)) [ inl e ↦ rw e refl | inr e ↦ rw e refl ])
 
--- a byte of a row and its two places
-nibble_of_byte : (row : List ℕ) (b j : ℕ) → get_or row (j / 2) 0 ≡ b → nibble row j ≡ cond (eqb (j % 2) 0) (b / 16) (b % 16)
-unfolding nibble
-nibble_of_byte row b j e = ap (λ x. cond (eqb (j % 2) 0) (x / 16) (x % 16)) e
-
 -- both places of a byte that has one value twice
-nibble_of_twice : (row : List ℕ) (v j : ℕ) → v < 16 → get_or row (j / 2) 0 ≡ v * 16 + v → nibble row j ≡ v
-nibble_of_twice row v j small e = nibble_of_byte row (v * 16 + v) j e ∙ (elim (cases_Bool (eqb (j % 2) 0)) [ inl t ↦ rw t (omega arith) | inr t ↦ rw t (omega arith) ])
-
 pub nibble_twice : (n v j : ℕ) → v < 16 → j < 2 * n → nibble (replicate n (v * 16 + v)) j ≡ v
-nibble_twice n v j small h = nibble_of_twice (replicate n (v * 16 + v)) v j small (get_or-replicate {A = ℕ} n (j / 2) (v * 16 + v) 0 (omega arith))
+unfolding nibble
+nibble_twice n v j small h = grind (arith, get_or-replicate)
 
 -- the two places of a byte that was put together
 pub nibble_of_values : (row : List ℕ) (f : ℕ → ℕ) (j : ℕ) → get_or row (j / 2) 0 ≡ f (2 * (j / 2)) * 16 + f (2 * (j / 2) + 1) → f (2 * (j / 2) + 1) < 16 → nibble row j ≡ f j
-nibble_of_values row f j e small = grind (arith, nibble_of_byte)
+unfolding nibble
+nibble_of_values row f j e small = grind arith
 
 pub nibble_of_pair : (row places : List ℕ) (j : ℕ) → get_or row (j / 2) 0 ≡ get_or places (2 * (j / 2)) 0 * 16 + get_or places (2 * (j / 2) + 1) 0 → get_or places (2 * (j / 2) + 1) 0 < 16 → nibble row j ≡ get_or places j 0
 nibble_of_pair row places j e small = nibble_of_values row (λ k. get_or places k 0) j e small
@@ -42,9 +36,5 @@ pub nibble_kept : (row mid rest : List ℕ) (n j : ℕ) → n ≤ length row →
 nibble_kept row mid rest n j room l = grind (arith, length-take, nibble_append, nibble_front)
 
 pub nibble_behind : (row mid rest : List ℕ) (n k v j : ℕ) → n ≤ length row → mid ≡ replicate k (v * 16 + v) → v < 16 → 2 * n ≤ j → j < 2 * (n + k) → nibble (take n row ++ (mid ++ rest)) j ≡ v
-nibble_behind row mid rest n k v j room e small l m =
-    let front : length (take n row) ≡ n = omega (arith, length-take n row) in
-    nibble_of_twice (take n row ++ (mid ++ rest)) v j small
-    (get_or-append_right (take n row) (mid ++ rest) n (j / 2) 0 front (omega arith)
-    ∙ get_or-append mid rest 0 (j / 2 - n) (rw (e, length-replicate {A = ℕ} k (v * 16 + v)) (omega arith))
-    ∙ ap (λ r. get_or r (j / 2 - n) 0) e ∙ get_or-replicate {A = ℕ} k (j / 2 - n) (v * 16 + v) 0 (omega arith))
+unfolding nibble
+nibble_behind row mid rest n k v j room e small l m = grind (arith, length-take, get_or-append_right, get_or-append, length-replicate, get_or-replicate)

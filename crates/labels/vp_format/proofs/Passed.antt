@@ -1,4 +1,5 @@
 -- Codes that are passed by where their symbols end, and what passing all rows answers.
+use Rattle.std.proofs.lemmas.List.{drop_more}
 use Rattle.std.proofs.Common.{◌≡◌, ℕ, zero, suc, ◌+◌, ◌-◌, ◌*◌, ◌/◌, ◌%◌, ◌<◌, ◌≤◌, true, false, Ok, Err, cond, List, ◌∷◌, drop, length, get_or, Some, subst, ap, ◌∙◌, refl, arith}
 use Rattle.std.proofs.Math.Seq.{drop-length}
 use Rattle.std.proofs.Math.Nat.{lt-div-mul-add, div-mul-le_self, div-lt_iff_lt-mul, mul-le-mul_left, mul_comm}
@@ -10,7 +11,7 @@ use Rattle.vp_format.specs.declared.reading.Codes.{Codes}
 use Rattle.vp_format.specs.Codes.{code_of, Spelled, spelled, joined, symbols, symbols_behind}
 use Rattle.vp_format.specs.Pictures.{AsAbove, Unreadable, shows, end_of, is_unreadable, Picture, width_of, place_of, is_refused, passing}
 use Rattle.vp_format.specs.Cursors.{digit_value, symbols_from, InHand, IsReading, Passed, PassesOn}
-use Rattle.vp_format.proofs.Reached.{shown_in, in_hand}
+use Rattle.vp_format.proofs.Reached.{shown_in}
 use Rattle.vp_format.proofs.Quick.{plain_symbol}
 use Rattle.vp_format.proofs.Skipped.{first_read, rows_read, read_to}
 
@@ -24,11 +25,11 @@ digits_passed w all x n v k left r = grind arith
 -- so many plain digits
 pub plain_passed : (w : ℕ) (all : List Spelled) (x : ℕ) (codes : List ℕ) (at k : ℕ) → at + k ≤ length codes → ((i : ℕ) → i < k → digit_value (code_of (get_or codes (at + i) 0)) < 16)
     → Passed w all x (symbols_from codes at) → Passed w all (x + k) (symbols_from codes (at + k))
-plain_passed w all x codes at zero inside digit r = let e : x ≡ x + 0 = omega arith in let f : at ≡ at + 0 = omega arith in passed_at w all x (x + 0) _ _ e (ap (symbols_from codes) f) r
+plain_passed w all x codes at zero inside digit r = grind arith
 plain_passed w all x codes at (suc k) inside digit r = grind (arith, passed_at, plain_symbol, digits_passed, plain_passed w all x codes at k (omega (arith, inside)) (λ i l. digit i (omega (arith, l))) r)
 
 pub plain_on : (codes : List ℕ) (x at k : ℕ) → at + k ≤ length codes → ((i : ℕ) → i < k → digit_value (code_of (get_or codes (at + i) 0)) < 16) → PassesOn codes x at (x + k) (at + k)
-plain_on codes x at k inside digit = record { behind = omega arith; inside = inside; passed = λ w all. plain_passed w all x codes at k inside digit }
+plain_on codes x at k inside digit = grind (arith, plain_passed)
 
 -- one part after the other
 pub passes_on : (codes : List ℕ) (x at y to z last : ℕ) → PassesOn codes x at y to → PassesOn codes y to z last → PassesOn codes x at z last
@@ -36,7 +37,7 @@ passes_on codes x at y to z last a b = record { behind = omega arith; inside = b
 
 -- none of the rows is refused
 pub all_taken : (p : Picture) → ((y : ℕ) → y < p.rows → is_refused p y ≡ false) → passing p 0 p.rows ≡ Ok tt
-all_taken p taken = let e : p.rows ≡ p.rows - 0 = omega arith in ap (passing p 0) e ∙ (read_to p 0 p.rows (omega arith) (omega arith) (λ z l m. taken z m)).0
+all_taken p taken = grind (arith, read_to p 0 p.rows)
 
 -- a row's last place
 last_before : (w y n : ℕ) → 0 < w → y < n → w * y + (w - 1) < w * n
@@ -74,4 +75,4 @@ inside_passed p x k left some inside within r = refused_passed p x k Again left 
 -- the symbol that begins with the byte in hand
 pub hand_passed : (w : ℕ) (all : List Spelled) (x : ℕ) (codes : List ℕ) (old c e : Codes) (b k : ℕ) (s : Symbol) → c.bytes.now ≡ codes → e.bytes.now ≡ codes → c.at ≡ old.at + 1 → InHand c (Some b) → IsReading c
     → joined (code_of b) 0 0 (symbols_behind (drop c.at c.bytes.now)) ≡ spelled s k ∷ symbols_from e.bytes.now e.at → Passed w all x (symbols_from codes old.at) → Passed w all x (spelled s k ∷ symbols_from codes e.at)
-hand_passed w all x codes old c e b k s same kept next hand reading is r = grind (arith, passed_at, in_hand)
+hand_passed w all x codes old c e b k s same kept next hand reading is r = grind (arith, passed_at, drop_more)

@@ -1,47 +1,34 @@
 -- Rows that are passed by their codes.
 use Rattle.std.proofs.lemmas.Grind.{common_steps}
-use Rattle.std.proofs.Common.{inl, inr, ◌≡◌, ◌⊎◌, ℕ, zero, suc, ◌+◌, ◌*◌, ◌/◌, ◌%◌, ◌<◌, ◌≤◌, true, false, List, [], ◌∷◌, drop, length, length-drop, ap, sym, ◌∙◌, refl, arith}
-use Rattle.std.specs.Prelude.{◌==◌}
-use Rattle.std.proofs.lemmas.Bool.{cases_Bool, cases_lt}
+use Rattle.std.proofs.Common.{◌≡◌, ◌⊎◌, ℕ, ◌+◌, ◌*◌, ◌<◌, ◌≤◌, true, false, List, [], ◌∷◌, length, length-drop, ap, sym, ◌∙◌, refl, arith}
 use Rattle.std.proofs.lemmas.Bool.Decides.{nat_tests}
-use Rattle.vp_format.specs.declared.codes.Code.{Code}
-use Rattle.vp_format.specs.declared.codes.Code.TheVariants.{Count}
-use Rattle.vp_format.specs.declared.codes.Symbol.TheVariants.{Digits, Refused}
 use Rattle.vp_format.specs.declared.row.RowEnd.{RowEnd}
 use Rattle.vp_format.specs.declared.rows.Coding.{Coding}
 use Rattle.vp_format.specs.declared.rows.Coding.TheVariants.{RunLength, Binary}
 use Rattle.vp_format.specs.declared.rows.Spot.{Spot}
 use Rattle.vp_format.specs.declared.rows.RunRows.TheInside.{Inside}
-use Rattle.vp_format.specs.Codes.{code_of, spelled, joined, symbols, symbols_behind, binary_symbols}
-use Rattle.vp_format.specs.Pictures.{Value, shown_at, bytes_before, start_of}
+use Rattle.vp_format.specs.Codes.{code_of, symbols, symbols_behind}
+use Rattle.vp_format.specs.Pictures.{bytes_before, start_of}
 use Rattle.vp_format.specs.Cursors.{symbols_at, picture_of, is_white, white_rest, Advanced, Decoded, ArePassed, IsCursor}
-use Rattle.vp_format.proofs.Even.{white_is, is_white_at, ends_white}
-use Rattle.vp_format.proofs.Reached.{shown_in, bytes_run, bytes_past, bytes_none}
+use Rattle.vp_format.proofs.Even.{ends_white}
+use Rattle.vp_format.proofs.Reached.{bytes_past, bytes_none}
 
 -- there is one such row at most
 pub rest_most : (codes : ℕ) (s : Spot) → white_rest codes s ≤ 1
-rest_most codes s = elim (cases_Bool (is_white codes s)) [ inl t ↦ rw t (omega arith) | inr f ↦ rw f (omega arith) ]
+rest_most codes s = grind (arith, nat_tests)
 
--- a count is some
-count_some : (b m : ℕ) → code_of b ≡ Count m → 0 < m
-unfolding code_of
-count_some b m e = grind (arith, nat_tests)
-
--- the symbol at a code, or behind the counts from it on, has some bytes
-some_joined : (codes : List ℕ) (c : Code) (n k w p : ℕ) → ((m : ℕ) → c ≡ Count m → 0 < m) → ((n k : ℕ) → 0 < n → 0 < k → 0 < bytes_before w p (symbols_behind codes n k) w) → p < w
-    → 0 < bytes_before w p (joined c n k (symbols_behind codes)) w
-some_joined codes c n k w p counts later l = grind (arith, bytes_past)
-
+-- behind counts some bytes are read
 some_behind : (codes : List ℕ) (w p : ℕ) → p < w → (n k : ℕ) → 0 < n → 0 < k → 0 < bytes_before w p (symbols_behind codes n k) w
-some_behind [] w p l (suc n) k counts some = let t : (suc n == 0) ≡ false = grind (arith, nat_tests) in rw t (omega (arith, bytes_past w p (spelled Refused k) [] w l))
-some_behind [] w p l zero k counts some = absurd (omega arith)
-some_behind (b ∷ codes) w p l n k counts some = some_joined codes (code_of b) n k w p (λ m e. count_some b m e) (some_behind codes w p l) l
+unfolding code_of
+some_behind [] w p l n k counts some = grind (arith, nat_tests, bytes_past)
+some_behind (b ∷ codes) w p l n k counts some = grind (arith, some_behind codes w p l, nat_tests, bytes_past)
 
 -- so some bytes are read where there is a code
 some_read : (coding : Coding) (codes : List ℕ) (w p : ℕ) → 0 < length codes → p < w → 0 < bytes_before w p (symbols coding codes) w
+unfolding code_of
 some_read coding [] w p some l = absurd (omega arith)
-some_read RunLength (b ∷ codes) w p some l = some_joined codes (code_of b) 0 0 w p (λ m e. count_some b m e) (some_behind codes w p l) l
-some_read Binary (b ∷ codes) w p some l = omega (arith, bytes_past w p (spelled (Digits 1 (b / 16)) 1) (spelled (Digits 1 (b % 16)) 0 ∷ binary_symbols codes) w l)
+some_read RunLength (b ∷ codes) w p some l = grind (arith, some_behind, bytes_past, nat_tests)
+some_read Binary (b ∷ codes) w p some l = grind (arith, bytes_past)
 
 module _ (w : ℕ) (coding : Coding) (codes : List ℕ) (s after : Spot) (end : RowEnd) (old new : List ℕ) (d : Decoded w coding codes s end after old new) where
   -- where the next row starts
@@ -50,19 +37,7 @@ module _ (w : ℕ) (coding : Coding) (codes : List ℕ) (s after : Spot) (end : 
 
   -- behind the last code white is all that comes once the run has ended
   pub white_next : s.at ≡ length codes → ((s.left ≤ w) ⊎ (s.digit ≡ 0)) → is_white (length codes) after ≡ true
-  white_next ends rest =
-      let here : after.at ≡ length codes = omega (arith, next_start, ends, d.spot.at) in
-      let first : shown_at w 0 (symbols_at coding codes after) 0 ≡ Value 0 = sym (d.next 0) ∙ ends_white w coding codes s (w + 0) ends (elim rest [ inl short ↦ inl (omega (arith, short)) | inr digit ↦ inr digit ]) in
-      white_is (length codes) after (
-        here,
-        elim (cases_lt 0 after.left) [
-          | inr none ↦ inl (omega arith)
-          | inl some ↦ inr (value_is after.digit 0 (sym (shown_in w 0 (spelled (Digits after.left after.digit) 0) (symbols coding (drop after.at codes)) 0 (omega arith)) ∙ first))
-        ],
-      )
-    where
-      value_is : (a b : ℕ) → Value a ≡ Value b → a ≡ b
-      value_is a b e = cc
+  white_next ends rest = let first = sym (d.next 0) ∙ ends_white w coding codes s (w + 0) ends (grind arith) in grind (arith, next_start, first, nat_tests)
 
 -- the row at the cursor is read
 module _ (c n : Inside) (end : RowEnd) (i : IsCursor c) (going : c.refused ≡ false) (a : Advanced c.codes n.codes)
@@ -83,8 +58,8 @@ module _ (c n : Inside) (end : RowEnd) (i : IsCursor c) (going : c.refused ≡ f
 
   -- and not counted
   pub read_passed : n.passed ≡ c.passed → ArePassed n
-  read_passed same = grind (arith, cases_Bool, is_white_at, start, there, white)
+  read_passed same = grind (arith, start, there, white, nat_tests)
 
   -- or counted, where a code spells it
   pub spelled_passed : n.passed ≡ c.passed + 1 → c.mark.here.left < 2 * c.row_bytes → is_white (length c.codes.bytes.now) c.mark.here ≡ false → ArePassed n
-  spelled_passed more short w = grind (arith, common_steps, cases_lt, start, there, bytes_run, some_read, length-drop, next_start, white)
+  spelled_passed more short w = grind (arith, common_steps, start, there, some_read, length-drop, white, bytes_past, bytes_none, d.bytes 0)

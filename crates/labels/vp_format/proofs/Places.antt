@@ -1,12 +1,12 @@
 -- What codes show behind others.
-use Rattle.std.proofs.Common.{◌≡◌, ◌≢◌, ℕ, zero, suc, ◌+◌, ◌*◌, ◌/◌, ◌%◌, ◌<◌, ◌≤◌, max, cond, eqb, false, List, [], ◌∷◌, ◌++◌, length, get_or, ap, sym, ◌∙◌, refl, arith, append_assoc, append-nil}
+use Rattle.std.proofs.Common.{◌≡◌, ℕ, zero, suc, ◌+◌, ◌*◌, ◌/◌, ◌<◌, ◌≤◌, max, cond, false, List, [], ◌∷◌, ◌++◌, length, get_or, ap, sym, ◌∙◌, refl, arith, append_assoc, append-nil}
 use Rattle.std.proofs.lemmas.Bool.{ne_eqb, true≢false}
 use Rattle.std.proofs.Math.Nat.{lt-div-mul-add}
 use Rattle.vp_format.specs.declared.codes.Code.{Code}
 use Rattle.vp_format.specs.declared.codes.Code.TheVariants.{Digit, Count}
-use Rattle.vp_format.specs.declared.codes.Symbol.TheVariants.{Digits, Again, Refused}
+use Rattle.vp_format.specs.declared.codes.Symbol.TheVariants.{Digits, Refused}
 use Rattle.vp_format.specs.Codes.{code_of, Spelled, spelled, joined, symbols_behind}
-use Rattle.vp_format.specs.Pictures.{Value, AsAbove, Unreadable, shown_at}
+use Rattle.vp_format.specs.Pictures.{Value, Unreadable, shown_at}
 use Rattle.vp_format.specs.Reads.{AreDigits, no_digit, digit, AreCounts, no_count, count, goes_on, ReadTo, start, run, row, again}
 use Rattle.vp_format.proofs.Reached.{shown_in, shown_past}
 
@@ -14,26 +14,28 @@ abbrev symbols : List ℕ → List Spelled
 symbols codes = symbols_behind codes 0 0
 
 -- the symbols from a known code on
-symbols_at_code : (b n k : ℕ) (c : Code) (codes : List ℕ) → code_of b ≡ c → symbols_behind (b ∷ codes) n k ≡ joined c n k (symbols_behind codes)
+pub symbols_at_code : (b n k : ℕ) (c : Code) (codes : List ℕ) → code_of b ≡ c → symbols_behind (b ∷ codes) n k ≡ joined c n k (symbols_behind codes)
 symbols_at_code b n k c codes e = ap (λ d. joined d n k (symbols_behind codes)) e
 
 -- counts and their digit
-symbols_run : {counts : List ℕ} {n : ℕ} (back : List ℕ) (m i k b v : ℕ) → AreCounts counts n → code_of b ≡ Digit v → m + n ≡ k → symbols_behind (counts ++ b ∷ back) m i ≡ spelled (Digits (max k 1) v) (i + length counts + 1) ∷ symbols back
+pub symbols_run : {counts : List ℕ} {n : ℕ} (back : List ℕ) (m i k b v : ℕ) → AreCounts counts n → code_of b ≡ Digit v → m + n ≡ k
+    → symbols_behind (counts ++ b ∷ back) m i ≡ spelled (Digits (max k 1) v) (i + length counts + 1) ∷ symbols back
 symbols_run back m i k b v no_count e s = symbols_at_code b m i (Digit v) back e ∙ ap (λ q. spelled (Digits (max q 1) v) (i + 1) ∷ symbols back) (omega arith) ∙ ap (λ q. spelled (Digits (max k 1) v) q ∷ symbols back) (omega arith)
 symbols_run back m i k b v (count c d n counts g h) e s = symbols_at_code c m i (Count d) (counts ++ b ∷ back) g ∙ symbols_run back (m + d) (i + 1) k b v h e (omega arith) ∙ ap (λ q. spelled (Digits (max k 1) v) q ∷ symbols back) (omega arith)
 
 -- counts that the codes end behind
-symbols_cut : {counts : List ℕ} {n : ℕ} (m i : ℕ) → AreCounts counts n → 0 < m + n → symbols_behind counts m i ≡ spelled Refused (i + length counts) ∷ []
+pub symbols_cut : {counts : List ℕ} {n : ℕ} (m i : ℕ) → AreCounts counts n → 0 < m + n → symbols_behind counts m i ≡ spelled Refused (i + length counts) ∷ []
 symbols_cut m i no_count h = ap (λ b. cond b [] (spelled Refused i ∷ [])) (ne_eqb m 0 (omega arith)) ∙ ap (λ q. spelled Refused q ∷ []) (omega arith)
 symbols_cut m i (count c d n counts g r) h = symbols_at_code c m i (Count d) counts g ∙ symbols_cut (m + d) (i + 1) r (omega arith) ∙ ap (λ q. spelled Refused q ∷ []) (omega arith)
 
 -- counts that something else stands behind
-symbols_counted : {counts : List ℕ} {n : ℕ} (back : List ℕ) (m i b : ℕ) → AreCounts counts n → 0 < m + n → goes_on (code_of b) ≡ false → symbols_behind (counts ++ b ∷ back) m i ≡ spelled Refused (i + length counts + 1) ∷ symbols back
+pub symbols_counted : {counts : List ℕ} {n : ℕ} (back : List ℕ) (m i b : ℕ) → AreCounts counts n → 0 < m + n → goes_on (code_of b) ≡ false
+    → symbols_behind (counts ++ b ∷ back) m i ≡ spelled Refused (i + length counts + 1) ∷ symbols back
 symbols_counted back m i b no_count h e = grind (arith, ne_eqb, true≢false)
 symbols_counted back m i b (count c d n counts g r) h e = symbols_at_code c m i (Count d) (counts ++ b ∷ back) g ∙ symbols_counted back (m + d) (i + 1) b r (omega arith) e ∙ ap (λ q. spelled Refused q ∷ symbols back) (omega arith)
 
 -- a row's end lies behind each of its places
-end_behind : (w q : ℕ) → 0 < w → q < (q / w + 1) * w
+pub end_behind : (w q : ℕ) → 0 < w → q < (q / w + 1) * w
 end_behind w q h = let e : (q / w + 1) * w ≡ q / w * w + w = omega arith in rw e (lt-div-mul-add h)
 
 -- behind accepted codes the others begin at their place
@@ -49,28 +51,10 @@ digits_shown width at k no_digit = refl
 digits_shown width at zero (digit b v codes values e h) = ap (λ ss. shown_at width at ss (at + 0)) (symbols_at_code b 0 0 (Digit v) codes e) ∙ shown_in width at (spelled (Digits 1 v) 1) (symbols codes) (at + 0) (omega arith)
 digits_shown width at (suc k) (digit b v codes values e h) = grind (arith, symbols_at_code, shown_past, digits_shown width (at + 1) k h)
 
--- what the codes behind accepted ones show
-pub run_read : (width : ℕ) (front counts back : List ℕ) (q n b v j : ℕ) → 0 < width → ReadTo width front q → AreCounts counts n → code_of b ≡ Digit v → q ≤ j → j < q + max n 1 → shown_at width 0 (symbols (front ++ (counts ++ b ∷ back))) j ≡ Value v
-run_read width front counts back q n b v j w r g e h l = read_on width (counts ++ b ∷ back) j w r h ∙ ap (λ ss. shown_at width q ss j) (symbols_run back 0 0 n b v g e (omega arith)) ∙ shown_in width q (spelled (Digits (max n 1) v) (0 + length counts + 1)) (symbols back) j l
-
-pub code_read : (width : ℕ) (front back : List ℕ) (q b j : ℕ) (c : Code) → 0 < width → ReadTo width front q → code_of b ≡ c → q ≤ j → shown_at width 0 (symbols (front ++ b ∷ back)) j ≡ shown_at width q (joined c 0 0 (symbols_behind back)) j
-code_read width front back q b j c w r e h = read_on width (b ∷ back) j w r h ∙ ap (λ ss. shown_at width q ss j) (symbols_at_code b 0 0 c back e)
-
+-- behind the last code white shows
 pub end_read : (width : ℕ) (front : List ℕ) (q j : ℕ) → 0 < width → ReadTo width front q → q ≤ j → shown_at width 0 (symbols front) j ≡ Value 0
 end_read width front q j w r h = ap (λ codes. shown_at width 0 (symbols codes) j) (sym (append-nil front)) ∙ read_on width [] j w r h
 
 -- a refused symbol shows nothing where it starts
 pub refused_at : (width q k : ℕ) (ss rest : List Spelled) → 0 < width → ss ≡ spelled Refused k ∷ rest → shown_at width q ss q ≡ Unreadable
-refused_at width q k ss rest w e = ap (λ ts. shown_at width q ts q) e ∙ shown_in width q (spelled Refused k) rest q (end_behind width q w)
-
-pub counted_read : (width : ℕ) (front counts back : List ℕ) (q n b : ℕ) → 0 < width → ReadTo width front q → AreCounts counts n → 0 < n → goes_on (code_of b) ≡ false → shown_at width 0 (symbols (front ++ (counts ++ b ∷ back))) q ≡ Unreadable
-counted_read width front counts back q n b w r g h e = read_on width (counts ++ b ∷ back) q w r (omega arith) ∙ refused_at width q _ _ _ w (symbols_counted back 0 0 b g (omega arith) e)
-
-pub cut_read : (width : ℕ) (front counts : List ℕ) (q n : ℕ) → 0 < width → ReadTo width front q → AreCounts counts n → 0 < n → shown_at width 0 (symbols (front ++ counts)) q ≡ Unreadable
-cut_read width front counts q n w r g h = read_on width counts q w r (omega arith) ∙ refused_at width q _ _ _ w (symbols_cut 0 0 g (omega arith))
-
-pub inside_read : (width : ℕ) (q : ℕ) (rest : List Spelled) → 0 < width → q % width ≢ 0 → shown_at width q (spelled Again 1 ∷ rest) q ≡ Unreadable
-inside_read width q rest w n = shown_in width q (spelled Again 1) rest q (end_behind width q w) ∙ ap (λ b. cond b AsAbove Unreadable) (ne_eqb (q % width) 0 n)
-
-pub again_read : (width q : ℕ) (rest : List Spelled) (j : ℕ) → q % width ≡ 0 → j < (q / width + 1) * width → shown_at width q (spelled Again 1 ∷ rest) j ≡ AsAbove
-again_read width q rest j s l = shown_in width q (spelled Again 1) rest j l ∙ ap (λ r. cond (eqb r 0) AsAbove Unreadable) s
+refused_at width q k ss rest w e = grind (arith, end_behind)

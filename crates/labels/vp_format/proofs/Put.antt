@@ -1,6 +1,6 @@
 -- Places that are filled code by code.
 use Rattle.std.proofs.lemmas.Grind.{common_steps}
-use Rattle.std.proofs.Common.{inl, inr, ◌≡◌, ℕ, zero, suc, ◌+◌, ◌-◌, ◌<◌, ◌≤◌, max, ltb, bit_or, List, length, get_or, subst, sym, ap, ◌∙◌, refl, arith}
+use Rattle.std.proofs.Common.{inl, inr, ◌≡◌, ℕ, zero, suc, ◌+◌, ◌<◌, ◌≤◌, max, ltb, bit_or, List, length, get_or, subst, sym, ap, ◌∙◌, refl, arith}
 use Rattle.std.proofs.lemmas.Bool.{cases_lt}
 use mir.Val.{bool_byte}
 use Rattle.vp_format.specs.Codes.{code_of, Spelled}
@@ -19,12 +19,6 @@ added_most codes at k (suc n) l = elim (cases_lt k (suc n)) [
 ]
 
 module _ (w : ℕ) (all : List Spelled) (start : ℕ) (old new : List ℕ) (from : ℕ) (codes : List ℕ) (at : ℕ) where
-  -- a digit
-  digit_put : (k v : ℕ) → at + k < length codes → digit_value (code_of (get_or codes (at + k) 0)) < 16 → v ≡ digit_value (code_of (get_or codes (at + k) 0)) → Filled (from + added codes at k) (from + added codes at k + 32) v old new
-      → Reached w all start old (from + added codes at k) (symbols_from codes (at + k)) (at + k) → Reached w all start new (from + added codes at (suc k)) (symbols_from codes (at + suc k)) (at + suc k)
-  unfolding added
-  digit_put k v inside digit is f r = grind (arith, one_place, reached_at, start, plain_symbol, run_taken)
-
   -- a count, whose places but one are filled
   count_put : (k v : ℕ) → 16 ≤ digit_value (code_of (get_or codes (at + k) 0)) → IsShortCount (code_of (get_or codes (at + k) 0)) → v ≡ digit_value (code_of (get_or codes (at + suc k) 0)) → Filled (from + added codes at k) (from + added codes at k + 32) v old new
       → Reached w all start old (from + added codes at k) (symbols_from codes (at + k)) (at + k)
@@ -38,18 +32,10 @@ module _ (w : ℕ) (all : List Spelled) (start : ℕ) (old new : List ℕ) (from
       → ((i : ℕ) → from + added codes at j ≤ i → i < from + added codes at (suc j) → get_or old i 0 ≡ digit_value (code_of (get_or codes (at + suc j) 0))) → Reached w all start new (from + added codes at (suc (suc j))) (symbols_from codes (at + suc (suc j))) (at + suc (suc j))
   unfolding added
   pair_put j v inside byte big short digit is f r before =
-      let n = count_value (code_of (get_or codes (at + j) 0)) in
-      let u = digit_value (code_of (get_or codes (at + suc j) 0)) in let y = from + added codes at j in
-      let to = from + added codes at (suc (suc j)) in let behind = at + suc (suc j) in
-      let e : added codes at (suc j) ≡ added codes at j + (n - 1) = ap (λ p. added codes at j + p) (count_places (code_of (get_or codes (at + j) 0)) big) in
-      let g : added codes at (suc (suc j)) ≡ added codes at (suc j) + 1 = ap (λ p. added codes at (suc j) + p) (one_place (code_of (get_or codes (at + suc j) 0)) digit) in
-      let symbol = run_symbol codes (at + j) n (at + suc j) u (max n 1) behind inside (omega arith) byte refl (omega (arith, short.1)) (λ _. omega arith) (λ z. absurd (omega (arith, z, short.0))) refl digit refl (omega arith) in
-      let filled : Filled y to u old new = record {
-        kept = λ i l. f.kept i (omega (arith, l, e));
-        filled = λ i l m. elim (cases_lt i (from + added codes at (suc j))) [ inl b ↦ f.kept i b ∙ before i l b | inr b ↦ f.filled i b (omega (arith, m, g)) ∙ is ];
-      } in
-      let run = run_reached w all start old new y to (max n 1) u (behind - (at + j)) (symbols_from codes behind) (at + j) (omega (arith, e, g)) (omega (arith, e, g, short.0)) digit (reached_at w all start old y y _ _ (at + j) (at + j) refl symbol refl r) filled in
-      reached_at w all start new to to _ _ (at + j + (behind - (at + j))) behind refl refl (omega arith) (run_done w all start new to _ u (symbols_from codes behind) _ (omega (arith, e, g, short.0)) run)
+      let n = count_value (code_of (get_or codes (at + j) 0)) in let u = digit_value (code_of (get_or codes (at + suc j) 0)) in
+      let symbol = run_symbol codes (at + j) n (at + suc j) u (max n 1) (at + suc (suc j))
+      inside (omega arith) byte refl (omega (arith, short.1)) (λ _. omega arith) (λ z. absurd (omega (arith, z, short.0))) refl digit refl (omega arith) in
+      grind (arith, symbol, run_reached, run_done, one_place, count_places, before)
 
   next_digit : (k : ℕ) → digit_value (code_of (get_or codes (at + 1 + k) 0)) < 16 → digit_value (code_of (get_or codes (at + suc k) 0)) < 16
   next_digit k h = grind (arith, h)
@@ -63,16 +49,7 @@ module _ (w : ℕ) (all : List Spelled) (start : ℕ) (old new : List ℕ) (from
       → Filled (from + added codes at k) (from + added codes at k + 32) v old new → Put w all start old from codes at k → Put w all start new from codes at (suc k)
   unfolding added Put
   put_step zero v inside few runs own next f p = grind (arith, common_steps)
-  put_step (suc j) v inside few runs own next f p = (
-    λ d. elim (cases_lt (digit_value (code_of (get_or codes (at + j) 0))) 16) [
-      | inl b ↦ digit_put (suc j) v (omega (arith, inside)) d (own d) f (p.0 b)
-      | inr g ↦ pair_put j v (omega (arith, inside)) (few (at + j)) g (runs j (omega arith) g).0 d (own d) f (p.1 g).0 (p.1 g).1
-    ],
-    λ big. count_put (suc j) v big (runs (suc j) (omega arith) big).0 (next_value (suc j) v (next big)) f (p.0 (elim (cases_lt (digit_value (code_of (get_or codes (at + j) 0))) 16) [
-      | inl b ↦ b
-      | inr g ↦ absurd (omega (arith, next_digit j (runs j (omega arith) g).1, big))
-    ])),
-  )
+  put_step (suc j) v inside few runs own next f p = grind (arith, pair_put, count_put, next_value, next_digit, one_place, reached_at, plain_symbol, run_taken)
 
   -- sixteen codes, and the digit behind the last of them where that is a count
   pub put_all : (n more v : ℕ) → at + 16 < length codes → ((i : ℕ) → get_or codes i 0 < 256) → ((i : ℕ) → i < 16 → IsRun (code_of (get_or codes (at + i) 0)) (code_of (get_or codes (at + 1 + i) 0)))

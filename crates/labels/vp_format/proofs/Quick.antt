@@ -1,6 +1,6 @@
 -- Codes that are read in a quick way: digits one after the other, and short runs.
 use Rattle.std.proofs.lemmas.Grind.{common_steps}
-use Rattle.std.proofs.Common.{◌≡◌, ℕ, Bool, true, cond, bit_or, ltb, zero, suc, ◌+◌, ◌-◌, ◌<◌, ◌≤◌, max, List, ◌∷◌, drop, take, map, length, get_or, Result, ap, sym, ◌∙◌, refl, arith}
+use Rattle.std.proofs.Common.{◌≡◌, ℕ, Bool, true, cond, bit_or, ltb, zero, suc, ◌+◌, ◌-◌, ◌<◌, ◌≤◌, max, List, ◌∷◌, drop, take, map, length, get_or, Result, ap, ◌∙◌, refl, arith}
 use Rattle.std.proofs.lemmas.List.{drop_more, get_or-map}
 use Rattle.std.proofs.lemmas.Simd.{length-chunk, get_or-chunk}
 use Rattle.vp_dots.specs.declared.fault.Fault.{Fault}
@@ -11,10 +11,10 @@ use mir.Val.{bool_byte}
 use Rattle.vp_format.specs.declared.codes.Code.{Code}
 use Rattle.vp_format.specs.declared.codes.Code.TheVariants.{Digit, Count}
 use Rattle.vp_format.specs.declared.codes.Symbol.TheVariants.{Digits}
-use Rattle.vp_format.specs.Codes.{code_of, Spelled, spelled, joined, symbols_behind}
+use Rattle.vp_format.specs.Codes.{code_of, Spelled, spelled}
 use Rattle.vp_format.specs.declared.row.RowEnd.{RowEnd}
 use Rattle.vp_format.specs.Cursors.{count_value, digit_value, symbols_from, symbols_at, Filled, Reached, ReadsOn, RowRead}
-use Rattle.vp_format.proofs.Reached.{run_over, run_reached, run_done, reached_at, start_reached, digit_in_hand}
+use Rattle.vp_format.proofs.Reached.{bytes_none, shown_past, run_reached, run_done, reached_at, start_reached, digit_in_hand}
 
 -- places from x on may be overwritten
 pub reached_same : (w : ℕ) (all : List Spelled) (from : ℕ) (old new : List ℕ) (x : ℕ) (left : List Spelled) (at : ℕ) → ((j : ℕ) → j < x → get_or new j 0 ≡ get_or old j 0)
@@ -27,13 +27,9 @@ pub digits_reached : (w : ℕ) (all : List Spelled) (from : ℕ) (old new : List
     → Reached w all from old x (symbols_from codes at) at → Reached w all from new (x + k) (symbols_from codes (at + k)) (at + k)
 digits_reached w all from old new x codes at zero kept inside few put r = grind (arith, reached_at, reached_same)
 digits_reached w all from old new x codes at (suc k) kept inside few put r =
-    let before = digits_reached w all from old new x codes at k kept (omega (arith, inside)) (λ i l. few i (omega (arith, l))) (λ i l. put i (omega (arith, l))) r in
-    let v = digit_value (code_of (get_or codes (at + k) 0)) in let back : at + k ≡ at + suc k - 1 = omega arith in
-    let first : symbols_from codes (at + k) ≡ spelled (Digits 1 v) 1 ∷ symbols_from codes (at + suc k) =
-    ap (symbols_from codes) back ∙ digit_in_hand codes (at + suc k) _ v (omega arith) inside (ap (λ i. get_or codes i 0) back) refl (few k (omega arith)) in
-    let filled : Filled (x + k) (x + suc k) v new new = record { kept = λ j _. refl; filled = λ j l m. let e : j ≡ x + k = omega arith in ap (λ i. get_or new i 0) e ∙ put k (omega arith) } in
-    let run = run_reached w all from new new (x + k) (x + suc k) 1 v 1 (symbols_from codes (at + suc k)) (at + k) (omega arith) (omega arith) (few k (omega arith)) (reached_at w all from new (x + k) (x + k) _ _ (at + k) (at + k) refl first refl before) filled in
-    reached_at w all from new (x + suc k) (x + suc k) _ _ _ _ refl refl (omega arith) (run_done w all from new (x + suc k) _ v (symbols_from codes (at + suc k)) (at + k + 1) (omega arith) run)
+    let before = digits_reached w all from old new x codes at k kept (omega (arith, inside)) (λ i l. few i (omega (arith, l))) (λ i l. put i (omega (arith, l))) r in let back : at + k ≡ at + suc k - 1 = omega arith in
+    let first = ap (symbols_from codes) back ∙ digit_in_hand codes (at + suc k) _ _ (omega arith) inside (ap (λ i. get_or codes i 0) back) refl (few k (omega arith)) in
+    grind (arith, before, first, few k, put k, bytes_none)
 
 pub digits_read : (w : ℕ) (codes old new : List ℕ) (x at k : ℕ) → length new ≡ length old → ((j : ℕ) → j < x → get_or new j 0 ≡ get_or old j 0) → x + k ≤ w → at + k ≤ length codes
     → ((i : ℕ) → i < k → digit_value (code_of (get_or codes (at + i) 0)) < 16) → ((i : ℕ) → i < k → get_or new (x + i) 0 ≡ digit_value (code_of (get_or codes (at + i) 0)))
@@ -61,10 +57,6 @@ plain_reached w codes s none inside few =
     let begun = run_done w all s.at vs 0 s.left s.digit (symbols_from codes s.at) s.at none (start_reached w all s.at vs) in
     reached_at w all s.at vs (0 + w) w _ _ _ _ (omega arith) refl refl (digits_reached w all s.at vs vs 0 codes s.at w (λ j l. refl) inside few (λ i l. let e : 0 + i ≡ i = omega arith in ap (λ k. get_or vs k 0) e ∙ value_from codes s.at w i inside l) begun)
 
--- the symbols behind counts, from a byte on
-behind_next : (codes : List ℕ) (at n k : ℕ) → at < length codes → symbols_behind (drop at codes) n k ≡ joined (code_of (get_or codes at 0)) n k (symbols_behind (drop (at + 1) codes))
-behind_next codes at n k inside = ap (λ cs. symbols_behind cs n k) (drop_more codes at 0 inside)
-
 -- a code that adds a small count is one: the digits of bytes have small values
 abbrev small_digit : Code → Bool
 small_digit (Digit v) = ltb v 16
@@ -85,24 +77,9 @@ count_is c s h l = grind (arith, ltb-true)
 pub digit_adds : (c : Code) → digit_value c < 16 → count_value c ≡ 0
 digit_adds c h = grind arith
 
--- one more count
-count_taken : (codes : List ℕ) (begun at n sum : ℕ) → at < length codes → get_or codes at 0 < 256 → begun ≤ at → 16 ≤ digit_value (code_of (get_or codes at 0)) → sum ≡ n + count_value (code_of (get_or codes at 0)) → sum < 1000
-    → symbols_from codes begun ≡ symbols_behind (drop at codes) n (at - begun) → symbols_from codes begun ≡ symbols_behind (drop (at + 1) codes) sum (at + 1 - begun)
-count_taken codes begun at n sum inside byte ordered big is few pending = grind (arith, behind_next, count_is, small_digits)
-
--- one count or none, from a byte on
-one_counted : (codes : List ℕ) (at n next : ℕ) → at < length codes → get_or codes at 0 < 256 → n ≡ count_value (code_of (get_or codes at 0)) → n < 1000 → (0 < n → next ≡ at + 1) → (n ≡ 0 → next ≡ at)
-    → symbols_from codes at ≡ symbols_behind (drop next codes) n (next - at)
-one_counted codes at n next inside byte is few one none = grind (arith, common_steps)
-
--- a digit behind counts
-digit_behind : (codes : List ℕ) (at n next v m to : ℕ) → next < length codes → at ≤ next → v ≡ digit_value (code_of (get_or codes next 0)) → v < 16 → m ≡ max n 1 → to ≡ next + 1 → symbols_from codes at ≡ symbols_behind (drop next codes) n (next - at)
-    → symbols_from codes at ≡ spelled (Digits m v) (to - at) ∷ symbols_from codes to
-digit_behind codes at n next v m to inside ordered shows digit takes there counted = grind (arith, common_steps)
-
 -- a plain digit
 pub plain_symbol : (codes : List ℕ) (at : ℕ) → at < length codes → digit_value (code_of (get_or codes at 0)) < 16 → symbols_from codes at ≡ spelled (Digits 1 (digit_value (code_of (get_or codes at 0)))) (at + 1 - at) ∷ symbols_from codes (at + 1)
-plain_symbol codes at inside digit = let nought : 0 ≡ at - at = omega arith in digit_behind codes at 0 at _ 1 (at + 1) inside (omega arith) refl digit refl refl (ap (λ k. symbols_behind (drop at codes) 0 k) nought)
+plain_symbol codes at inside digit = grind (arith, drop_more)
 
 -- a digit behind one count or none
 pub run_symbol : (codes : List ℕ) (at n next v m to : ℕ) → next < length codes → at ≤ next → get_or codes at 0 < 256 → n ≡ count_value (code_of (get_or codes at 0)) → n < 1000 → (0 < n → next ≡ at + 1) → (n ≡ 0 → next ≡ at) → v ≡ digit_value (code_of (get_or codes next 0)) → v < 16 → m ≡ max n 1
@@ -112,9 +89,7 @@ run_symbol codes at n next v m to inside ordered byte is few one none shows digi
 -- a digit behind two
 pub second_symbol : (codes : List ℕ) (at n next sum v m to : ℕ) → next + 1 < length codes → at ≤ next → ((i : ℕ) → get_or codes i 0 < 256) → n ≡ count_value (code_of (get_or codes at 0)) → (0 < n → next ≡ at + 1) → (n ≡ 0 → next ≡ at) → 16 ≤ digit_value (code_of (get_or codes next 0)) → sum ≡ n + count_value (code_of (get_or codes next 0)) → sum < 1000
     → v ≡ digit_value (code_of (get_or codes (next + 1) 0)) → v < 16 → m ≡ max sum 1 → to ≡ next + 2 → symbols_from codes at ≡ spelled (Digits m v) (to - at) ∷ symbols_from codes to
-second_symbol codes at n next sum v m to inside ordered bytes is one none big adds few shows digit takes there =
-    digit_behind codes at sum (next + 1) v m to inside (omega (arith, ordered)) shows digit takes (omega (arith, there))
-    (count_taken codes at next n sum (omega (arith, inside)) (bytes next) ordered big adds few (one_counted codes at n next (omega (arith, inside, ordered)) (bytes at) is (omega (arith, adds, few)) one none))
+second_symbol codes at n next sum v m to inside ordered bytes is one none big adds few shows digit takes there = grind (arith, drop_more, count_is, small_digits)
 
 -- a short run in the places
 pub run_taken : (w : ℕ) (all : List Spelled) (from : ℕ) (old new : List ℕ) (x n v k : ℕ) (left : List Spelled) (at to : ℕ) → 0 < n → n ≤ 32 → v < 16 → at ≤ to → k ≡ to - at → Filled x (x + 32) v old new
@@ -125,15 +100,11 @@ run_taken w all from old new x n v k left at to some short few ordered long f r 
 pub behind_count : (b n r at : ℕ) → b < 256 → n ≡ count_value (code_of b) → n < 1000 → r ≡ bool_byte (ltb 102 (bit_or b 32)) → (0 < n → at + r ≡ at + 1) × (n ≡ 0 → at + r ≡ at)
 unfolding code_of
 behind_count b n r at h is few e =
-    let known : ltb (count_value (code_of b)) 1000 ≡ true = lt-ltb _ 1000 (omega (arith, is, few)) in
-    let asked : ltb 102 (bit_or b 32) ≡ ltb 0 (count_value (code_of b)) =
-    ap (λ t. cond t (ltb 102 (bit_or b 32)) true) (sym known) ∙ agree_below_at (λ x. cond (ltb (count_value (code_of x)) 1000) (ltb 102 (bit_or x 32)) true) (λ x. cond (ltb (count_value (code_of x)) 1000) (ltb 0 (count_value (code_of x))) true) 256 b refl h
-    ∙ ap (λ t. cond t (ltb 0 (count_value (code_of b))) true) known in
-    let so : r ≡ bool_byte (ltb 0 n) = e ∙ ap bool_byte (asked ∙ ap (ltb 0) (sym is)) in
-    (λ l. ap (λ k. at + k) (so ∙ ap bool_byte (lt-ltb 0 n l)), λ z. omega (arith, so ∙ ap (λ m. bool_byte (ltb 0 m)) z))
+    let asked = agree_below_at (λ x. cond (ltb (count_value (code_of x)) 1000) (ltb 102 (bit_or x 32)) true) (λ x. cond (ltb (count_value (code_of x)) 1000) (ltb 0 (count_value (code_of x))) true) 256 b refl h in
+    grind (arith, lt-ltb, asked)
 
 pub one_most : (r : ℕ) (b : Bool) → r ≡ bool_byte b → r ≤ 1
 one_most r b e = grind arith
 
 pub read_anew : (w : ℕ) (codes old before new : List ℕ) (s : Spot) (at : ℕ) (r : Result RowEnd Fault) → s.left ≡ 0 → s.at < length codes → digit_value (code_of (get_or codes s.at 0)) < 16 → RowRead w RunLength codes s r at old new → RowRead w RunLength codes s r at before new
-read_anew w codes old before new s at r h1 h2 h3 h4 = grind (arith, true≢false, run_over, plain_symbol)
+read_anew w codes old before new s at r h1 h2 h3 h4 = grind (arith, true≢false, plain_symbol, shown_past)

@@ -47,9 +47,7 @@ run_by b c h l goes big = grind (arith, other, other_is, far_is, true≢false, l
 
 -- where no lane's top bit is set
 no_top : (lanes : List ℕ) (k : ℕ) → length lanes ≡ 16 → mask_l (map (top 7) lanes) % 2 ^ 64 ≡ 0 → k < 16 → top 7 (get_or lanes k 0) ≡ false
-no_top lanes k long empty l =
-    let mask : mask_l (map (top 7) (chunk 0 16 lanes)) ≡ 0 = rw (take_all 16 lanes (omega (arith, long))) (sym (mask_l-mod (map (top 7) lanes) 64 (omega (arith, length-map lanes (top 7), long))) ∙ empty) in
-    none_from_empty_mask (top 7) lanes 0 16 0 (omega (arith, long)) mask k (omega arith) (omega (arith, l))
+no_top lanes k long empty l = grind (arith, take_all 16 lanes, mask_l-mod (map (top 7) lanes) 64, length-map, none_from_empty_mask (top 7) lanes 0 16 0)
 
 mapped_lane : (f : ℕ → ℕ) (bytes lanes : List ℕ) (at k : ℕ) → at + 16 ≤ length bytes → lanes ≡ map f (chunk at 16 bytes) → k < 16 → (length lanes ≡ 16) × (get_or lanes k 0 ≡ f (get_or bytes (at + k) 0))
 mapped_lane f bytes lanes at k room is l = rw is (length-map _ f ∙ length-chunk at 16 bytes room, get_or-map f _ k 0 0 (omega (arith, length-map (chunk at 16 bytes) f, length-chunk at 16 bytes room, l)) ∙ ap f (get_or-chunk at 16 bytes k 0 l))
@@ -143,22 +141,13 @@ value_is b h few = value_by value b refl h few
 -- the values at each lane
 pub own_lane : (bytes far_off lanes : List ℕ) (at k : ℕ) → at + 16 < length bytes → ((i : ℕ) → get_or bytes i 0 < 256) → far_off ≡ map far (chunk at 16 bytes) → (length (sel_l (map (top 7) far_off) (chunk at 16 bytes) (chunk (at + 1) 16 bytes)) ≡ 16 → lanes ≡ map value (sel_l (map (top 7) far_off) (chunk at 16 bytes) (chunk (at + 1) 16 bytes)))
     → k < 16 → digit_value (code_of (get_or bytes (at + k) 0)) < 16 → get_or lanes k 0 ≡ digit_value (code_of (get_or bytes (at + k) 0))
-own_lane bytes far_off lanes at k room few is all l digit =
-    let lane = shown_lane bytes far_off at k false room (few (at + k)) is l (grind (arith, digit_adds)) in
-    ap (λ c. get_or c k 0) (all lane.0) ∙ get_or-map value _ k 0 0 (omega (arith, lane.0, l)) ∙ ap value lane.1 ∙ value_is _ (few (at + k)) digit
+own_lane bytes far_off lanes at k room few is all l digit = grind (arith, shown_lane bytes far_off at k false, get_or-map, value_is, digit_adds)
 
 pub next_lane : (bytes far_off lanes : List ℕ) (at k : ℕ) → at + 16 < length bytes → ((i : ℕ) → get_or bytes i 0 < 256) → far_off ≡ map far (chunk at 16 bytes) → (length (sel_l (map (top 7) far_off) (chunk at 16 bytes) (chunk (at + 1) 16 bytes)) ≡ 16 → lanes ≡ map value (sel_l (map (top 7) far_off) (chunk at 16 bytes) (chunk (at + 1) 16 bytes)))
     → k < 16 → IsRun (code_of (get_or bytes (at + k) 0)) (code_of (get_or bytes (at + 1 + k) 0)) → 16 ≤ digit_value (code_of (get_or bytes (at + k) 0)) → get_or lanes k 0 ≡ digit_value (code_of (get_or bytes (at + 1 + k) 0))
-next_lane bytes far_off lanes at k room few is all l run big =
-    let found = run big in
-    let lane = shown_lane bytes far_off at k true room (few (at + k)) is l (grind (arith, lt-ltb, found)) in
-    ap (λ c. get_or c k 0) (all lane.0) ∙ get_or-map value _ k 0 0 (omega (arith, lane.0, l)) ∙ ap value lane.1 ∙ value_is _ (few (at + 1 + k)) found.1
+next_lane bytes far_off lanes at k room few is all l run big = grind (arith, shown_lane bytes far_off at k true, get_or-map, value_is, lt-ltb)
 
--- no code, one more digit, and one more count with its digit
-none_passed : (w : ℕ) (all : List Spelled) (x : ℕ) (codes : List ℕ) (at : ℕ) → Passed w all x (symbols_from codes at) → Passed w all (x + added codes at 0) (symbols_from codes (at + 0))
-unfolding added
-none_passed w all x codes at r = let e : x ≡ x + 0 = omega arith in let f : at ≡ at + 0 = omega arith in passed_at w all x _ _ _ e (ap (symbols_from codes) f) r
-
+-- one more digit, and one more count with its digit
 digit_step : (w : ℕ) (all : List Spelled) (x : ℕ) (codes : List ℕ) (at k : ℕ) → at + suc k ≤ length codes → digit_value (code_of (get_or codes (at + k) 0)) < 16 → Passed w all (x + added codes at k) (symbols_from codes (at + k)) → Passed w all (x + added codes at (suc k)) (symbols_from codes (at + suc k))
 unfolding added
 digit_step w all x codes at k inside digit before = grind (arith, one_place, passed_at, plain_symbol, digits_passed)
@@ -171,17 +160,13 @@ run_step w all x codes at j inside byte big short digit before = grind (arith, c
 -- codes of which the last is a digit
 runs_passed : (w : ℕ) (all : List Spelled) (x : ℕ) (codes : List ℕ) (at k : ℕ) → at + k ≤ length codes → ((i : ℕ) → get_or codes i 0 < 256) → ((i : ℕ) → i + 1 < k → IsRun (code_of (get_or codes (at + i) 0)) (code_of (get_or codes (at + 1 + i) 0)))
     → ((j : ℕ) → k ≡ suc j → digit_value (code_of (get_or codes (at + j) 0)) < 16) → Passed w all x (symbols_from codes at) → Passed w all (x + added codes at k) (symbols_from codes (at + k))
-runs_passed w all x codes at zero inside few runs last r = none_passed w all x codes at r
-runs_passed w all x codes at (suc zero) inside few runs last r = digit_step w all x codes at 0 inside (last 0 refl) (none_passed w all x codes at r)
-runs_passed w all x codes at (suc (suc j)) inside few runs last r = elim (cases_lt (digit_value (code_of (get_or codes (at + j) 0))) 16) [
-  | inl d ↦ digit_step w all x codes at (suc j) inside (last (suc j) refl)
-      (runs_passed w all x codes at (suc j) (omega (arith, inside)) few (λ i l. runs i (omega (arith, l))) (λ i e. let s : j ≡ i = omega (arith, e) in subst (λ q. digit_value (code_of (get_or codes (at + q) 0)) < 16) s d) r)
-  | inr g ↦ run_step w all x codes at j inside (few (at + j)) g (runs j (omega arith) g).0 (last (suc j) refl)
-      (runs_passed w all x codes at j (omega (arith, inside)) few (λ i l. runs i (omega (arith, l))) (λ i e. elim (cases_lt (digit_value (code_of (get_or codes (at + i) 0))) 16) [
-        | inl d ↦ d
-        | inr h ↦ (let s : at + 1 + i ≡ at + j = omega (arith, e) in absurd (omega (arith, subst (λ q. digit_value (code_of (get_or codes q 0)) < 16) s (runs i (omega (arith, e)) h).1, g)))
-      ]) r)
-]
+unfolding added
+runs_passed w all x codes at zero inside few runs last r = grind arith
+runs_passed w all x codes at (suc zero) inside few runs last r = grind (arith, common_steps, digit_step, passed_at)
+runs_passed w all x codes at (suc (suc j)) inside few runs last r =
+    let one = runs_passed w all x codes at (suc j) (omega (arith, inside)) few (λ i l. runs i (omega (arith, l))) in
+    let two = runs_passed w all x codes at j (omega (arith, inside)) few (λ i l. runs i (omega (arith, l))) in
+    grind (arith, cases_lt (digit_value (code_of (get_or codes (at + j) 0))) 16, digit_step w all x codes at (suc j) inside (last (suc j) refl), run_step w all x codes at j inside (few (at + j)), one, two, runs)
 
 -- sixteen codes, and one more digit behind a count
 pub counted_passed : (w : ℕ) (all : List Spelled) (x : ℕ) (codes : List ℕ) (at n more : ℕ) → at + 16 < length codes → ((i : ℕ) → get_or codes i 0 < 256) → ((k : ℕ) → k < 16 → IsRun (code_of (get_or codes (at + k) 0)) (code_of (get_or codes (at + 1 + k) 0)))

@@ -1,5 +1,5 @@
 -- So many readings, one after the other.
-use Rattle.std.proofs.Common.{◌≡◌, ℕ, zero, suc, ◌+◌, ◌-◌, ◌<◌, ◌≤◌, true, false, Ok, Err, subst, ap, refl, arith}
+use Rattle.std.proofs.Common.{◌≡◌, ℕ, zero, suc, ◌+◌, ◌-◌, ◌<◌, ◌≤◌, true, false, Ok, Err, refl, arith}
 use Rattle.std.proofs.lemmas.Bool.{lt-ltb, le-ltb}
 use Rattle.vp_dots.specs.declared.fault.Fault.{Fault}
 use Rattle.vp_format.specs.Pictures.{Picture, Cursor, is_refused, answer, row_after, unless_fault, passing, rows_after}
@@ -31,10 +31,7 @@ rows_read p y (suc n) (suc k) few room taken = grind (arith, lt-ltb, rows_read p
 -- up to a row
 pub read_to : (p : Picture) (y to : ℕ) → y ≤ to → to ≤ p.rows → ((z : ℕ) → y ≤ z → z < to → is_refused p z ≡ false) → (passing p y (to - y) ≡ Ok tt) × (rows_after p y (to - y) ≡ to)
 unfolding passing rows_after
-read_to p y to order room taken =
-    let all = rows_read p y (to - y) (to - y) (omega arith) (omega arith) (λ z l m. taken z l (omega arith)) in
-    let none : to - y - (to - y) ≡ 0 = omega arith in let there : y + (to - y) ≡ to = omega arith in
-    (rw (none, there) at all)
+read_to p y to order room taken = grind (arith, rows_read p y (to - y) (to - y) (omega arith) (omega arith) (λ z l m. taken z l (omega arith)))
 
 -- one cursor is on its way to where so many readings bring another: as many as are left
 pub record OnWay (a b : Cursor) (rows left : ℕ) : Type 0 where
@@ -54,11 +51,7 @@ way_ended a b rows left w ends = grind (arith, none_read)
 -- rows are passed of which none is refused
 pub way_even : (a b d : Cursor) (rows left k : ℕ) → OnWay a b rows left → k ≤ left → b.next + k ≤ b.picture.rows → d ≡ record { picture = b.picture; first = b.first; next = b.next + k }
     → ((z : ℕ) → b.next ≤ z → z < b.next + k → is_refused b.picture z ≡ false) → OnWay a d rows (left - k)
-way_even a b d rows left k w few room is taken =
-    let picture = ap (λ (v : Cursor). v.picture) w.same in let first = ap (λ (v : Cursor). v.first) w.same in
-    let next = ap (λ (v : Cursor). v.next) is in
-    let all = rows_read a.picture b.next left k few (omega (arith, ap (λ (v : Cursor). v.picture.rows) w.same)) (subst (λ (p : Picture). (z : ℕ) → b.next ≤ z → z < b.next + k → is_refused p z ≡ false) picture taken) in
-    grind arith
+way_even a b d rows left k w few room is taken = grind (arith, rows_read b.picture b.next left k few room taken)
 
 pub way_stopped : (a b d : Cursor) (rows left : ℕ) (why : Fault) → OnWay a b rows left → 0 < left → Err why ≡ answer b.picture b.next → d ≡ record { picture = b.picture; first = b.first; next = row_after b.picture b.next }
     → (Err why ≡ passing a.picture a.next rows) × (d ≡ record { picture = a.picture; first = a.first; next = rows_after a.picture a.next rows })

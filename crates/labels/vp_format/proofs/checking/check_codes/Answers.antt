@@ -17,10 +17,10 @@ here : (c : After-pass_runs-from) → Passed (2 * c.args.row_bytes) (symbols Run
 here c = grind arith
 
 -- and behind them a symbol
-next : (c : After-symbol_of) (s : Symbol) (k : ℕ) → Passed (2 * c.args.row_bytes) (symbols RunLength c.args.codes.now) c.pass_runs-from.result (symbols_from c.args.codes.now c.pass_runs-from.new.self.at)
+next : (c : After-symbol_of) (s : Symbol) (k : ℕ)
     → joined (code_of c.in-Some.b) 0 0 (symbols_behind (drop c.next.new.self.at c.next.new.self.bytes.now)) ≡ spelled s k ∷ symbols_from c.symbol_of.new.codes.bytes.now c.symbol_of.new.codes.at
     → Passed (2 * c.args.row_bytes) (symbols RunLength c.args.codes.now) c.pass_runs-from.result (spelled s k ∷ symbols_from c.args.codes.now c.symbol_of.new.codes.at)
-next c s k here symbol = grind (arith, hand_passed)
+next c s k symbol = grind (arith, hand_passed)
 
 pub returns-then-from-end : goal.returns-then-from-end
 returns-then-from-end c =
@@ -32,18 +32,15 @@ returns-in_default c =
 
 pub returns-then-n-end : goal.returns-then-n-end
 returns-then-n-end c =
-    let here = here (goal.at.returns-then-n-end c).After-pass_runs-from in
-    let next = next (goal.at.returns-then-n-end c).After-symbol_of (Digits c.in-Digits.n c.in-Digits.field-1) _ here c.in-Digits.ensures.symbol in
+    let next = next (goal.at.returns-then-n-end c).After-symbol_of (Digits c.in-Digits.n c.in-Digits.field-1) _ c.in-Digits.ensures.symbol in
     sym (end_passed (picture c.args.codes.now c.args.row_bytes c.args.rows) _ _ (omega arith) (rw (sym c.from.ensures) (omega arith)) (digits_passed (2 * c.args.row_bytes) _ c.pass_runs-from.result c.in-Digits.n c.in-Digits.field-1 _ _ next))
 
 pub returns-in-Again-2 : goal.returns-in-Again-2
 returns-in-Again-2 c =
-    let here = here (goal.at.returns-in-Again-2 c).After-pass_runs-from in
-    let next = next (goal.at.returns-in-Again-2 c).After-symbol_of Again _ here c.in-Again.ensures.symbol in
+    let next = next (goal.at.returns-in-Again-2 c).After-symbol_of Again _ c.in-Again.ensures.symbol in
     sym (inside_passed (picture c.args.codes.now c.args.row_bytes c.args.rows) c.pass_runs-from.result _ _ (omega arith) (rw (sym c.from.ensures) (omega arith)) (omega arith) next)
 
 pub returns-in-Again-2-2 : goal.returns-in-Again-2-2
 returns-in-Again-2-2 c =
-    let here = here (goal.at.returns-in-Again-2-2 c).After-pass_runs-from in
-    let next = next (goal.at.returns-in-Again-2-2 c).After-symbol_of Refused _ here c.in-Again-2.ensures.symbol in
+    let next = next (goal.at.returns-in-Again-2-2 c).After-symbol_of Refused _ c.in-Again-2.ensures.symbol in
     sym (other_passed (picture c.args.codes.now c.args.row_bytes c.args.rows) c.pass_runs-from.result _ _ (omega arith) (rw (sym c.from.ensures) (omega arith)) next)

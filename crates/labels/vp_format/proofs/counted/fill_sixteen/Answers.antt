@@ -1,5 +1,5 @@
-use Rattle.std.proofs.Common.{rules, ◌≡◌, ℕ, suc, ◌+◌, get_or, ap, ◌∙◌, subst, arith}
-use Rattle.vp_format.specs.Cursors.{Filled, Put, added}
+use Rattle.std.proofs.Common.{rules, ◌≡◌, ℕ, suc, ◌+◌, get_or, ◌∙◌, subst, arith}
+use Rattle.vp_format.specs.Cursors.{Filled, Put}
 use Rattle.vp_format.proofs.Put.{added_most, added_none, added_more, put_none, put_step}
 use Rattle.vp_format.proofs.counted.fill_sixteen.Goals as goal
 
@@ -28,9 +28,3 @@ loop-k-preserved c =
           (put_step width all start l.places c.fill_short.new.places c.args.from codes at l.k (get_or c.values-values.result l.k 0) (omega (arith, c.requires.bytes)) (λ i. (c.type_inv.bytes i).fits) (λ i m. c.requires.runs i (omega (arith, m)))
           (λ d. c.values-values.ensures.digits l.k (omega arith) d) (λ big. c.values-values.ensures.counts l.k (omega arith) run big) filled (l.invariant.put width all start r));
     }
-
-pub returns-clause-place : goal.returns-clause-place
-returns-clause-place c = let done : c.loop-k.k ≡ 16 = omega (arith, c.loop-k.invariant.inside) in c.loop-k.invariant.place ∙ ap (λ k. c.args.from + added c.args.bytes.now c.args.at k) done
-
-pub returns-clause-put : goal.returns-clause-put
-returns-clause-put c width all start r = grind arith

@@ -3,15 +3,6 @@ use Rattle.vp_format.proofs.Quick.{one_most}
 use Rattle.vp_format.proofs.Put.{put_all}
 use Rattle.vp_format.proofs.counted.put_counted.Goals as goal
 
-pub fill_sixteen-x-requires-clause-runs : goal.fill_sixteen-x-requires-clause-runs
-fill_sixteen-x-requires-clause-runs c = c.if-not-are_runs.ensures refl
-
-pub fill_sixteen-x-requires-clause-room : goal.fill_sixteen-x-requires-clause-room
-fill_sixteen-x-requires-clause-room c = omega (arith, c.places_added.ensures.added (c.if-not-are_runs.ensures refl))
-
-pub fill_sixteen-x-requires-clause-short : goal.fill_sixteen-x-requires-clause-short
-fill_sixteen-x-requires-clause-short c = omega (arith, c.places_added.ensures.added (c.if-not-are_runs.ensures refl))
-
 pub returns : goal.returns
 returns c =
     let runs = c.if-not-are_runs.ensures refl in

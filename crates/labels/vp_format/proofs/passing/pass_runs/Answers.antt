@@ -1,9 +1,6 @@
 use Rattle.std.proofs.Common.{arith}
-use Rattle.vp_format.proofs.Passed.{passed_at, digits_passed, passes_on}
+use Rattle.vp_format.proofs.Passed.{passes_on}
 use Rattle.vp_format.proofs.passing.pass_runs.Goals as goal
-
-pub loop-x-preserved : goal.loop-x-preserved
-loop-x-preserved c = grind (arith, digits_passed, passed_at, passes_on)
 
 pub loop-x-preserved-then-at-single : goal.loop-x-preserved-then-at-single
 loop-x-preserved-then-at-single c = passes_on _ _ _ _ _ _ _ c.loop-x.invariant (c.counted-places.ensures.passed c.loop-x.x)

@@ -33,9 +33,6 @@ returns-then-to-width-clause-read c =
     ended_decoded codes c.fill.new.places c.args.row.now _ c.args.codes.now w s c.ended-then-to-width.result (s.left - to) s.digit s.at c.ended-then-to-width.ensures (omega arith) refl c.requires.reading c.requires.digit refl c.pack_filled.ensures.packed
     (reached_at w all s.at _ to w _ _ (s.at + 0) s.at c.if-to-width.true (ap (λ n. spelled (Digits n s.digit) 0 ∷ symbols_from codes s.at) left) (omega arith) run)
 
-pub returns-clause-read : goal.returns-clause-read
-returns-clause-read c = grind (arith, run_reached, start_reached, reached_at, run_done)
-
 pub returns-then-plain_row-clause-read : goal.returns-then-plain_row-clause-read
 returns-then-plain_row-clause-read c =
     let codes = c.args.codes.now.bytes.now in let w = 2 * length c.args.row.now in

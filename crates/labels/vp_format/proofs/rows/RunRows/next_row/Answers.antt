@@ -1,9 +1,7 @@
 use Rattle.std.proofs.lemmas.Grind.{common_steps}
-use Rattle.std.proofs.Common.{◌≡◌, ℕ, ◌*◌, ◌<◌, length, ap, ◌∙◌, subst, arith, refl}
+use Rattle.std.proofs.Common.{ℕ, ap, ◌∙◌, arith, refl}
 use Rattle.vp_format.specs.declared.rows.Spot.{Spot}
-use Rattle.vp_format.specs.Pictures.{Cursor, value, nibble}
-use Rattle.vp_format.specs.Cursors.{picture_of}
-use Rattle.vp_format.proofs.Marks.{marked_refusal, decoded_taken, answer_refused, answer_row, read_value, next_cursor, stopped_cursor}
+use Rattle.vp_format.proofs.Marks.{marked_place, value-at, marked_refusal, decoded_taken, answer_refused, answer_row, next_cursor, stopped_cursor}
 use Rattle.vp_format.proofs.Nibbles.{nibble_front}
 use Rattle.vp_format.proofs.PassedRows.{read_passed}
 use Rattle.vp_format.proofs.rows.RunRows.next_row.Goals as goal
@@ -31,9 +29,4 @@ pub returns-in-Ok-clause-next : goal.returns-in-Ok-clause-next
 returns-in-Ok-clause-next c = grind (arith, common_steps, marked_refusal, decoded_taken, answer_row, c.self.inside, c.self.inside.mark, c.in-Ok.ensures.read, c.behind-self-inside.result.next, c.if-self.false, c.self.inside.rows, c.self.inside.mark.next)
 
 pub returns-in-Ok-clause-row : goal.returns-in-Ok-clause-row
-returns-in-Ok-clause-row c = λ _ x l.
-    let i = c.self.invariant in let p = picture_of c.self.inside in let m = c.self.inside.mark in
-    let inside : x < 2 * c.self.inside.row_bytes = omega (arith, c.requires, ap (λ (v : Cursor). v.picture.row_bytes) c.self.view_is) in
-    subst (λ (v : Cursor). nibble c.copy_from_slice.new.self x ≡ value v.picture v.next x) c.self.view_is
-    (ap (λ row. nibble row x) c.copy_from_slice.ensures.after ∙ nibble_front c.next_row-end.new.row (length c.args.out.now) x l
-    ∙ read_value p m c.in-Ok.end _ c.self.inside.row c.next_row-end.new.row x i.mark c.in-Ok.ensures.read inside (i.kept c.if-self-2.false x inside))
+returns-in-Ok-clause-row c _ x l = grind (arith, nibble_front, marked_place, value-at)

@@ -5,6 +5,3 @@ use Rattle.vp_format.proofs.rows.RunRows.passed.Goals as goal
 
 pub returns-clause-bytes : goal.returns-clause-bytes
 returns-clause-bytes c = grind (arith, rest_most, marked_start)
-
-pub returns-clause-at_most : goal.returns-clause-at_most
-returns-clause-at_most c = grind (arith, rest_most)

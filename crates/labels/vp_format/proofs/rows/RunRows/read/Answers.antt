@@ -4,6 +4,3 @@ use Rattle.vp_format.proofs.rows.RunRows.read.Goals as goal
 
 pub returns-clause-at_least : goal.returns-clause-at_least
 returns-clause-at_least c = grind (arith, marked_start)
-
-pub returns-clause-at_most : goal.returns-clause-at_most
-returns-clause-at_most c = grind arith

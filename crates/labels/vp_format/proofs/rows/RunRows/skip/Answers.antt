@@ -1,6 +1,6 @@
-use Rattle.std.proofs.Common.{ap, arith, rules}
+use Rattle.std.proofs.Common.{ap, arith}
 use Rattle.vp_format.specs.Pictures.{Cursor}
-use Rattle.vp_format.proofs.Skipped.{way_done, way_ended, way_even, way_stopped}
+use Rattle.vp_format.proofs.Skipped.{first_read, way_done, way_ended, way_even, way_stopped}
 use Rattle.vp_format.proofs.rows.RunRows.skip.Goals as goal
 
 pub returns-then-self : goal.returns-then-self
@@ -15,7 +15,4 @@ loop-left-preserved c =
     way_even _ _ _ _ _ _ c.loop-left.invariant (omega (arith, some.1, c.min.ensures)) (omega (arith, some.1, c.min.ensures, c.if-self.false, ap (λ (v : Cursor). v.next) c.self.view_is, ap (λ (v : Cursor). v.picture.rows) c.self.view_is, ap (λ (v : Cursor). v.next) c.pass.view_is, ap (λ (v : Cursor). v.picture.rows) c.pass.view_is)) c.in_ok-passed.ensures.next c.in_ok-passed.ensures.taken
 
 pub returns-in_err-passed : goal.returns-in_err-passed
-returns-in_err-passed c =
-    let fault = c.in_err-passed.ensures.fault in
-    let stop = way_stopped _ _ _ _ _ _ c.loop-left.invariant (omega arith) fault.0 fault.1 in
-    record { answer = search (rules, stop.0); next = stop.1 }
+returns-in_err-passed c = grind (arith, way_stopped, first_read)
