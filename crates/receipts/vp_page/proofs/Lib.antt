@@ -10,6 +10,7 @@ pub mod Lines
 pub mod Marks
 pub mod PageRows
 pub mod Pages
+pub mod Shown
 pub mod Squares
 pub mod WrittenRows
 pub mod Stretches

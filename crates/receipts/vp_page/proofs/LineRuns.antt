@@ -21,11 +21,11 @@ module _ (begins : List ℕ) (n end next : ℕ) (count : length begins ≡ 65) (
   more_runs r = grind (arith, earlier, newest)
 
   -- its line, as those of all before
-  pub more_lines : (lines these : List (List ℕ)) (v line m : ℕ) → length these ≡ 32 → end ≡ v + line → next ≡ v + (line + m)
-      → ((i u : ℕ) → i < m → dot (get_or lines (line + i) []) u ≡ dot (get_or lines line []) u)
+  pub more_lines : (lines these : List (List ℕ)) (v line m : ℕ) (own : List ℕ) → length these ≡ 32 → end ≡ v + line → next ≡ v + (line + m) → get_or lines line [] ≡ own
+      → ((i : ℕ) → i < m → get_or lines (line + i) [] ≡ get_or lines line [])
       → ((i u w : ℕ) → i < n → get_or begins i 0 ≤ w → w < get_or begins (i + 1) 0 → dot (get_or these i []) u ≡ dot (get_or lines (w - v) []) u)
-      → (i u w : ℕ) → i < n + 1 → get_or (set begins (n + 1) next) i 0 ≤ w → w < get_or (set begins (n + 1) next) (i + 1) 0 → dot (get_or (set these n (get_or lines line [])) i []) u ≡ dot (get_or lines (w - v) []) u
-  more_lines lines these v line m long at to same before i u w h p q = grind (arith, get_or-set_same, get_or-set_other, before i u w, same (w - v - line) u)
+      → (i u w : ℕ) → i < n + 1 → get_or (set begins (n + 1) next) i 0 ≤ w → w < get_or (set begins (n + 1) next) (i + 1) 0 → dot (get_or (set these n own) i []) u ≡ dot (get_or lines (w - v) []) u
+  more_lines lines these v line m own long at to is same before i u w h p q = grind (arith, get_or-set_same, get_or-set_other, before i u w, same (w - v - line))
 
 -- each shows what the lines do that it stands for
 pub different_lines : (lines these : List (List ℕ)) (begins : List ℕ) (v n i u w : ℕ) → AreDifferent lines v these begins n → i < length (take n these)

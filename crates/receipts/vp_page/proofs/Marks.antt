@@ -10,7 +10,8 @@ use Rattle.vp_page.specs.declared.area.Direction.TheVariants.{LeftToRight, Right
 use Rattle.vp_page.specs.Layers.{mark_dot, lines_mark}
 use Rattle.vp_page.proofs.Rows.{dot_past}
 use Rattle.vp_page.proofs.Squares.{no_line}
-use Rattle.vp_page.specs.Lines.{line_dot}
+use Rattle.vp_page.specs.Lines.{line_dot, shown_lines}
+use Rattle.vp_page.proofs.Shown.{first_shown, length-shown, shown_short}
 use Rattle.std.proofs.lemmas.List.{get_or-take, length-take}
 
 pub past_line : (line : List ℕ) (u : ℕ) → length line ≤ LINE_BYTES → dot line u ≡ (ltb u LINE_DOTS && dot line u)
@@ -43,13 +44,32 @@ ink_run lines f width i u h e white = grind (arith, lt-ltb, le-ltb)
 module _ (a : Area) (v : ℕ) (lines : List (List ℕ)) (shown x y : ℕ) (few : length lines ≤ AT_ONCE) (short : (i : ℕ) → i < length lines → length (get_or lines i []) ≤ LINE_BYTES) (deep : v < a.dy)
     (is : shown ≡ min (length lines) (a.dy - v)) where
   -- lines that run to the right
-  pub right_mark : (leb (a.y + v) y && (ltb (y - (a.y + v)) (length (take shown lines)) && (leb a.x x && (ltb (x - a.x) a.dx && dot (get_or (take shown lines) (y - (a.y + v)) []) (x - a.x)))))
+  right_mark : (leb (a.y + v) y && (ltb (y - (a.y + v)) (length (take shown lines)) && (leb a.x x && (ltb (x - a.x) a.dx && dot (get_or (take shown lines) (y - (a.y + v)) []) (x - a.x)))))
       ≡ mark_dot (lines_mark a LeftToRight v lines) x y
   right_mark = grind (arith, nat_tests, length-take, get_or-take, past_line, no_line)
 
   -- lines that run to the left
-  pub left_mark : (top : ℕ) → top ≡ a.y + (a.dy - v - shown)
+  left_mark : (top : ℕ) → top ≡ a.y + (a.dy - v - shown)
       → (leb top y && (ltb (y - top) (length (take shown lines)) && (ltb x (a.x + a.dx) && (ltb (a.x + a.dx - 1 - x) a.dx
       && dot (get_or (take shown lines) (length (take shown lines) - 1 - (y - top)) []) (a.x + a.dx - 1 - x)))))
       ≡ mark_dot (lines_mark a RightToLeft v lines) x y
   left_mark top begins = grind (arith, nat_tests, length-take, get_or-take, past_line, no_line)
+
+-- and what lines show of some of which it is told that they are the same as the one above
+module _ (a : Area) (v : ℕ) (same : List Bool) (lines : List (List ℕ)) (n x y : ℕ) (few : length lines ≤ AT_ONCE) (short : (i : ℕ) → i < length lines → length (get_or lines i []) ≤ LINE_BYTES) (deep : v < a.dy)
+    (is : n ≡ min (length lines) (a.dy - v)) where
+  long : length (shown_lines same lines) ≡ length lines
+  long = length-shown same lines
+
+  count : length (take n lines) ≡ length (take n (shown_lines same lines))
+  count = omega (arith, long, length-take n lines, length-take n (shown_lines same lines))
+
+  pub right_shown : (leb (a.y + v) y && (ltb (y - (a.y + v)) (length (take n lines)) && (leb a.x x && (ltb (x - a.x) a.dx && dot (get_or (shown_lines same (take n lines)) (y - (a.y + v)) []) (x - a.x)))))
+      ≡ mark_dot (lines_mark a LeftToRight v (shown_lines same lines)) x y
+  right_shown = rw (first_shown same lines n (omega (arith, is)), count) (right_mark a v (shown_lines same lines) n x y (omega (arith, few, long)) (shown_short same lines short) deep (omega (arith, is, long)))
+
+  pub left_shown : (top : ℕ) → top ≡ a.y + (a.dy - v - n)
+      → (leb top y && (ltb (y - top) (length (take n lines)) && (ltb x (a.x + a.dx) && (ltb (a.x + a.dx - 1 - x) a.dx
+      && dot (get_or (shown_lines same (take n lines)) (length (take n lines) - 1 - (y - top)) []) (a.x + a.dx - 1 - x)))))
+      ≡ mark_dot (lines_mark a RightToLeft v (shown_lines same lines)) x y
+  left_shown top begins = rw (first_shown same lines n (omega (arith, is)), count) (left_mark a v (shown_lines same lines) n x y (omega (arith, few, long)) (shown_short same lines short) deep (omega (arith, is, long)) top begins)

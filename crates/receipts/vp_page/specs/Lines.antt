@@ -1,5 +1,5 @@
 -- Lines of dots that are laid at once.
-use Rattle.std.specs.Prelude.{◌≡◌, ◌≤◌, ◌<◌, ◌%◌, ℕ, ◌+◌, ◌-◌, nat_le, nat_lt, Bool, true, false, not, ◌&&◌, if◌then◌else◌, List, [], ◌*◌, take, drop, length, slice_index_or}
+use Rattle.std.specs.Prelude.{◌≡◌, ◌≤◌, ◌<◌, ◌%◌, ℕ, ◌+◌, ◌-◌, nat_le, nat_lt, Bool, true, false, not, ◌&&◌, if◌then◌else◌, List, [], ◌∷◌, ◌*◌, take, drop, length, slice_index_or}
 use Rattle.vp_dots.specs.Dots.{dot}
 use Rattle.vp_page.specs.declared.line.TheConstants.{LINE_DOTS}
 use Rattle.vp_page.specs.declared.page.TheConstants.{PAGE_ROWS, PAPER_BYTES}
@@ -9,10 +9,18 @@ use Rattle.vp_page.specs.declared.area.Area.{Area}
 abbrev pub line_dot : List (List ℕ) → ℕ → ℕ → Bool
 line_dot lines i u = nat_lt u LINE_DOTS && dot (slice_index_or lines i []) u
 
--- a line of which it is told that it is the same as the one before it shows the same
-abbrev pub AreTold : List (List ℕ) → List Bool → Type 0
-AreTold lines same = (i u : ℕ) → i + 1 < length lines → slice_index_or same (i + 1) false ≡ true →
-    dot (slice_index_or lines (i + 1) []) u ≡ dot (slice_index_or lines i []) u
+-- what lines show below one that shows these bytes, of which the first is line i
+abbrev pub shown_below : List ℕ → List Bool → ℕ → List (List ℕ) → List (List ℕ)
+shown_below above same i [] = []
+shown_below above same i (line ∷ lines) =
+    (if slice_index_or same i false then above else line)
+    ∷ shown_below (if slice_index_or same i false then above else line) same (i + 1) lines
+
+-- what lines show: one of which it is told that it is the same as the one above shows what that one does,
+-- whatever its bytes are
+abbrev pub shown_lines : List Bool → List (List ℕ) → List (List ℕ)
+shown_lines same [] = []
+shown_lines same (line ∷ lines) = line ∷ shown_below line same 1 lines
 
 -- whether dot u of a line isn't as it is eight dots before: white stands before the first one
 abbrev pub changes_at : List ℕ → ℕ → Bool

@@ -8,7 +8,7 @@ ghost use Rattle.vp_dots.specs.Words.{word_dot};
 ghost use Rattle.vp_dots.specs.Places.{RowsPainted};
 ghost use Rattle.vp_dots.specs.declared.Op.TheVariants.{Black, White};
 ghost use Rattle.vp_dots.specs.declared.square.TheConstants.{SIDE};
-ghost use Rattle.vp_page.specs.Lines.{line_dot, AreTold};
+ghost use Rattle.vp_page.specs.Lines.{line_dot, shown_lines};
 ghost use Rattle.vp_page.specs.Runs.{AreStill, IsLeft, IsShade, along_of, depth_of, lines_across, placed, stretch_dot, topmost};
 ghost use Rattle.vp_page.specs.declared.across.TheConstants.{AT_ONCE, FEW};
 ghost use Rattle.vp_page.specs.declared.still.TheConstants.{STRETCH};
@@ -19,7 +19,7 @@ use crate::along::lay_bytes;
 use crate::area::{Area, Way};
 use crate::changes::changes_of;
 use crate::different::{MOST, begin_alike, different};
-use crate::line::{LINE_BYTES, LINE_DOTS, dots_from, start_of};
+use crate::line::{LINE_BYTES, LINE_DOTS, dots_from, start_of, write_shown};
 use crate::page::{PAGE_ROWS, PAPER_BYTES, PageBand};
 use crate::runs::{lay_runs, on_page, top_of};
 use crate::still::{Shade, still_from, turned_from};
@@ -420,11 +420,10 @@ fn lay_alike<A: Small>(
     v: u32,
     band: &mut PageBand<A>,
 ) -> bool
-    requires told { AreTold lines.now same.now }
     requires wide { v + length lines.now ≤ area.dx }
-    requires white { (i u : ℕ) → long ≤ u → line_dot lines.now i u ≡ false }
-    ensures laid { result ≡ true →
-        RowsPainted PAGE_ROWS Black (lines_across area way v lines.now) band.old band.new }
+    requires white { (i u : ℕ) → long ≤ u → line_dot (shown_lines same.now lines.now) i u ≡ false }
+    ensures laid { result ≡ true → RowsPainted PAGE_ROWS Black
+        (lines_across area way v (shown_lines same.now lines.now)) band.old band.new }
     ensures not { result ≡ false → band.new ≡ band.old }
 {
     let mut these = [[0; LINE_BYTES]; MOST];
@@ -469,6 +468,27 @@ fn lay_stretches<A: Small>(
     }
 }
 
+/// Lays what lines show, of some of which it is told that they are the same as the one above.
+fn lay_shown<A: Small>(
+    lines: &[[u8; LINE_BYTES]],
+    same: &[bool],
+    long: usize,
+    area: Area,
+    way: Way,
+    v: u32,
+    band: &mut PageBand<A>,
+)
+    requires few { length lines.now ≤ AT_ONCE }
+    requires wide { v + length lines.now ≤ area.dx }
+    requires white { (i u : ℕ) → long ≤ u → line_dot (shown_lines same.now lines.now) i u ≡ false }
+    ensures { RowsPainted PAGE_ROWS Black (lines_across area way v (shown_lines same.now lines.now))
+        band.old band.new }
+{
+    let mut shown = [[0; LINE_BYTES]; AT_ONCE];
+    write_shown(lines, same, &mut shown);
+    lay_stretches(&shown[..lines.len()], long, area, way, v, band);
+}
+
 /// Lays lines upward or downward, the first at a depth of an area and each one deeper than the one before it.
 /// They are white from dot `long` on.
 #[inline(always)]
@@ -482,14 +502,18 @@ pub(crate) fn lay_lines<A: Small>(
     band: &mut PageBand<A>,
 )
     requires few { length lines.now ≤ AT_ONCE }
-    requires told { AreTold lines.now same.now }
     requires wide { v + length lines.now ≤ area.dx }
-    requires white { (i u : ℕ) → long ≤ u → line_dot lines.now i u ≡ false }
-    ensures { RowsPainted PAGE_ROWS Black (lines_across area way v lines.now) band.old band.new }
+    requires white { (i u : ℕ) → long ≤ u → line_dot (shown_lines same.now lines.now) i u ≡ false }
+    ensures { RowsPainted PAGE_ROWS Black (lines_across area way v (shown_lines same.now lines.now))
+        band.old band.new }
 {
     let some = lines.len() > MANY && begin_alike(lines, same);
     if some && lay_alike(lines, same, long, area, way, v, band) {
         return;
     }
-    lay_stretches(lines, long, area, way, v, band);
+    if same.is_empty() {
+        lay_stretches(lines, long, area, way, v, band);
+    } else {
+        lay_shown(lines, same, long, area, way, v, band);
+    }
 }

@@ -6,7 +6,7 @@ ghost use Rattle.vp_dots.specs.Painting.{Painted};
 ghost use Rattle.vp_dots.specs.Places.{RowsPainted};
 ghost use Rattle.vp_dots.specs.Words.{word_dot};
 ghost use Rattle.vp_dots.specs.declared.Op.TheVariants.{Black};
-ghost use Rattle.vp_page.specs.Lines.{AreTold};
+ghost use Rattle.vp_page.specs.Lines.{shown_lines};
 ghost use Rattle.vp_page.specs.declared.line.TheConstants.{LINE_BYTES, LINE_DOTS};
 ghost use Rattle.vp_page.specs.declared.page.TheConstants.{PAGE_ROWS, PAPER_BYTES, PAPER_DOTS};
 
@@ -296,11 +296,11 @@ pub(crate) fn lay_lines_right<A: Small>(
     top: usize,
     band: &mut PageBand<A>,
 )
-    requires room { top + length lines.now < 2 ^ 32 }
-    requires told { AreTold lines.now same.now }
+    requires { top + length lines.now < 2 ^ 32 }
     ensures { RowsPainted PAGE_ROWS Black (λ x y. nat_le top y && (nat_lt (y - top) (length lines.now)
         && (nat_le area.x x && (nat_lt (x - area.x) area.dx
-        && dot (slice_index_or lines.now (y - top) []) (x - area.x))))) band.old band.new }
+        && dot (slice_index_or (shown_lines same.now lines.now) (y - top) []) (x - area.x)))))
+        band.old band.new }
 {
     let mut i = 0;
     while i < lines.len() {
@@ -319,11 +319,10 @@ pub(crate) fn lay_lines_left<A: Small>(
     top: usize,
     band: &mut PageBand<A>,
 )
-    requires room { top + length lines.now < 2 ^ 32 }
-    requires told { AreTold lines.now same.now }
+    requires { top + length lines.now < 2 ^ 32 }
     ensures { RowsPainted PAGE_ROWS Black (λ x y. nat_le top y && (nat_lt (y - top) (length lines.now)
         && (nat_lt x (area.x + area.dx) && (nat_lt (area.x + area.dx - 1 - x) area.dx
-        && dot (slice_index_or lines.now (length lines.now - 1 - (y - top)) [])
+        && dot (slice_index_or (shown_lines same.now lines.now) (length lines.now - 1 - (y - top)) [])
         (area.x + area.dx - 1 - x))))) band.old band.new }
 {
     let mut i = 0;

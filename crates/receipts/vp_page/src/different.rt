@@ -1,7 +1,7 @@
 //! Lines of which many are as the one before: each different one is laid as wide as the lines that show it.
 ghost use Rattle.std.specs.Prelude.{◌≡◌, ℕ, ◌+◌, ◌<◌, ◌≤◌, ◌^◌, length, IfSome};
 ghost use Rattle.vp_dots.specs.declared.square.TheConstants.{SIDE};
-ghost use Rattle.vp_page.specs.Lines.{AreTold};
+ghost use Rattle.vp_page.specs.Lines.{shown_lines};
 ghost use Rattle.vp_page.specs.Runs.{AreDifferent};
 
 use crate::line::{LINE_BYTES, run_from};
@@ -15,9 +15,7 @@ pub(crate) const MOST: usize = SIDE / 2;
 const FIRST: usize = 8;
 
 /// Whether some of the first lines are as the one before: where none is, `different` finds too many.
-pub(crate) fn begin_alike(lines: &[[u8; LINE_BYTES]], same: &[bool]) -> bool
-    requires { AreTold lines.now same.now }
-{
+pub(crate) fn begin_alike(lines: &[[u8; LINE_BYTES]], same: &[bool]) -> bool {
     for i in 0..lines.len().min(2 * FIRST) {
         if run_from(lines, same, i) > 1 {
             return true;
@@ -35,9 +33,8 @@ pub(crate) fn different(
     these: &mut [[u8; LINE_BYTES]; MOST],
     begins: &mut Begins,
 ) -> Option<usize>
-    requires deep { v + length lines.now < 2 ^ 32 }
-    requires told { AreTold lines.now same.now }
-    ensures { IfSome result (AreDifferent lines.now v these.new begins.new) }
+    requires { v + length lines.now < 2 ^ 32 }
+    ensures { IfSome result (AreDifferent (shown_lines same.now lines.now) v these.new begins.new) }
 {
     let mut n = 0;
     let mut line = 0;

@@ -1,5 +1,5 @@
 //! One row of dots, laid along a row of a page or across its rows, and a box made white.
-ghost use Rattle.std.specs.Prelude.{◌≡◌, ℕ, ◌+◌, ◌-◌, ◌*◌, ◌/◌, ◌≤◌, ◌^◌, ◌&&◌, not, false, nat_eq, nat_le, nat_lt, ◌<◌, [], length, slice_index_or, pos, ◌+ℤ◌};
+ghost use Rattle.std.specs.Prelude.{◌≡◌, ℕ, ◌+◌, ◌-◌, ◌*◌, ◌/◌, ◌≤◌, ◌^◌, ◌&&◌, not, true, false, nat_eq, nat_le, nat_lt, ◌<◌, [], length, slice_index_or, pos, ◌+ℤ◌};
 ghost use Rattle.vp_page.specs.declared.across.TheConstants.{AT_ONCE};
 ghost use Rattle.vp_page.specs.declared.line.TheConstants.{LINE_BYTES, LINE_DOTS};
 ghost use Rattle.vp_page.specs.declared.page.TheConstants.{PAGE_ROWS, PAPER_BYTES};
@@ -9,7 +9,7 @@ ghost use Rattle.vp_dots.specs.Painting.{Painted};
 ghost use Rattle.vp_dots.specs.Places.{RowsPainted};
 ghost use Rattle.vp_dots.specs.declared.Op.TheVariants.{Black, White};
 ghost use Rattle.vp_page.specs.Areas.{holds};
-ghost use Rattle.vp_page.specs.Lines.{AreTold};
+ghost use Rattle.vp_page.specs.Lines.{shown_lines};
 ghost use Rattle.vp_page.specs.Runs.{along_of};
 
 use crate::across::AT_ONCE;
@@ -75,24 +75,48 @@ fn same_lines(lines: &[[u8; LINE_BYTES]], from: usize) -> usize
     n
 }
 
+/// Whether it is told of line i that it is the same as the one above.
+#[inline(always)]
+fn is_told(same: &[bool], i: usize) -> bool
+    ensures { result ≡ slice_index_or same.now i false }
+{
+    i < same.len() && same[i]
+}
+
 /// How many lines from one on show the same: those of which it is told that they are the same as the one
-/// before or, where nothing is told of any, those that are.
+/// above or, where nothing is told of any, those that are.
 pub(crate) fn run_from(lines: &[[u8; LINE_BYTES]], same: &[bool], from: usize) -> usize
-    requires inside { from < length lines.now }
-    requires told { AreTold lines.now same.now }
+    requires { from < length lines.now }
     ensures some { 0 < result }
     ensures within { from + result ≤ length lines.now }
-    ensures same { (i u : ℕ) → i < result →
-        dot (slice_index_or lines.now (from + i) []) u ≡ dot (slice_index_or lines.now from []) u }
+    ensures same { (i : ℕ) → i < result → slice_index_or (shown_lines same.now lines.now) (from + i) []
+        ≡ slice_index_or (shown_lines same.now lines.now) from [] }
+    ensures next { slice_index_or same.now (from + result) false ≡ true → from + result ≡ length lines.now }
 {
     if same.is_empty() {
         return same_lines(lines, from);
     }
     let mut n = 1;
-    while from + n < lines.len().min(same.len()) && same[from + n] {
+    while from + n < lines.len() && is_told(same, from + n) {
         n += 1;
     }
     n
+}
+
+/// Writes what each line shows.
+pub(crate) fn write_shown(lines: &[[u8; LINE_BYTES]], same: &[bool], shown: &mut [[u8; LINE_BYTES]])
+    requires { length lines.now ≤ length shown.old }
+    ensures len { length shown.new ≡ length shown.old }
+    ensures lines { (i : ℕ) → i < length lines.now → slice_index_or shown.new i []
+        ≡ slice_index_or (shown_lines same.now lines.now) i [] }
+{
+    let mut own = 0;
+    for i in 0..lines.len() {
+        if !is_told(same, i) {
+            own = i;
+        }
+        shown[i] = lines[own];
+    }
 }
 
 /// How many lines from one on, before another and no more than are laid at once, aren't known to be alike.

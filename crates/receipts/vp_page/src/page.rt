@@ -97,7 +97,7 @@ impl<A: Small> Model for Page<A> {
 
 impl<A: Small> Page<A> {
     ghost use Rattle.vp_page.specs.Layers.{Layer, Laid, Wiped, CountedAnew, lines_mark, page_dot};
-    ghost use Rattle.vp_page.specs.Lines.{line_dot, AreTold};
+    ghost use Rattle.vp_page.specs.Lines.{line_dot, shown_lines};
     ghost use Rattle.vp_page.specs.Pages.{HasPage};
     ghost use Rattle.vp_page.specs.Runs.{AreRuns, across, between};
     ghost use Rattle.vp_dots.specs.declared.square.TheConstants.{SIDE};
@@ -315,8 +315,8 @@ impl<A: Small> Page<A> {
     }
 
     /// Lays at most as many rows of dots as are laid at once, one below the other, the first at the depth v
-    /// of an area, as `lay_row` lays each. `same` tells of rows that they show what the one above does; where
-    /// it is empty, the rows are compared.
+    /// of an area, as `lay_row` lays each. A row of which `same` tells that it is the same as the one above
+    /// shows what that one does, whatever its bytes are; where nothing is told, rows are compared.
     pub fn lay_lines(
         &mut self,
         area: Area,
@@ -326,9 +326,9 @@ impl<A: Small> Page<A> {
         same: &[bool],
     )
         requires few { length lines.now ≤ AT_ONCE }
-        requires told { AreTold lines.now same.now }
         ensures { (layers : List Layer) → HasPage layers self.old →
-            HasPage (Laid (lines_mark area direction v lines.now) ∷ layers) self.new }
+            HasPage (Laid (lines_mark area direction v (shown_lines same.now lines.now)) ∷ layers)
+            self.new }
     {
         self.lay_long(area, direction, v, lines, same, LINE_DOTS);
     }
@@ -344,10 +344,11 @@ impl<A: Small> Page<A> {
         long: usize,
     )
         requires few { length lines.now ≤ AT_ONCE }
-        requires told { AreTold lines.now same.now }
-        requires white { (i u : ℕ) → long ≤ u → line_dot lines.now i u ≡ false }
+        requires white { (i u : ℕ) → long ≤ u →
+            line_dot (shown_lines same.now lines.now) i u ≡ false }
         ensures { (layers : List Layer) → HasPage layers self.old →
-            HasPage (Laid (lines_mark area direction v lines.now) ∷ layers) self.new }
+            HasPage (Laid (lines_mark area direction v (shown_lines same.now lines.now)) ∷ layers)
+            self.new }
     {
         let depth = u32::from(area.depth(direction));
         if v >= depth {
@@ -391,10 +392,10 @@ impl<A: Small> Page<A> {
     /// Lays rows as `lay_lines` does, which run to the right.
     fn lay_lines_right(&mut self, area: Area, v: u32, lines: &[[u8; LINE_BYTES]], same: &[bool])
         requires few { length lines.now ≤ AT_ONCE }
-        requires told { AreTold lines.now same.now }
         requires deep { v < area.dy }
         ensures { (layers : List Layer) → HasPage layers self.old →
-            HasPage (Laid (lines_mark area LeftToRight v lines.now) ∷ layers) self.new }
+            HasPage (Laid (lines_mark area LeftToRight v (shown_lines same.now lines.now)) ∷ layers)
+            self.new }
     {
         let shown = lines.len().min(area.dy as usize - v as usize);
         let top = area.y as usize + v as usize;
@@ -409,10 +410,10 @@ impl<A: Small> Page<A> {
     /// Lays rows as `lay_lines` does, which run to the left.
     fn lay_lines_left(&mut self, area: Area, v: u32, lines: &[[u8; LINE_BYTES]], same: &[bool])
         requires few { length lines.now ≤ AT_ONCE }
-        requires told { AreTold lines.now same.now }
         requires deep { v < area.dy }
         ensures { (layers : List Layer) → HasPage layers self.old →
-            HasPage (Laid (lines_mark area RightToLeft v lines.now) ∷ layers) self.new }
+            HasPage (Laid (lines_mark area RightToLeft v (shown_lines same.now lines.now)) ∷ layers)
+            self.new }
     {
         let shown = lines.len().min(area.dy as usize - v as usize);
         let top = area.y as usize + (area.dy as usize - v as usize - shown);

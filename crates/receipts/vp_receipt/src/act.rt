@@ -230,15 +230,15 @@ fn printed(s: &Settings, effect: Effect) -> Option<Job>
 }
 
 /// Lays the line with its top at the vertical position.
-fn lay_line<A: Small>(s: &Settings, bitmap: &Bitmap<A>, page: &mut Page<A>)
+fn lay_line<A: Small>(s: &Settings, bitmap: &mut Bitmap<A>, page: &mut Page<A>)
     requires { IsFit s.now }
-    ensures { (dots : ℕ → ℕ → Bool) (layers : List Layer) → HasRows s.now bitmap.now dots →
+    ensures kept { bitmap.new ≡ bitmap.old }
+    ensures laid { (dots : ℕ → ℕ → Bool) (layers : List Layer) → HasRows s.now bitmap.old dots →
         HasPage layers page.old → HasPage (Laid (mark_of s.now.page s.now.height dots) ∷ layers) page.new }
 {
     let high = usize::from(s.height);
-    let (rows, same) = (bitmap.lowest_rows(high), bitmap.same_rows(high));
     let top = s.page.vertical as u32;
-    page.lay_lines(s.page.area, s.page.direction, top, rows, same);
+    bitmap.lay(high, s.page.area, s.page.direction, top, page);
 }
 
 /// Lays the line if it is open. The rows that this item lays and wipes are counted anew.
@@ -252,7 +252,7 @@ fn lay_open<A: Small>(s: &Settings, canvas: &mut Canvas<A>)
 {
     canvas.page.count_anew();
     if s.is_open {
-        lay_line(s, &canvas.bitmap, &mut canvas.page);
+        lay_line(s, &mut canvas.bitmap, &mut canvas.page);
     }
 }
 

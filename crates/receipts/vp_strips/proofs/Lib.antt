@@ -1,4 +1,5 @@
 pub mod Bitmaps
+pub mod OwnRows
 pub mod Rows
 pub mod ManyRows
 pub mod Jobs

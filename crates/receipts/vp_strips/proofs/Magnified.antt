@@ -1,12 +1,10 @@
 -- Characters each of whose rows is printed more than once.
-use Rattle.std.proofs.Common.{◌≡◌, ℕ, ◌+◌, ◌-◌, ◌*◌, ◌/◌, ◌<◌, ◌≤◌, Bool, true, false, ltb, leb, ◌&&◌, ◌||◌, arith, List}
+use Rattle.std.proofs.Common.{◌≡◌, ℕ, ◌+◌, ◌-◌, ◌*◌, ◌/◌, ◌<◌, ◌≤◌, Bool, true, false, ltb, leb, ◌&&◌, ◌||◌, arith}
 use Rattle.std.proofs.Math.Nat.{add-mul-div_right, div-lt_iff_lt-mul, le-div_iff_mul-le, suc-mul}
 use Rattle.std.proofs.lemmas.Bool.{cases_lt, lt-ltb, le-ltb, lt-leb, le-leb}
 use Rattle.std.proofs.lemmas.Bool.Decides.{nat_tests}
 use Rattle.vp_dots.specs.Dots.{span}
-use Rattle.vp_dots.specs.Places.{RowsPainted}
 use Rattle.vp_dots.specs.Words.{word_dot}
-use Rattle.vp_dots.specs.declared.Op.TheVariants.{Black}
 
 -- the line that is printed on a row
 pub line_on : (w v t : ℕ) → 0 < t → v * t ≤ w → w < v * t + t → w / t ≡ v
@@ -34,15 +32,8 @@ module _ (at x wm : ℕ) (f : ℕ → Bool) where
         ≡ (t && (r && (leb at x && (ltb (x - at) (6 * wm) && f (0 + (x - at) / wm)))) || t && (r && (leb (at + 6 * wm) x && (ltb (x - (at + 6 * wm)) (6 * wm) && f (6 + (x - (at + 6 * wm)) / wm)))))
     halves = grind (arith, cases_lt, lt-leb, le-leb, lt-ltb, le-ltb, second)
 
-    pub halves_apart : ((t && (r && (leb at x && (ltb (x - at) (6 * wm) && f (0 + (x - at) / wm))))) && (t && (r && (leb (at + 6 * wm) x && (ltb (x - (at + 6 * wm)) (6 * wm) && f (6 + (x - (at + 6 * wm)) / wm)))))) ≡ false
-    halves_apart = grind arith
-
 pub span_moved : (at wide x : ℕ) → (leb at x && ltb (x - at) wide) ≡ span at (at + wide) x
 span_moved at wide x = grind (arith, nat_tests)
-
--- black over black
-pub rows_over : (high : ℕ) (f g h : ℕ → ℕ → Bool) (a b c : List (List ℕ)) → ((x k : ℕ) → h x k ≡ (f x k || g x k)) → RowsPainted high Black f a b → RowsPainted high Black g b c → RowsPainted high Black h a c
-rows_over high f g h a b c e p q = grind arith
 
 -- a dot of a character, or what is black behind it
 pub part_placed : (at top left wide first high x k : ℕ) (r d filled c : Bool) → (d ≡ true → r ≡ true) → (span left (left + wide) (x - at) && span first (first + high) (k - top)) ≡ filled

@@ -1,5 +1,5 @@
 -- The dots of a line.
-use Rattle.std.specs.Prelude.{◌≡◌, ◌<◌, ℕ, ◌+◌, ◌-◌, ◌≤◌, nat_le, Bool, true, false, ◌&&◌, ◌||◌, List, [], ◌∷◌, slice_index_or, length}
+use Rattle.std.specs.Prelude.{◌≡◌, ◌<◌, ℕ, ◌-◌, ◌≤◌, nat_le, Bool, true, false, ◌&&◌, ◌||◌, List, [], ◌∷◌, slice_index_or, length}
 use Rattle.vp_page.specs.declared.line.TheConstants.{LINE_BYTES, LINE_DOTS}
 use Rattle.vp_receipt_settings.specs.declared.text.TheConstants.{LINE_ROWS}
 use Rattle.vp_dots.specs.Dots.{dot}
@@ -27,17 +27,14 @@ pub record HasDots (line : List Placed) (bitmap : List (List ℕ)) : Type 0 wher
   pub dots_are : (x y : ℕ) → x < LINE_DOTS → y < LINE_ROWS →
       dot (slice_index_or bitmap y []) x ≡ any_dot line LINE_ROWS x y
 
--- a bitmap is white but for the lowest `used` of its rows
-pub record IsWhiteAbove (used : ℕ) (bitmap : List (List ℕ)) : Type 0 where
+-- rows are white but for those of the lowest `used` ones of which it isn't told that they are the same as the
+-- one above
+pub record IsClear (used : ℕ) (same : List Bool) (rows : List (List ℕ)) : Type 0 where
   pub few : used ≤ LINE_ROWS
-  pub rows_are : (y : ℕ) → y < LINE_ROWS → length (slice_index_or bitmap y []) ≡ LINE_BYTES
-  pub white : (x y : ℕ) → x < LINE_DOTS → y < LINE_ROWS - used → dot (slice_index_or bitmap y []) x ≡ false
-
--- rows of a bitmap that are told to be the same as the one above show the same
-pub record AreSame (same : List Bool) (bitmap : List (List ℕ)) : Type 0 where
-  pub count : length same ≡ LINE_ROWS
-  pub shows : (x y : ℕ) → x < LINE_DOTS → y + 1 < LINE_ROWS → slice_index_or same (y + 1) false ≡ true →
-      dot (slice_index_or bitmap (y + 1) []) x ≡ dot (slice_index_or bitmap y []) x
+  pub rows_are : (y : ℕ) → y < LINE_ROWS → length (slice_index_or rows y []) ≡ LINE_BYTES
+  pub above : (x y : ℕ) → x < LINE_DOTS → y < LINE_ROWS - used → dot (slice_index_or rows y []) x ≡ false
+  pub told : (x y : ℕ) → x < LINE_DOTS → y < LINE_ROWS → slice_index_or same y false ≡ true →
+      dot (slice_index_or rows y []) x ≡ false
 
 -- it has them while the line is open
 abbrev pub HasOpen : List Placed → List (List ℕ) → Type 0

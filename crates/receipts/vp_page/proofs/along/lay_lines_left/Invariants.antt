@@ -1,7 +1,8 @@
-use Rattle.std.proofs.Common.{◌+◌, ◌-◌, ◌≤◌, ◌&&◌, leb, ltb, [], get_or, length}
+use Rattle.std.proofs.Common.{◌+◌, ◌-◌, ◌≡◌, ◌<◌, ◌≤◌, ◌&&◌, true, false, leb, ltb, [], get_or, length}
 use Rattle.vp_dots.specs.Dots.{dot}
 use Rattle.vp_dots.specs.Places.{RowsPainted}
 use Rattle.vp_dots.specs.declared.Op.TheVariants.{Black}
+use Rattle.vp_page.specs.Lines.{shown_lines}
 use Rattle.vp_page.specs.declared.page.TheConstants.{PAGE_ROWS}
 use Rattle.vp_page.proofs.along.lay_lines_left.Given as goal
 
@@ -12,8 +13,9 @@ invariant-loop-i g l =
     let a = l.fn.area in
     record {
       within : l.i ≤ length l.lines;
+      own : 0 < l.i → get_or l.fn.same l.i false ≡ true → l.i ≡ length l.lines;
       laid : RowsPainted PAGE_ROWS Black (λ x y. leb (l.top + (n - l.i)) y && (ltb (y - l.top) n && (ltb x (a.x + a.dx) && (ltb (a.x + a.dx - 1 - x) a.dx
-          && dot (get_or l.lines (n - 1 - (y - l.top)) []) (a.x + a.dx - 1 - x))))) l.fn.band l.band;
+          && dot (get_or (shown_lines l.fn.same l.lines) (n - 1 - (y - l.top)) []) (a.x + a.dx - 1 - x))))) l.fn.band l.band;
     }
 
 abbrev pub decreases-loop-i : goal.decreases-loop-i

@@ -1,10 +1,11 @@
-use Rattle.std.proofs.Common.{◌≡◌, ◌+◌, ◌*◌, ◌<◌, ◌∷◌, min, take, ap, ◌∙◌, subst, length, arith, rules}
+use Rattle.std.proofs.Common.{◌≡◌, ◌+◌, ◌*◌, ◌<◌, [], ◌∷◌, min, take, ap, ◌∙◌, subst, refl, length, arith, rules}
 use Rattle.std.proofs.lemmas.List.{length-take}
 use Rattle.vp_page.proofs.Marks.{shown_line}
 use Rattle.std.proofs.lemmas.Bool.{lt-ltb, and_parts, ltb-true}
 use Rattle.vp_page.specs.Layers.{Laid, first_rows}
 use Rattle.vp_page.specs.Pages.{HasPage}
 use Rattle.vp_page.specs.declared.line.TheConstants.{LINE_DOTS}
+use Rattle.vp_page.proofs.Shown.{none_told}
 use Rattle.vp_page.proofs.Pages.{lines_more}
 use Rattle.vp_receipt_settings.specs.Rasters.{times_down}
 use Rattle.vp_receipt.specs.PageMarks.{mark_of, rows_dot}
@@ -32,7 +33,7 @@ loop-k-preserved g c = λ layers page.
     (lines_more m (SIDE * k) n (take n lines) layers c.lay_lines.new.self (omega arith) long
     (λ u w h l. let shown : u < LINE_DOTS = omega (arith, h, short) in shown_line lines n w u ∙ rw (lt-ltb w n l, lt-ltb u LINE_DOTS shown) (c.write_lines-few.ensures.dots w u l shown
     ∙ ap (λ x. rows_dot r.scale x c.args.rows bytes u (SIDE * k + w)) c.from-wide.ensures))
-    (c.lay_lines.ensures _ (subst (λ n. HasPage (Laid (first_rows n m) ∷ layers) c.loop-k.page) here (c.loop-k.invariant layers page))))
+    (rw (none_told [] (take n lines) refl) at (c.lay_lines.ensures _ (subst (λ n. HasPage (Laid (first_rows n m) ∷ layers) c.loop-k.page) here (c.loop-k.invariant layers page)))))
 
 pub returns : goal.returns
 returns g c = grind (arith, c.times_down.ensures.value, ltb-true, and_parts, c.loop-k.invariant)

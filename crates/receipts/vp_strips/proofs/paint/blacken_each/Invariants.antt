@@ -1,10 +1,8 @@
 use Rattle.std.proofs.Common.{◌+◌, ◌&&◌, ltb}
 use Rattle.vp_dots.specs.Dots.{span}
-use Rattle.vp_dots.specs.Places.{RowsPainted}
-use Rattle.vp_dots.specs.declared.Op.TheVariants.{Black}
-use Rattle.vp_receipt_settings.specs.declared.text.TheConstants.{LINE_ROWS}
+use Rattle.vp_strips.proofs.OwnRows.{OwnPainted}
 use Rattle.vp_strips.proofs.paint.blacken_each.Given as goal
 
 -- the rows above top + i are done
 abbrev pub invariant-loop-i : goal.invariant-loop-i
-invariant-loop-i g l = RowsPainted LINE_ROWS Black (λ x k. ltb k (l.fn.top + l.i) && (span l.fn.top (l.fn.top + l.fn.high) k && span l.fn.from l.fn.to x)) l.fn.band l.band
+invariant-loop-i g l = OwnPainted l.fn.same (λ x k. ltb k (l.fn.top + l.i) && (span l.fn.top (l.fn.top + l.fn.high) k && span l.fn.from l.fn.to x)) l.fn.band l.band

@@ -1,11 +1,9 @@
 use Rattle.std.proofs.Common.{◌+◌, ◌&&◌, ltb, pos}
 use Rattle.vp_dots.specs.Dots.{shifted, span}
 use Rattle.vp_dots.specs.Words.{word_dot}
-use Rattle.vp_dots.specs.Places.{RowsPainted}
-use Rattle.vp_dots.specs.declared.Op.TheVariants.{Black}
-use Rattle.vp_receipt_settings.specs.declared.text.TheConstants.{LINE_ROWS}
+use Rattle.vp_strips.proofs.OwnRows.{OwnPainted}
 use Rattle.vp_strips.proofs.paint.paint_alike.Given as goal
 
 -- the rows above top + i are done
 abbrev pub invariant-loop-i : goal.invariant-loop-i
-invariant-loop-i g l = RowsPainted LINE_ROWS Black (λ x k. ltb k (l.fn.top + l.i) && (span l.fn.top (l.fn.top + l.fn.times) k && shifted (pos l.fn.at) (word_dot l.fn.word) x)) l.fn.band l.band
+invariant-loop-i g l = OwnPainted l.fn.same (λ x k. ltb k (l.fn.top + l.i) && (span l.fn.top (l.fn.top + l.fn.times) k && shifted (pos l.fn.at) (word_dot l.fn.word) x)) l.fn.band l.band

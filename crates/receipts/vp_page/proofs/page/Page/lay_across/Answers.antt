@@ -1,10 +1,11 @@
-use Rattle.std.proofs.Common.{◌≡◌, ℕ, Bool, ◌+◌, ◌-◌, ◌<◌, ◌≤◌, ◌∙◌, refl, get_or, length, take, false, arith}
+use Rattle.std.proofs.Common.{◌≡◌, ℕ, Bool, [], ◌+◌, ◌-◌, ◌<◌, ◌≤◌, ◌∙◌, refl, get_or, length, take, false, arith}
 use Rattle.std.proofs.lemmas.List.{length-take}
 use Rattle.std.proofs.lemmas.Bool.{lt-ltb}
 use Rattle.vp_page.specs.Layers.{Mark}
 use Rattle.vp_page.specs.Runs.{across}
 use Rattle.vp_page.proofs.Marks.{ink_white, ink_line, ink_run, no_ink, shown_line}
 use Rattle.vp_page.proofs.Pages.{between_more, lines_more}
+use Rattle.vp_page.proofs.Shown.{none_told}
 use Rattle.vp_page.proofs.page.Page.lay_across.Goals as goal
 
 pub loop-line-preserved-then-n-gt0 : goal.loop-line-preserved-then-n-gt0
@@ -34,8 +35,8 @@ loop-line-preserved-then-n-gt0 g c =
     }
 
 pub lay_long-requires-clause-white : goal.lay_long-requires-clause-white
-lay_long-requires-clause-white g c = λ i u h. ink_white c.draw_lines.new.lines (g.I.Ink.ink_at c.args.ink.now) c.loop-line.line (g.I.Ink.width c.args.ink.now) i u
-    (λ k x l. c.draw_lines.ensures.lines k x l) (λ x y t. (g.met.I.Ink.outside c.args.ink.now x y t).0) (omega (arith, h, c.size-width.ensures.width))
+lay_long-requires-clause-white g c = λ i u h. rw (none_told [] c.draw_lines.new.lines refl) (ink_white c.draw_lines.new.lines (g.I.Ink.ink_at c.args.ink.now) c.loop-line.line (g.I.Ink.width c.args.ink.now) i u
+    (λ k x l. c.draw_lines.ensures.lines k x l) (λ x y t. (g.met.I.Ink.outside c.args.ink.now x y t).0) (omega (arith, h, c.size-width.ensures.width)))
 
 pub loop-line-preserved : goal.loop-line-preserved
 loop-line-preserved g c =
@@ -49,5 +50,5 @@ loop-line-preserved g c =
       within = c.alone-few.ensures.within;
       laid = λ layers page. lines_more m k n lines layers c.lay_long.new.self (omega (arith, c.alone-few.ensures.few)) long
           (λ u w _ l. ink_line lines ink k (g.I.Ink.width c.args.ink.now) w u (λ i x h. c.draw_lines.ensures.lines i x h) (λ x y t. (g.met.I.Ink.outside c.args.ink.now x y t).0) c.requires (omega (arith, l, long)))
-          (rw c.across-direction.ensures at (c.lay_long.ensures _ (c.loop-line.invariant.laid layers page)));
+          (rw (c.across-direction.ensures, none_told [] lines refl) at (c.lay_long.ensures _ (c.loop-line.invariant.laid layers page)));
     }
