@@ -37,11 +37,17 @@ measure() {
     compare "$1"
 }
 
-# compare NAME [LANGUAGE]: what is in the file, in turn with the boxes, since a machine isn't always as fast
+# compare NAME [LANGUAGE]: what is in the file, in turn with the boxes, since a machine isn't always as fast: the least of
+# three runs of each, and of nine where that is more than it may be (10 times the boxes for a label, 15 for a receipt)
 compare() {
-    for _ in 1 2 3; do
+    most=10
+    [ "${2:-label}" = label ] || most=15
+    for _ in 1 2 3 4 5 6 7 8 9; do
         once label "$scratch/boxes" >> "$scratch/beside" || :
         once "${2:-label}" "$scratch/format" >> "$scratch/times" || break
+        boxes=$(sort -n "$scratch/beside" | head -1)
+        now=$(sort -n "$scratch/times" | head -1)
+        [ "$(wc -l < "$scratch/times")" -lt 3 ] || [ "$now" -gt $((most * ${boxes:-0})) ] || break
     done
     boxes=$(sort -n "$scratch/beside" | head -1)
     now=$(sort -n "$scratch/times" | head -1)
