@@ -1,8 +1,8 @@
 #!/bin/sh
-# Runs the gate on a crate of two functions, one of which calls the other. What must be refused is, and an edit that
-# breaks nothing isn't taken for refused where it is tried beside one of the function that it calls. Edits are tried by
-# rounds: an rt that lacks what these stand on, with which each would be tried alone, is told. A right body in another form
-# is taken, and a wrong one isn't.
+# Runs the gate on a crate of three functions, one of which calls another, and one a constant. What must be refused is, and
+# an edit that breaks nothing isn't taken for refused where it is tried beside one of the function that it calls. Edits are
+# tried by rounds, of a constant and with a function of their own too: an rt that lacks what rounds stand on, with which each
+# would be tried alone, is told. A right body in another form is taken, and a wrong one isn't.
 set -eu
 gate=$(dirname "$(dirname "$(realpath "$0")")")/tools/gate/gate.py
 room=$(mktemp -d)
@@ -12,7 +12,7 @@ cd "$room"
 echo 'one:' >crates.txt
 echo 'Handles allowed: none.' >HANDLES
 cat >crates/one/src/lib.rt <<'END'
-//! Two functions, of which one calls the other.
+//! Three functions, of which one calls another.
 #![tactic(auto)]
 
 ghost use Rattle.std.specs.Prelude.{◌≡◌, ◌/◌, ◌≤◌};
@@ -32,6 +32,15 @@ pub fn quarter(a: u8) -> u8
     let it = half(a);
     half(it)
 }
+
+const MOST: u8 = 100;
+
+/// The most that there is.
+pub fn most() -> u8
+    ensures { result ≡ 100 }
+{
+    MOST
+}
 END
 # the second has an answer that was written by hand
 mkdir -p crates/one/proofs/quarter
@@ -47,6 +56,9 @@ END
 edit() { printf 'file: src/lib.rt\nold: %s\nnew: %s\n' "$3" "$4" >"crates/one/$1/$2.edit"; }
 edit must-fail half_is_a_third '    a / 2' '    a / 3'
 edit must-fail quarter_is_a_half '    half(it)' '    it'
+edit must-fail most_is_less 'const MOST: u8 = 100;' 'const MOST: u8 = 99;'
+edit must-fail quarter_by_a_third '/// A quarter of it.' 'fn third(a: u8) -> u8 ensures { result ≤ 85 } { a / 3 } /// A quarter of it.'
+printf 'old: %s\nnew: %s\n' '    half(it)' '    third(it)' >>crates/one/must-fail/quarter_by_a_third.edit
 edit must-fail quarter_with_a_type 'let it = half(a);' 'let it: u8 = half(a);'
 
 gate() {
@@ -64,10 +76,13 @@ gate
 says 'must-fail one/half_is_a_third.edit: refused, as it must be: note: src/lib.rt:7:1: it is not proved'
 says 'must-fail one/quarter_is_a_half.edit: refused, as it must be: ./proofs/quarter/Answers.antt:5:13: error: `returns`'
 says 'must-fail one/quarter_with_a_type.edit: NOT REFUSED'
-says '^3 passed, 1 failed$'
+says 'must-fail one/most_is_less.edit: refused, as it must be: note: src/lib.rt:25:1: it is not proved'
+says '^5 passed, 1 failed$'
 # and at which clauses
 cat >wanted <<'END'
 one/half_is_a_third: `half: value`
+one/most_is_less: `most`
+one/quarter_by_a_third: `quarter` (answer)
 one/quarter_is_a_half: `quarter` (answer)
 END
 "$(dirname "$gate")/refused.py" said | diff wanted - >&2
@@ -78,7 +93,7 @@ mkdir crates/one/must-pass
 mv crates/one/must-fail/quarter_with_a_type.edit crates/one/must-pass
 edit must-pass half_by_a_shift '    a / 2' '    a.wrapping_div(2)'
 gate
-says '^3 passed, 0 failed$'
+says '^5 passed, 0 failed$'
 says '^must-pass one/quarter_with_a_type.edit: taken'
 says '^must-pass one/half_by_a_shift.edit: taken'
 [ "$status" = 0 ]

@@ -1,12 +1,16 @@
 """An edit of a crate (must-fail/*.edit, must-pass/*.edit), and the functions whose bodies it changes."""
 import re
 
-FUNCTION = re.compile(r"( *)(?:pub(?:\([^)]*\))? )?(?:const )?fn (\w+)")
+FUNCTION = re.compile(r'( *)(?:pub(?:\([^)]*\))? )?(?:const )?(?:extern "C" )?fn (\w+)')
+# A constant of one file.
+CONSTANT = re.compile(r"(?m)^(?:const|static) (\w+): ")
 # What has methods: a trait, or a type, maybe with the trait that it is given there.
 OWNER = re.compile(r"(?:pub )?trait (?P<of>\w+)|impl(?:<.*?>)? (?:(?P<trait>\w+)(?:<.*?>)? for &?)?(?P<type>\w+)")
 # Faults that the prover finds: by a place of the source, or in a file that answers a function's goals.
 IN_SOURCE = re.compile(r"note: (?:\./)?src/(\S+)\.rt:(\d+):\d+: it is not proved ")
 IN_PROOF = re.compile(r"(?:\./)?proofs/(\S+)/\w+\.antt:\d+:\d+: error: ")
+# Any fault of a proof.
+FAULT = re.compile(rf"{IN_SOURCE.pattern}|(?:\./)?proofs/\S+\.antt:\d+:\d+: error: ")
 # What says only that a proof names what the edit took away, or cites what was refused.
 OF_ANOTHER = re.compile(r"has no field|is not in scope|has no `|was not admitted|depends on ")
 
@@ -47,11 +51,32 @@ def function_around(path, text, place):
     return None
 
 
+def constant_around(text, place):
+    """Returns a private constant that a place of a file is in, if it is in one: its name, and where it begins and ends."""
+    items = [it for it in CONSTANT.finditer(text) if it.start() <= place]
+    ends = text.find(";\n", items[-1].start()) if items else -1
+    return (items[-1][1], items[-1].start(), ends) if place <= ends else None
+
+
+def changed_at(path, text, place):
+    """Returns the functions whose bodies change with what stands at a place of a file: the one that it is in, or of a private
+    constant all that name it; None where it changes more than bodies."""
+    if around := function_around(path, text, place):
+        return [around]
+    if constant := constant_around(text, place):
+        name, begins, ends = constant
+        uses = [it.start() for it in re.finditer(rf"\b{name}\b", text) if not begins <= it.start() <= ends]
+        users = [changed_at(path, text, it) for it in uses]
+        return None if None in users else sum(users, [])
+    return None
+
+
 class Edit:
-    """An edit: its texts, each in place of another, and the functions whose bodies those places are in, where they are in one."""
+    """An edit: its texts, each in place of another, and the functions whose bodies it changes; also whether it changes no more
+    than bodies, but that it may add a function of its own."""
 
     def __init__(self, crate, file):
-        self.file, self.cuts, self.functions = file, [], []
+        self.file, self.cuts, self.functions, self.is_of_bodies = file, [], [], True
         with open(file, encoding="utf-8", errors="replace") as it:
             lines = it.read().split("\n")
         path = old = ""
@@ -70,17 +95,18 @@ class Edit:
             text = it.read()
         place = text.find(old)
         self.cuts.append((path, place, old, new))
-        self.functions.append(function_around(path, text, place) if place >= 0 else None)
-
-    def is_of_bodies(self):
-        return all(self.functions)
+        changed = changed_at(path, text, place) if place >= 0 else None
+        self.functions += changed or []
+        self.is_of_bodies = self.is_of_bodies and (bool(changed) or bool(FUNCTION.match(new)) and new.endswith(old.strip()))
 
     def keys(self):
-        return {it.proof for it in self.functions if it}
+        return {it.proof for it in self.functions}
 
-    def faults(self, lines):
-        """Returns the lines that tell a fault of a function that the edit changes."""
-        return [line for line in lines if any(it.is_at_fault(line) for it in self.functions)]
+    def faults(self, lines, is_alone):
+        """Returns the lines that tell a fault of a function that the edit changes or, where no other edit was tried beside it
+        and none is told, of what that function's proof cites."""
+        own = [line for line in lines if any(it.is_at_fault(line) for it in self.functions)]
+        return own or [line for line in lines if is_alone and FAULT.match(line) and not OF_ANOTHER.search(line)]
 
 
 def one_for_each_function(edits):

@@ -4,8 +4,8 @@
 rt tries each edit in a check of its own, and most of that is the loading of what the crate stands on. A function is
 proved from its own body and from the contracts of what it calls. So edits in the bodies of different functions are
 tried in one check, and each is refused there where the prover finds fault with its own function. What isn't refused so,
-and an edit that changes more than bodies, is tried alone by rt itself, as rt must-fail does it. Behind rt, right bodies in
-another form are tried, which must be taken (passing.py).
+and an edit that changes more than bodies, is tried alone by rt itself, as rt must-fail does it. Before a crate's edits its
+right bodies in another form are tried, which must be taken (passing.py): what their check keeps the others begin with.
 
 rt ci wants all crates side by side. So it runs on a copy of the repository in which each crate of crates/FOLDER/NAME
 stands in crates/NAME, and what it made of the program is brought back, with the module that LLVM made it of. Where all
@@ -22,18 +22,22 @@ import tempfile
 
 PROGRAM, LIBRARY, MODULE = "crates/program/vp_cli/out/vp_cli", "crates/program/vp_c", "crates/program/vp_module"
 TOOLS = os.path.dirname(os.path.dirname(os.path.realpath(__file__)))
+# What a check with one job takes of memory at most, in bytes, with room.
+MEMORY = 4_500_000_000
 sys.dont_write_bytecode = True
 sys.path.insert(0, f"{TOOLS}/dist")
 import library  # noqa: E402
 from build import crates_below, listed  # noqa: E402
 from edits import Edit, one_for_each_function, with_all  # noqa: E402
 from keeping import keeping  # noqa: E402
-from passing import all_taken  # noqa: E402
+from passing import all_taken, tried  # noqa: E402
 from refused import told  # noqa: E402
 
 # What of rt the rounds stand on: of every rt, and of one that adds an edit's task itself or else tries a crate's edits in one.
 NEEDED = "must_fail", "checked", "read_edit", "unread", "rtlib"
 WITH_TASKS, WITH_ALL = ("add_edits", "need", "REFUSED", "SETTLED"), ("must_fail_all",)
+# What is said of the right bodies of the crates whose edits were tried, by the crate's name.
+OF_RIGHT_BODIES = {}
 
 
 def kit():
@@ -54,37 +58,41 @@ def tried_together(rt, crate, edits, flags, kept):
     is_refused = ran.returncode == 1 and lines[-1].startswith("only=")
     if not is_refused or rt.rtlib.STALE.search(ran.stdout) or any(rt.unread(it, texts) for it in lines):
         return {}
-    found = {it.file: it.faults(lines) for it in edits}
+    found = {it.file: it.faults(lines, len(edits) == 1) for it in edits}
     return {file: told(faults) for file, faults in found.items() if faults}
 
 
 def tried_by_rounds(rt, crate, edits, flags, kept):
-    """Tries edits of bodies, a round of them in each check, the first from nothing and the others over what those before
-    them kept. One whose function calls what is refused in its round may have to wait for the next one. Returns those that
-    are refused, each with the prover's word."""
-    found = {}
-    while edits:
+    """Tries edits of bodies, a round of them in each check, over what those before them kept. One whose function calls what is
+    refused in its round may have to wait for the next one. What no round refuses any more, as an edit of a constant of which a
+    lemma speaks, is tried with no other beside it. Returns those that are refused, each with the prover's word."""
+    found, new = {}, True
+    while new and edits:
         new = tried_together(rt, crate, one_for_each_function(edits), flags, kept)
         found |= new
-        edits = [it for it in edits if it.file not in found] if new else []
+        edits = [it for it in edits if it.file not in found]
+    for it in edits:
+        found |= tried_together(rt, crate, [it], flags, kept)
     return found
 
 
 def must_fail_all(rt, crate, files, flags):
-    """Tries the edits of a crate that is proved: by rounds, and alone what no round refused. What isn't refused so either is
-    tried once more from nothing, and so is what was tried alone where the crate itself isn't proved over what was kept.
-    Returns what each comes to, in rt's words (or, of an rt that has none, whether it is refused), and what to say of it."""
+    """Tries the edits of a crate that is proved, behind its right bodies: by rounds, and by rt itself what no round refused.
+    What isn't refused so either is tried once more from nothing, and so is what rt tried where the crate itself isn't proved
+    over what was kept. Returns what each comes to, in rt's words (or, of an rt that has none, whether it is refused), and what
+    to say of it."""
     refused, settled = getattr(rt, "REFUSED", True), getattr(rt, "SETTLED", (True,))
     readable = [it for it in files if not rt.read_edit(it, crate.folder)[1]]
-    together = [it for it in (Edit(crate, file) for file in readable) if it.is_of_bodies()]
+    together = [it for it in (Edit(crate, file) for file in readable) if it.is_of_bodies]
     with tempfile.TemporaryDirectory(prefix="rt-edits-") as kept:
+        OF_RIGHT_BODIES[crate.name] = tried(rt, crate, flags, kept)
         found = tried_by_rounds(rt, crate, together, flags, kept)
         label = f"must-fail {crate.name}/%s: refused, as it must be: %s"
-        tried = {it: (refused, label % (os.path.basename(it), said)) for it, said in found.items()}
-        alone = {it: rt.must_fail(crate, it, flags, kept) for it in files if it not in tried}
+        done = {it: (refused, label % (os.path.basename(it), said)) for it, said in found.items()}
+        alone = {it: rt.must_fail(crate, it, flags, kept) for it in files if it not in done}
         if alone and not rt.checked(crate, {}, flags, kept).returncode:
-            tried |= {it: said for it, said in alone.items() if said[0] in settled}
-    return [tried[it] if it in tried else rt.must_fail(crate, it, flags) for it in files]
+            done |= {it: said for it, said in alone.items() if said[0] in settled}
+    return [done[it] if it in done else rt.must_fail(crate, it, flags) for it in files]
 
 
 def add_edits(rt, tasks, crate, edits, first, waits, is_well, *_, **__):
@@ -131,6 +139,13 @@ def tell_made_from(program):
     """Writes beside the program what it was made from."""
     with open(f"{os.path.dirname(program)}/made-from", "wb") as it:
         subprocess.run([f"{TOOLS}/dist/made-from", program], stdout=it, check=True)
+
+
+def one_job_each(rt):
+    """Has each check have one job, where the environment's RT_JOBS asks for no other number of checks at a time. There is
+    work for all processors, and a check with several jobs takes a quarter more of them in all."""
+    if "RT_JOBS" not in os.environ and hasattr(rt, "processors") and hasattr(rt, "free"):
+        os.environ["RT_JOBS"] = str(max(1, min(rt.processors(), rt.free() // MEMORY)))
 
 
 def by_rounds(rt):
@@ -204,13 +219,14 @@ def make_for_hosts(rt, room, root):
 
 def main():
     rt = kit()
+    one_job_each(rt)
     by_rounds(rt)
     root = os.getcwd()
     with tempfile.TemporaryDirectory(prefix="vp-gate-") as room:
         before = sources(root)
         programs = side_by_side(root, f"{room}/all")
         os.chdir(f"{room}/all")
-        status = rt.main(["ci"]) or int(not all_taken(rt, f"{room}/all"))
+        status = rt.main(["ci"]) or int(not all_taken(rt, f"{room}/all", OF_RIGHT_BODIES))
         for made, to in programs.items():
             if os.path.isfile(made):
                 bring_back(made, to)

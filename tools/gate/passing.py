@@ -1,14 +1,11 @@
 """Right bodies in another form (must-pass/*.edit), each named by its function and by what is other: the prover must take them,
 with what they change of the answers. So what it says against a wrong body of the function isn't said against every other."""
-import concurrent.futures
 import glob
 import os
 import re
 
 from edits import Edit, one_for_each_function, with_all
 
-# How many crates at a time, and how many jobs each.
-AT_ONCE, JOBS = 2, "2"
 
 
 def rounds(edits):
@@ -19,10 +16,10 @@ def rounds(edits):
         edits = [it for it in edits if it not in them]
 
 
-def refusal(rt, crate, edits):
+def refusal(rt, crate, edits, flags, kept):
     """Returns what the prover says against right bodies of different functions, or nothing where it takes them all."""
-    only = [word for edit in edits for it in edit.functions if it for word in ("--only", it.path)]
-    ran = rt.checked(crate, with_all(crate, edits), ["--jobs", JOBS, *only], None)
+    only = [word for edit in edits for it in edit.functions for word in ("--only", it.path)]
+    ran = rt.checked(crate, with_all(crate, edits), [*flags, *only], kept)
     lines = ran.stdout.rstrip("\n").split("\n")
     proved = re.fullmatch(r"only=(\d+) proved=(\d+)", lines[-1])
     if ran.returncode == 0 and only and proved and proved[1] == proved[2]:
@@ -30,28 +27,29 @@ def refusal(rt, crate, edits):
     return next((it for it in lines if re.search(r": error|^error|not proved", it)), lines[-1])[:200]
 
 
-def tried(rt, crate):
-    """Tries the right bodies of a crate, and returns each with what the prover says against it."""
+def tried(rt, crate, flags, kept):
+    """Tries the right bodies of a crate, over what is kept, and returns each with what the prover says against it."""
     found = []
     for them in rounds([Edit(crate, file) for file in sorted(glob.glob(f"{crate.folder}/must-pass/*.edit"))]):
-        why = refusal(rt, crate, them)
+        why = refusal(rt, crate, them, flags, kept)
         # of several each is tried alone, to tell which it is
-        found += [(it, why and (refusal(rt, crate, [it]) if len(them) > 1 else why)) for it in them]
+        found += [(it, why and (refusal(rt, crate, [it], flags, kept) if len(them) > 1 else why)) for it in them]
     return found
 
 
-def all_taken(rt, room):
-    """Tries the right bodies of all crates of the room, which are proved, says of each what it came to, and returns whether
-    all are taken."""
+def all_taken(rt, room, found):
+    """Says of each right body of the room's crates, which are proved, what it came to, by what was found of a crate's or else
+    by a try, and returns whether all are taken."""
     folders = sorted(map(os.path.dirname, glob.glob(f"{room}/crates/*/must-pass")))
     if folders and not hasattr(rt, "checked"):
         print("gate: this rt has no checked: it doesn't try right bodies in another form")
         return True
     is_well = True
-    with concurrent.futures.ThreadPoolExecutor(AT_ONCE) as pool:
-        for crate, found in pool.map(lambda it: (it, tried(rt, it)), [rt.Crate(it, room, {}) for it in folders]):
-            for edit, why in found:
-                what = f"NOT TAKEN: {why}" if why else "taken, as it must be"
-                print(f"must-pass {crate.name}/{os.path.basename(edit.file)}: {what}", flush=True)
-                is_well = is_well and not why
+    for crate in [rt.Crate(it, room, {}) for it in folders]:
+        if crate.name not in found:
+            found[crate.name] = tried(rt, crate, ["--jobs", "1"], None)
+        for edit, why in found[crate.name]:
+            what = f"NOT TAKEN: {why}" if why else "taken, as it must be"
+            print(f"must-pass {crate.name}/{os.path.basename(edit.file)}: {what}", flush=True)
+            is_well = is_well and not why
     return is_well

@@ -9,10 +9,11 @@ import glob
 import re
 import sys
 
+from edits import FUNCTION
+
 REFUSED = re.compile(r"must-fail (\w+)/(\w+)\.edit: refused, as it must be(?: \(only .*?\))?(?:: (.*))?")
 IN_SOURCE = re.compile(r"note: (?:\./)?(src/\S+\.rt):(\d+):\d+: it is not proved .*?\(`([\w-]+)`")
 IN_PROOF = re.compile(r"(?:note: )?(?:\./)?proofs/(\S+)/\w+\.antt:\d+:\d+: error: (?:`([\w-]+)`)?")
-FUNCTION = re.compile(r"( *)(?:pub(?:\([^)]*\))? )?(?:const )?fn (\w+)")
 OWNER = re.compile(r"(?:pub )?trait (\w+)|impl(?:<.*?>)? (?:\S+(?:<.*?>)? for &?)?(\w+)")
 ALSO, ANSWER = "; also ", " (answer)"
 
