@@ -279,16 +279,19 @@ class Build:
         self.said.line(f"{crate.name} {how} ({len(self.took)} of {len(self.crates)} crates{left})")
 
     def begin(self):
-        """Starts what can be started and finds memory, what the longest chain waits for first: two crates at a time, or half
-        as many as there are processors, each with a job for each processor that no crate before it was begun for."""
+        """Starts what can be started and finds memory, what the longest chain waits for first. A proof with several jobs takes
+        a quarter more of the processors than with one: so only the first of the longest chain gets a second job, and all
+        processors that are left where nothing else can be started."""
         is_ready = lambda it: it not in self.took and it not in self.running and all(dep in self.took for dep in it.uses)
-        at_once = max(self.lanes // 2, min(self.lanes, 2))
-        for it in sorted(filter(is_ready, self.crates), key=lambda it: -self.behind[it]):
-            jobs = min(self.lanes - len(self.running), JOBS)
+        ready = sorted(filter(is_ready, self.crates), key=lambda it: -self.behind[it])
+        longest = max((self.behind[it] for it in [*ready, *self.running]), default=0)
+        for it in ready:
+            idle = self.lanes - sum(run.jobs for run in self.running.values())
+            jobs = min(idle, (2 if len(ready) > 1 else JOBS) if self.behind[it] == longest else 1)
             memory = self.memory - sum(need(run.jobs) for run in self.running.values())
             while jobs > 1 and need(jobs) > memory:
                 jobs -= 1
-            if not self.running or (need(jobs) <= memory and len(self.running) < at_once):
+            if not self.running or (jobs > 0 and need(jobs) <= memory):
                 self.running[it] = Run(it, jobs, self.lock)
 
     def end(self):
