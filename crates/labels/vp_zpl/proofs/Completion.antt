@@ -3,10 +3,9 @@ use Rattle.std.proofs.Common.{◌≡◌, ℕ, ◌-◌, ◌<◌, ◌≤◌, Bool,
 use Rattle.std.proofs.lemmas.Bool.Decides.{nat_tests}
 use Rattle.std.proofs.lemmas.List.{length_push, append-nil}
 use Rattle.std.specs.List.{AllByRecursion}
-use Rattle.vp_zpl.specs.declared.name.Kind.{Kind}
 use Rattle.vp_zpl.specs.Spelling.{behind_commas}
-use Rattle.vp_zpl.specs.Commands.{cut, with_byte, longer, wants_binary, wants_binary_named, kind, kind_of, kind_named, is_short, is_whole, head, count_of, in_format}
-use Rattle.vp_zpl.specs.Items.{at_rest, is_within_one, rests}
+use Rattle.vp_zpl.specs.Commands.{cut, longer, wants_binary, kind, kind_of, is_short, is_whole, head, count_of, in_format}
+use Rattle.vp_zpl.specs.Items.{at_rest, is_within_one}
 use Rattle.vp_zpl.proofs.Cuts.{cut-push, with-byte}
 use Rattle.vp_zpl.proofs.Heads.{still}
 
@@ -19,19 +18,16 @@ short_is : (args : List ℕ) → is_short args ≡ true → (is_whole args ≡ t
 unfolding is_short
 short_is args e = grind (arith, nat_lt, nat_tests)
 
-named_short : (k : Kind) (args : List ℕ) → wants_binary_named k args ≡ true → is_short args ≡ true
-named_short k args e = grind arith
-
 less : (command : List ℕ) (c n : ℕ) → wants_binary command ≡ true → short_by command ≤ suc n → short_by (longer command c) ≤ n
 unfolding wants_binary
 less (s ∷ a ∷ b ∷ args) c n w h =
-    let t = short_is args (named_short (kind_named s a b) args w) in let l = still args c t.0 in
+    let t = short_is args (grind arith) in let l = still args c t.0 in
     omega (arith, h, t.1, ap count_of l.head_is, ap length l.data_is ∙ length_push (behind_commas 4 args) c)
 less _ c n w h = absurd (cc)
 
 none_left : (command : List ℕ) → wants_binary command ≡ true → short_by command ≤ 0 → true ≡ false
 unfolding wants_binary
-none_left (s ∷ a ∷ b ∷ args) w h = let t = short_is args (named_short (kind_named s a b) args w) in absurd (omega (arith, h, t.1))
+none_left (s ∷ a ∷ b ∷ args) w h = let t = short_is args (grind arith) in absurd (omega (arith, h, t.1))
 none_left _ w h = sym w
 
 pub record Filled (bytes : List ℕ) : Type 0 where
@@ -48,25 +44,9 @@ fill (suc n) true bytes w h =
     let rest = fill n (wants_binary (cut (bytes ++ 0 ∷ [])).open_one) (bytes ++ 0 ∷ []) refl few in
     record { end = 0 ∷ rest.end; small = (omega arith, rest.small); done = ap (λ b. wants_binary (cut b).open_one) (sym (append_assoc bytes (0 ∷ []) rest.end)) ∙ rest.done }
 
--- ^XZ
-ends_format : (before : List (List ℕ)) → rests (record { before = before; open_one = 0x5E ∷ 0x58 ∷ 0x5A ∷ [] }) ≡ true
-unfolding is_within_one in_format kind wants_binary kind_of Rattle.vp_zpl.specs.Spelling.capital
-ends_format before = refl
-
-second : (before : List (List ℕ)) → with_byte (record { before = before; open_one = 0x5E ∷ [] }) 0x58 ≡ record { before = before; open_one = 0x5E ∷ 0x58 ∷ [] }
-unfolding wants_binary
-second before = refl
-
-third : (before : List (List ℕ)) → with_byte (record { before = before; open_one = 0x5E ∷ 0x58 ∷ [] }) 0x5A ≡ record { before = before; open_one = 0x5E ∷ 0x58 ∷ 0x5A ∷ [] }
-unfolding wants_binary
-third before = refl
-
-at_rest_is : (bytes : List ℕ) → at_rest bytes ≡ rests (cut bytes)
-unfolding at_rest
-at_rest_is bytes = refl
-
 closed : (bytes : List ℕ) → wants_binary (cut bytes).open_one ≡ false → at_rest (((bytes ++ 0x5E ∷ []) ++ 0x58 ∷ []) ++ 0x5A ∷ []) ≡ true
-closed bytes w = grind (arith, cut-push, with-byte, second, at_rest_is, third, ends_format)
+unfolding at_rest is_within_one in_format kind wants_binary kind_of Rattle.vp_zpl.specs.Spelling.capital
+closed bytes w = grind (arith, cut-push, with-byte)
 
 ends_small : (xs : List ℕ) → AllByRecursion (λ b. b < 256) xs → AllByRecursion (λ b. b < 256) (xs ++ 0x5E ∷ 0x58 ∷ 0x5A ∷ [])
 ends_small [] h = (omega arith, (omega arith, (omega arith, tt)))

@@ -7,6 +7,7 @@ use Rattle.vp_zpl.specs.Spelling.{behind_commas, undecided}
 use Rattle.vp_zpl.specs.Commands.{longer, is_whole, is_b, head, count_of, indicator}
 use Rattle.vp_zpl.specs.Items.{Item, items, item_of, data_items, graphic, picture, is_code, text_known, given, given_named, at_end, at_end_named, all_ended}
 use Rattle.vp_zpl.proofs.Cuts.{cut-push, items-is, with-byte}
+use Rattle.vp_zpl.proofs.Steps.{none_given, ended-is}
 use Rattle.vp_zpl.proofs.Texts.{step, out}
 use Rattle.vp_zpl.proofs.Heads.{still, code_more}
 use Rattle.std.proofs.lemmas.List.{append-nil, map-append}
@@ -56,34 +57,25 @@ given_grows : (before : List (List ℕ)) (command : List ℕ) (c : ℕ) → Grow
 unfolding given
 given_grows before command c = grind (arith, same, from_none, named_grows)
 
-whole_by : (z : Bool) (before : List (List ℕ)) (name : Name) (args : List ℕ) → is_whole args ≡ z
-    → Grows (given_named kinds.Graphic before name args) (at_end_named kinds.Graphic before name args)
-whole_by z before name args w = grind (arith, same, from_none)
-
 named_ends : (k : Kind) (before : List (List ℕ)) (name : Name) (args : List ℕ) → Grows (given_named k before name args) (at_end_named k before name args)
 named_ends kinds.FieldHex before name args = from_none _ _ refl
 named_ends (kinds.Plain j) before name args = from_none _ _ refl
 named_ends kinds.FieldData before name args = grind (arith, text_ends, map-append)
-named_ends kinds.Graphic before name args = whole_by (is_whole args) before name args refl
+named_ends kinds.Graphic before name args = grind (arith, same, from_none)
 named_ends _ before name args = same _ _ refl
 
-end_grows : (before : List (List ℕ)) (command : List ℕ) → Grows (given before command) (at_end before command)
+pub end_grows : (before : List (List ℕ)) (command : List ℕ)
+    → Grows (given before command) (at_end before command)
 unfolding given at_end
 end_grows before command = grind (arith, same, named_ends)
-
-no_name : (before : List (List ℕ)) (c : ℕ) → given before (c ∷ []) ≡ []
-unfolding given
-no_name before c = refl
-
-ended_is : (command : List ℕ) (before : List (List ℕ)) → all_ended (command ∷ before) ≡ all_ended before ++ at_end before command
-unfolding all_ended
-ended_is command before = refl
 
 within : (before : List (List ℕ)) (small big : List Item) → Grows small big → Grows (all_ended before ++ small) (all_ended before ++ big)
 within before small big g = record { added = g.added; is = ap (λ x. all_ended before ++ x) g.is ∙ sym (append_assoc (all_ended before) small g.added) }
 
 one_more : (bytes : List ℕ) (c : ℕ) → Grows (items bytes) (items (bytes ++ c ∷ []))
-one_more bytes c = grind (arith, within, given_grows, same, end_grows, no_name, append-nil, ended_is, items-is, cut-push, with-byte)
+one_more bytes c =
+    let push = cut-push bytes c in
+    grind (arith, within, given_grows, same, end_grows, none_given, append-nil, ended-is, items-is, push, with-byte)
 
 pub grows : (bytes more : List ℕ) → Grows (items bytes) (items (bytes ++ more))
 grows bytes [] = grind (arith, same, append-nil)

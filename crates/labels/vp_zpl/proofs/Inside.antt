@@ -1,5 +1,5 @@
 -- A byte more among parameters.
-use Rattle.std.proofs.Common.{◌≡◌, ℕ, ◌<◌, ◌≤◌, Bool, true, false, cond, List, [], ◌∷◌, ◌++◌, length, take, refl, sym, ap, ◌∙◌, arith}
+use Rattle.std.proofs.Common.{◌≡◌, ℕ, ◌<◌, ◌≤◌, Bool, true, false, cond, List, [], ◌∷◌, ◌++◌, length, take, refl, sym, ap, ◌∙◌, arith, subst}
 use Rattle.vp_zpl.specs.declared.name.Kind.{Kind}
 use Rattle.vp_zpl.specs.declared.name.Kind.TheVariants as kinds
 use Rattle.vp_zpl.specs.declared.name.Name.{Name}
@@ -11,7 +11,7 @@ use Rattle.vp_zpl.specs.Commands.{is_b, count_of, head, is_whole, longer, indica
 use Rattle.vp_zpl.specs.Items.{item_of, picture, given_named}
 use Rattle.vp_zpl.specs.Reader.{Named, StandsIn, Goes, InParameters, has_parameters, in_phase, indicator_at, behind_head}
 use Rattle.vp_zpl.proofs.Named.{goes_named, named_longer, indicator-is}
-use Rattle.vp_zpl.proofs.Phases.{at_phase, at_indicator, carry}
+use Rattle.vp_zpl.proofs.Phases.{at_phase, at_indicator}
 use Rattle.vp_zpl.proofs.Parameters.{last-push, keeps, same_ended, same_whole, comma_ended, comma_last, completes, few_whole}
 
 -- before its head is whole, a command with parameters has given nothing
@@ -71,7 +71,7 @@ pub comma_goes : (r new : ZplReader) (before : List (List ℕ)) (command : List 
 comma_goes r new before command kind stands p e ends few =
     stays_in r new before command kind 0x2C stands p (ap (λ (s : ZplReader). s.sent.name) e) (ap (λ (s : ZplReader). s.in_format) e) (ap (λ (s : ZplReader). s.indicator) e) (ap (λ (s : ZplReader). s.phase) e)
     (λ args h. record {
-      not_whole = λ g. few_whole (args ++ 0x2C ∷ []) (carry (λ x. length x < 4) _ _ (kept_on r new kind args ends h) (few g));
+      not_whole = λ g. few_whole (args ++ 0x2C ∷ []) (subst (λ x. length x < 4) (kept_on r new kind args ends h) (few g));
       kept_is = kept_on r new kind args ends h;
       part_is = ends.part ∙ ap Rattle.vp_zpl.specs.Spelling.kept (sym (comma_last args));
     })

@@ -1,13 +1,14 @@
 -- Items are of no more bytes than were read.
-use Rattle.std.proofs.Common.{◌≡◌, ◌≤◌, ℕ, ◌+◌, ◌-◌, Bool, cond, Option, List, [], ◌∷◌, ◌++◌, length, reverse, filter, refl, arith, lit≤}
+use Rattle.std.proofs.Common.{◌≡◌, ◌≤◌, ℕ, ◌+◌, ◌-◌, Bool, cond, Option, List, [], ◌∷◌, ◌++◌, length, reverse, filter, refl, ap, arith, lit≤}
 use Rattle.std.proofs.lemmas.List.{length-take, length-reverse, length_push}
 use Rattle.vp_zpl.specs.declared.name.Kind.{Kind}
 use Rattle.vp_zpl.specs.declared.name.Kind.TheVariants as kinds
 use Rattle.vp_zpl.specs.declared.name.Name.{Name}
-use Rattle.vp_zpl.specs.Spelling.{behind_commas, decoded, known}
+use Rattle.vp_zpl.specs.Spelling.{behind_commas, decoded}
 use Rattle.vp_zpl.specs.Commands.{Cut, cut, cut_back, with_byte, is_whole, indicator}
-use Rattle.vp_zpl.specs.Items.{Item, items, data_items, graphic, picture, is_code, text_known, text_at_end, given, given_named, at_end, at_end_named, all_ended, least_bytes}
+use Rattle.vp_zpl.specs.Items.{Item, items, data_items, graphic, picture, is_code, text_at_end, given, at_end, at_end_named, all_ended, least_bytes}
 use Rattle.vp_zpl.proofs.Cuts.{items-is}
+use Rattle.vp_zpl.proofs.Growth.{end_grows}
 
 pub least_append : (xs ys : List Item) → least_bytes (xs ++ ys) ≡ least_bytes xs + least_bytes ys
 least_append [] ys = omega arith
@@ -23,16 +24,13 @@ codes_few : (bytes : List ℕ) → length (filter is_code bytes) ≤ length byte
 codes_few [] = lit≤ tt
 codes_few (b ∷ bytes) = grind (arith, codes_few bytes)
 
-either_few : (b : Bool) (xs ys : List ℕ) (n : ℕ) → length xs ≤ n → length ys ≤ n → length (cond b xs ys) ≤ n
-either_few b xs ys n h k = grind arith
-
 behind_few : (n : ℕ) (args : List ℕ) → length (behind_commas n args) ≤ length args
 behind_few n [] = lit≤ tt
-behind_few n (c ∷ args) = grind (arith, either_few, behind_few (n - 1) args, behind_few n args)
+behind_few n (c ∷ args) = grind (arith, behind_few (n - 1) args, behind_few n args)
 
 picture_few : (args : List ℕ) → length (picture args) ≤ length args
 unfolding picture
-picture_few args = grind (arith, either_few, length-take, behind_few, codes_few)
+picture_few args = grind (arith, length-take, behind_few, codes_few)
 
 decoded_few : (x : ℕ) (bytes : List ℕ) → length (decoded x bytes) ≤ length bytes
 decoded_few x [] = lit≤ tt
@@ -40,17 +38,8 @@ decoded_few x (a ∷ []) = lit≤ tt
 decoded_few x (a ∷ b ∷ []) = lit≤ tt
 decoded_few x (a ∷ b ∷ c ∷ more) = grind (arith, decoded_few x more, decoded_few x (b ∷ c ∷ more))
 
-known_few : (x : ℕ) (bytes : List ℕ) → length (known x bytes) ≤ length bytes
-known_few x [] = lit≤ tt
-known_few x (a ∷ []) = grind arith
-known_few x (a ∷ b ∷ []) = grind (arith, known_few x (b ∷ []))
-known_few x (a ∷ b ∷ c ∷ more) = grind (arith, known_few x more, known_few x (b ∷ c ∷ more))
-
 at_end_text : (o : Option ℕ) (args : List ℕ) → length (text_at_end o args) ≤ length args
 at_end_text o args = grind (arith, decoded_few)
-
-known_text : (o : Option ℕ) (args : List ℕ) → length (text_known o args) ≤ length args
-known_text o args = grind (arith, known_few)
 
 -- Of a command.
 
@@ -65,20 +54,13 @@ ended_named kinds.Graphic before name args = items_either (is_whole args) _ _ (3
 ended_named kinds.FieldData before name args = omega (arith, least_data (text_at_end (indicator before) args), at_end_text (indicator before) args)
 ended_named _ before name args = omega arith
 
-open_named : (k : Kind) (before : List (List ℕ)) (name : Name) (args : List ℕ) → least_bytes (given_named k before name args) ≤ 3 + length args
-open_named kinds.FieldHex before name args = omega arith
-open_named (kinds.Plain k) before name args = omega arith
-open_named kinds.Graphic before name args = items_either (is_whole args) _ _ (3 + length args) (graphic_few name args) (omega arith)
-open_named kinds.FieldData before name args = omega (arith, least_data (text_known (indicator before) args), known_text (indicator before) args)
-open_named _ before name args = omega arith
-
 ended_few : (before : List (List ℕ)) (command : List ℕ) → least_bytes (at_end before command) ≤ length command
 unfolding at_end
 ended_few before command = grind (arith, lit≤, ended_named)
 
 given_few : (before : List (List ℕ)) (command : List ℕ) → least_bytes (given before command) ≤ length command
-unfolding given
-given_few before command = grind (arith, lit≤, open_named)
+given_few before command = let g = end_grows before command in
+    omega (arith, ended_few before command, ap least_bytes g.is, least_append (given before command) g.added)
 
 -- the bytes of all commands
 abbrev all_bytes : List (List ℕ) → ℕ

@@ -1,12 +1,12 @@
 -- A command whose name is known.
-use Rattle.std.proofs.Common.{◌≡◌, ℕ, Bool, true, false, Option, Some, List, [], ◌∷◌, ◌++◌, refl, sym, ap, ◌∙◌, arith, nat_lt}
+use Rattle.std.proofs.Common.{◌≡◌, ℕ, Bool, true, false, Some, List, [], ◌∷◌, ◌++◌, refl, sym, ap, ◌∙◌, arith, nat_lt, subst}
 use Rattle.vp_zpl.specs.declared.name.Kind.{Kind}
 use Rattle.vp_zpl.specs.declared.name.Kind.TheVariants as kinds
 use Rattle.vp_zpl.specs.declared.reader.ZplReader.{ZplReader}
 use Rattle.vp_zpl.specs.declared.reader.Phase.{Phase}
 use Rattle.vp_zpl.specs.Commands.{kind, is_short, longer, in_format, in_format_by, indicator, indicator_by, wants_binary, wants_binary_named}
 use Rattle.vp_zpl.specs.Items.{Item, given, given_named, at_end, at_end_named, name_of}
-use Rattle.vp_zpl.specs.Reader.{Named, Goes, in_phase, is_alone, indicator_at, left_of}
+use Rattle.vp_zpl.specs.Reader.{Named, Goes, in_phase, indicator_at, left_of}
 
 module _ {r : ZplReader} {k : Kind} {args command : List ℕ} (n : Named r k args command) where
   pub given-is : (before : List (List ℕ)) → given before command ≡ given_named k before r.sent.name args
@@ -40,18 +40,9 @@ abbrev pub is_indicator : Kind → Bool
 is_indicator kinds.FieldHex = true
 is_indicator _ = false
 
-pub same_by : (k : Kind) (a b : List ℕ) (opened : Bool) (was : Option ℕ) → is_indicator k ≡ false → indicator_by (Some k) a opened was ≡ indicator_by (Some k) b opened was
-same_by k a b opened was e = grind arith
-
-pub alone_not : (k : Kind) → is_alone k ≡ true → is_indicator k ≡ false
-alone_not k e = grind arith
-
 pub wants_in : (p : Phase) (r : ZplReader) (o : List ℕ) → in_phase p r o → wants_binary o ≡ nat_lt 0 (left_of p)
 unfolding wants_binary is_short
 wants_in p r o e = grind arith
-
-carry : {A : Type 0} (P : A → Type 0) (a b : A) → a ≡ b → P a → P b
-carry P a b e x = rw e at x
 
 -- a byte that the named command takes
 pub goes_named : {r : ZplReader} {k : Kind} {args : List ℕ} (shows : List Item) (new : ZplReader) (before : List (List ℕ)) (command : List ℕ) (c : ℕ) (q : Phase)
@@ -67,11 +58,11 @@ goes_named {r} shows new before command c q n opened at indicates gives name pha
       stands = record {
         opened = opened ∙ opened-is n before ∙ sym (opened-is m before);
         indicates = indicates ∙ ap (λ x. indicator_at x (longer command c) before) (sym at);
-        phase = carry (λ x. in_phase x new (longer command c)) _ _ (sym at) phase;
+        phase = subst (λ x. in_phase x new (longer command c)) (sym at) phase;
       };
     }
 
 pub indicator_longer : {r : ZplReader} {k : Kind} {args : List ℕ} (before : List (List ℕ)) (command : List ℕ) (c : ℕ) → Named r k args command → is_indicator k ≡ false
     → indicator (command ∷ before) ≡ indicator (longer command c ∷ before)
 indicator_longer {r} {k} before command c n e =
-    indicator-is n before ∙ same_by k command (longer command c) (in_format before) (indicator before) e ∙ sym (indicator-is (named_longer n r c refl) before)
+    indicator-is n before ∙ (grind arith) ∙ sym (indicator-is (named_longer n r c refl) before)

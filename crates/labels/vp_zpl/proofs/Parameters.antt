@@ -1,11 +1,11 @@
 -- Parameters, by one byte more and at their end.
 use Rattle.std.proofs.lemmas.Grind.{common_steps}
-use Rattle.std.proofs.Common.{◌≡◌, ℕ, ◌+◌, ◌-◌, ◌<◌, ◌≤◌, ◌==◌, Bool, true, false, cond, zero, suc, List, [], ◌∷◌, ◌++◌, length, take, map, refl, ap, ◌∙◌, arith, nat_le}
+use Rattle.std.proofs.Common.{◌≡◌, ℕ, ◌+◌, ◌-◌, ◌<◌, ◌≤◌, true, false, cond, zero, suc, List, [], ◌∷◌, ◌++◌, length, take, map, refl, ap, ◌∙◌, arith, nat_le}
 use Rattle.std.proofs.lemmas.Bool.Decides.{nat_tests}
 use Rattle.std.proofs.lemmas.List.{map_push, take_all, length_push, length-take, length-map}
 use Rattle.vp_zpl.specs.Spelling.{is_comma, is_blank, ended, last, behind_commas, parameters, kept, kept_of, Kept}
 use Rattle.vp_zpl.specs.Commands.{is_whole, head}
-use Rattle.vp_zpl.proofs.Heads.{ended-push}
+use Rattle.vp_zpl.proofs.Heads.{ended-push, behind_later}
 
 -- the last parameter behind a byte more
 abbrev pub after : ℕ → List ℕ → List ℕ
@@ -43,20 +43,6 @@ comma_ended args = ended-push [] args 0x2C
 pub comma_last : (args : List ℕ) → last [] (args ++ 0x2C ∷ []) ≡ []
 comma_last args = last-push [] args 0x2C
 
-behind_within : (x y : Bool) (n : ℕ) (p args : List ℕ) (a : ℕ)
-    → ((m : ℕ) (q : List ℕ) → length (ended q args) + 1 ≤ m → behind_commas m (args ++ 0x2C ∷ []) ≡ [])
-    → length (cond x (p ∷ ended [] args) (cond y (ended p args) (ended (p ++ a ∷ []) args))) + 1 ≤ n
-    → cond x (behind_commas (n - 1) (args ++ 0x2C ∷ [])) (behind_commas n (args ++ 0x2C ∷ [])) ≡ []
-behind_within x y n p args a ih g = grind arith
-
--- behind a comma that ends the n-th parameter there is nothing
-pub behind_last : (n : ℕ) (p args : List ℕ) → length (ended p args) + 1 ≤ n → behind_commas n (args ++ 0x2C ∷ []) ≡ []
-behind_last n p [] h = let e : (n == 0) ≡ false = grind (arith, nat_tests) in ap (λ z. cond z (0x2C ∷ []) []) e
-behind_last n p (a ∷ args) h =
-    let e : (n == 0) ≡ false = grind (arith, nat_tests) in
-    ap (λ z. cond z (a ∷ args ++ 0x2C ∷ []) (cond (is_comma a) (behind_commas (n - 1) (args ++ 0x2C ∷ [])) (behind_commas n (args ++ 0x2C ∷ [])))) e
-    ∙ behind_within (is_comma a) (is_blank a) n p args a (λ m q g. behind_last m q args g) h
-
 -- a head is whole at its fourth comma
 pub record Completes (args : List ℕ) (sent : List Kept) : Type 0 where
   pub whole : is_whole (args ++ 0x2C ∷ []) ≡ true
@@ -77,4 +63,6 @@ few_whole args h = let l = few_kept (ended [] args) h in grind (arith, nat_tests
 
 pub completes : (args : List ℕ) (sent : List Kept) → is_whole args ≡ false → sent ≡ kept_of (ended [] (args ++ 0x2C ∷ [])) → 4 ≤ length sent → Completes args sent
 unfolding is_whole head kept_of
-completes args sent w e l = grind (arith, common_steps, not_whole_is, comma_ended, length_push, take_all, length-map, behind_last)
+completes args sent w e l =
+    let later = behind_later 4 [] args (0x2C ∷ []) in
+    grind (arith, common_steps, not_whole_is, comma_ended, length_push, take_all, length-map, later)

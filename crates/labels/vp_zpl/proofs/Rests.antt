@@ -1,11 +1,11 @@
 -- Whether a command has to be ended, by the phase.
-use Rattle.std.proofs.Common.{◌≡◌, ℕ, ◌==◌, Bool, true, false, ◌&&◌, ◌||◌, not, cond, List, ◌∷◌, refl, sym, ap, ◌∙◌, arith, nat_lt}
+use Rattle.std.proofs.Common.{◌≡◌, ℕ, Bool, true, false, ◌&&◌, ◌||◌, not, List, ◌∷◌, refl, arith, nat_lt}
 use Rattle.std.proofs.lemmas.Bool.Decides.{nat_tests}
 use Rattle.vp_zpl.specs.declared.name.Kind.{Kind}
 use Rattle.vp_zpl.specs.declared.name.Kind.TheVariants as kinds
 use Rattle.vp_zpl.specs.declared.reader.ZplReader.{ZplReader}
 use Rattle.vp_zpl.specs.declared.reader.Phase.{Phase}
-use Rattle.vp_zpl.specs.declared.reader.Phase.TheVariants.{Outside, AfterSign, AfterFirst, Skipping, Parameters, Text, AfterIndicator, AfterDigit, Codes, Binary}
+use Rattle.vp_zpl.specs.declared.reader.Phase.TheVariants.{Skipping, Parameters, Text, AfterIndicator, AfterDigit, Codes, Binary}
 use Rattle.vp_zpl.specs.Commands.{wants_binary, is_short, is_whole, is_b, head, in_format}
 use Rattle.vp_zpl.specs.Items.{is_within_one, goes_on_named}
 use Rattle.vp_zpl.specs.Reader.{Named, StandsIn, in_phase, rests_in, is_alone, has_parameters}
@@ -24,37 +24,29 @@ alone_stays k args e = grind arith
 parameters_go_on : (k : Kind) (args : List ℕ) → has_parameters k ≡ true → (k ≡ kinds.Graphic → is_whole args ≡ false) → goes_on_named k args ≡ true
 parameters_go_on k args t w = grind arith
 
-not_alone : (z : Bool) → not (false || (z && false)) ≡ true
-not_alone z = grind arith
-
-not_going : (z : Bool) → not (false || (z && true)) ≡ not z
-not_going z = grind arith
-
-binary_rests : (z : Bool) (left : ℕ) → (left == 0) ≡ not (nat_lt 0 left || (z && nat_lt 0 left))
-binary_rests z left = grind (arith, nat_tests)
-
 binary_on : (args : List ℕ) → is_whole args ≡ true → is_b (head args) ≡ true → goes_on_named kinds.Graphic args ≡ is_short args
 binary_on args w b = rw (w, b) refl
 
 -- by cases of the phase
 within_in : (q : Phase) (r : ZplReader) (command : List ℕ) (opened : Bool) → in_phase q r command → rests_in q opened ≡ not (is_within_one opened command)
 unfolding is_within_one
-within_in Outside r command opened e = rw e refl
-within_in (AfterSign s) r command opened e = rw e refl
-within_in (AfterFirst s a) r command opened e = rw e refl
 within_in Skipping r command opened h =
-    sym (ap not (within_is h.named opened false (wants_in Skipping r command h) ∙ ap (λ x. false || (opened && x)) (alone_stays h.kind h.args h.alone)) ∙ not_alone opened)
+    let on = alone_stays h.kind h.args h.alone in
+    grind (arith, on, within_is h.named opened false (wants_in Skipping r command h))
 within_in (Parameters k) r command opened h =
-    sym (ap not (within_is h.named opened false (wants_in (Parameters k) r command h) ∙ ap (λ x. false || (opened && x)) (parameters_go_on k h.args h.takes h.not_whole)) ∙ not_going opened)
-within_in Text r command opened h = sym (ap not (within_is h.named opened false (wants_in Text r command h)) ∙ not_going opened)
-within_in (AfterIndicator x) r command opened h = sym (ap not (within_is h.1.named opened false (wants_in (AfterIndicator x) r command h)) ∙ not_going opened)
-within_in (AfterDigit x d) r command opened h = sym (ap not (within_is h.1.named opened false (wants_in (AfterDigit x d) r command h)) ∙ not_going opened)
+    let on = parameters_go_on k h.args h.takes h.not_whole in
+    grind (arith, on, within_is h.named opened false (wants_in (Parameters k) r command h))
+within_in Text r command opened h = grind (arith, within_is h.named opened false (wants_in Text r command h))
+within_in (AfterIndicator x) r command opened h =
+    grind (arith, within_is h.1.named opened false (wants_in (AfterIndicator x) r command h))
+within_in (AfterDigit x d) r command opened h =
+    grind (arith, within_is h.1.named opened false (wants_in (AfterDigit x d) r command h))
 within_in Codes r command opened h =
-    sym (ap not (within_is h.named opened false (wants_in Codes r command h) ∙ ap (λ x. false || (opened && cond (is_whole h.args && x) (is_short h.args) true)) h.is_a
-    ∙ ap (λ x. false || (opened && cond (x && false) (is_short h.args) true)) h.whole) ∙ not_going opened)
+    grind (arith, within_is h.named opened false (wants_in Codes r command h))
 within_in (Binary left) r command opened h =
-    binary_rests opened left ∙ sym (ap not (within_is h.named opened (nat_lt 0 left) (wants_in (Binary left) r command h)
-    ∙ ap (λ x. nat_lt 0 left || (opened && x)) (binary_on h.args h.whole h.binary ∙ sym (wants-is h.named) ∙ wants_in (Binary left) r command h)))
+    let w = wants_in (Binary left) r command h in let i = within_is h.named opened (nat_lt 0 left) w in
+    grind (arith, nat_tests, i, binary_on h.args h.whole h.binary, wants-is h.named, w)
+within_in _ r command opened e = grind arith
 
 pub rests_is : (q : Phase) (r : ZplReader) (before : List (List ℕ)) (command : List ℕ) → StandsIn r before command → r.phase ≡ q
     → rests_in q r.in_format ≡ not (is_within_one (in_format (command ∷ before)) command)

@@ -18,13 +18,6 @@ pub record Step (x : ℕ) (bytes : List ℕ) (c : ℕ) : Type 0 where
   pub makes : known x (bytes ++ c ∷ []) ≡ known x bytes ++ out x (undecided x bytes) c
   pub leaves : undecided x (bytes ++ c ∷ []) ≡ left_by x (undecided x bytes) c
 
-step_by : (o : Option ℕ) (a : ℕ) (x c : ℕ) (u1 u2 k1 k2 K1 K2 U1 U2 : List ℕ)
-    → K1 ≡ k1 ++ out x u1 c → K2 ≡ k2 ++ out x u2 c → or_itself o K1 a K2 ≡ or_itself o k1 a k2 ++ out x (or_later o u1 u2) c
-step_by o a x c u1 u2 k1 k2 K1 K2 U1 U2 e f = grind arith
-
-leave_by : (o : Option ℕ) (x c : ℕ) (u1 u2 U1 U2 : List ℕ) → U1 ≡ left_by x u1 c → U2 ≡ left_by x u2 c → or_later o U1 U2 ≡ left_by x (or_later o u1 u2) c
-leave_by o x c u1 u2 U1 U2 e f = grind arith
-
 two : (x a b c : ℕ) → Step x (a ∷ b ∷ []) c
 unfolding spelled
 two x a b c = grind arith
@@ -33,7 +26,7 @@ pub step : (x : ℕ) (bytes : List ℕ) (c : ℕ) → Step x bytes c
 step x [] c = record { makes = refl; leaves = refl }
 step x (a ∷ []) c = grind arith
 step x (a ∷ b ∷ []) c = two x a b c
-step x (a ∷ b ∷ d ∷ more) c = grind (arith, step_by, leave_by, step x more c, step x (b ∷ d ∷ more) c)
+step x (a ∷ b ∷ d ∷ more) c = grind (arith, step x more c, step x (b ∷ d ∷ more) c)
 
 whole_by : (o : Option ℕ) (a : ℕ) (d1 d2 k1 k2 u1 u2 : List ℕ) → d1 ≡ k1 ++ u1 → d2 ≡ k2 ++ u2 → or_itself o d1 a d2 ≡ or_itself o k1 a k2 ++ or_later o u1 u2
 whole_by o a d1 d2 k1 k2 u1 u2 e f = grind arith

@@ -1,4 +1,4 @@
-use Rattle.std.proofs.Common.{◌≡◌, ◌∙◌, ◌≤◌, length, [], ◌∷◌, sym, ap, arith}
+use Rattle.std.proofs.Common.{◌≡◌, ◌∙◌, ◌≤◌, length, [], ◌∷◌, sym, ap, arith, subst}
 use Rattle.std.proofs.lemmas.List.{length-map}
 use Rattle.std.proofs.lemmas.Bool.Decides.{nat_tests}
 use Rattle.vp_zpl.specs.declared.reader.ZplReader.{ZplReader}
@@ -7,7 +7,6 @@ use Rattle.vp_zpl.specs.declared.name.Kind.TheVariants as kinds
 use Rattle.vp_zpl.specs.declared.reader.Event.TheVariants as events
 use Rattle.vp_zpl.specs.declared.reader.Phase.TheVariants as phases
 use Rattle.vp_zpl.specs.Items.{item_of}
-use Rattle.vp_zpl.proofs.Phases.{carry}
 use Rattle.vp_zpl.specs.Reader.{Goes, shown_event, behind_head}
 use Rattle.vp_zpl.proofs.Inside.{comma_goes, head_goes}
 use Rattle.vp_zpl.proofs.reader.ZplReader.comma.Goals as goal
@@ -33,7 +32,7 @@ returns c before command stands p =
     let shows : shown_event c.give.result new ≡ item_of kinds.Graphic r.sent.name ps ∷ [] =
     ap (λ x. shown_event x new) c.give.ensures.event ∙ ap (λ s. shown_event events.Given s) g ∙ ap (λ (s : ZplReader). item_of c.args.kind s.sent.name ps ∷ []) e
     ∙ ap (λ k. item_of k r.sent.name ps ∷ []) c.in-Graphic.is in
-    carry (λ i. Goes i new before command 0x2C) (item_of kinds.Graphic r.sent.name ps ∷ []) (shown_event c.give.result new) (sym shows)
+    subst (λ i. Goes i new before command 0x2C) (sym shows)
     (head_goes r new before command ps stands (p ∙ ap phases.Parameters c.in-Graphic.is)
     (ap (λ (s : ZplReader). s.sent.name) g ∙ ap (λ (s : ZplReader). s.sent.name) e) (ap (λ (s : ZplReader). s.in_format) g ∙ ap (λ (s : ZplReader). s.in_format) e)
     (ap (λ (s : ZplReader). s.indicator) g ∙ ap (λ (s : ZplReader). s.indicator) e)

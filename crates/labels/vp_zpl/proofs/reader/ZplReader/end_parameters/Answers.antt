@@ -1,10 +1,9 @@
-use Rattle.std.proofs.Common.{◌≡◌, ◌∙◌, ◌∷◌, [], sym, ap, refl}
+use Rattle.std.proofs.Common.{◌≡◌, ◌∙◌, ◌∷◌, [], sym, ap, refl, subst}
 use Rattle.vp_zpl.specs.declared.reader.ZplReader.{ZplReader}
 use Rattle.vp_zpl.specs.declared.reader.Event.TheVariants as events
 use Rattle.vp_zpl.specs.Items.{item_of}
 use Rattle.vp_zpl.specs.Shown.{shown_part, shown_parts}
 use Rattle.vp_zpl.specs.Reader.{Ends, at_sign, shown_event, indicator_with}
-use Rattle.vp_zpl.proofs.Phases.{carry}
 use Rattle.vp_zpl.proofs.Ends.{parameters_end}
 use Rattle.vp_zpl.proofs.reader.ZplReader.end_parameters.Goals as goal
 
@@ -17,8 +16,8 @@ returns c before command sign stands p =
     let opened : new.in_format ≡ c.end_parameter.new.self.in_format = ap (λ (s : ZplReader). s.in_format) g in
     let shows : shown_event c.give.result new ≡ item_of c.args.kind r.sent.name ps ∷ [] =
     ap (λ x. shown_event x new) c.give.ensures.event ∙ ap (λ s. shown_event events.Given (at_sign s sign)) g ∙ ap (λ (s : ZplReader). item_of c.args.kind s.sent.name ps ∷ []) e in
-    carry (λ i. Ends i new before command sign) (item_of c.args.kind r.sent.name ps ∷ []) (shown_event c.give.result new) (sym shows)
-    (carry (λ x. Ends (item_of c.args.kind r.sent.name x ∷ []) new before command sign) (shown_parts new.sent.parameters.items) ps kept_is
+    subst (λ i. Ends i new before command sign) (sym shows)
+    (subst (λ x. Ends (item_of c.args.kind r.sent.name x ∷ []) new before command sign) kept_is
     (parameters_end r new before command c.args.kind sign stands p
     (record { kept = kept_is ∙ c.end_parameter.ensures.kept; part = ap (λ (s : ZplReader). shown_part s.part) g ∙ c.end_parameter.ensures.part })
     (opened ∙ ap (λ (s : ZplReader). s.in_format) e) refl

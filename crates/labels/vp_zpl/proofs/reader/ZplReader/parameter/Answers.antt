@@ -1,13 +1,12 @@
-use Rattle.std.proofs.Common.{[], sym, refl, arith}
+use Rattle.std.proofs.Common.{[], sym, refl, arith, subst}
 use Rattle.std.proofs.lemmas.Bool.Decides.{nat_tests}
 use Rattle.vp_zpl.specs.Reader.{Goes}
 use Rattle.vp_zpl.proofs.Inside.{blank_goes, part_goes}
-use Rattle.vp_zpl.proofs.Phases.{carry}
 use Rattle.vp_zpl.proofs.reader.ZplReader.parameter.Goals as goal
 
 pub returns-then-byte-eq32 : goal.returns-then-byte-eq32
 returns-then-byte-eq32 c before command stands p =
-    carry (λ b. Goes [] c.args.self.now before command b) 0x20 c.args.byte (sym c.if-byte-eq32.true) (blank_goes c.args.self.now before command c.args.kind stands p)
+    subst (λ b. Goes [] c.args.self.now before command b) (sym c.if-byte-eq32.true) (blank_goes c.args.self.now before command c.args.kind stands p)
 
 pub returns-then-byte-ne44 : goal.returns-then-byte-ne44
 returns-then-byte-ne44 c before command stands p =

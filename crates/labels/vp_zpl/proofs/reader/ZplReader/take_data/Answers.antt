@@ -1,6 +1,6 @@
 use Rattle.std.proofs.Common.{refl, arith}
 use Rattle.vp_zpl.specs.Reader.{Stands}
-use Rattle.vp_zpl.proofs.Phases.{carry, at_phase, at_indicator}
+use Rattle.vp_zpl.proofs.Phases.{at_phase, at_indicator}
 use Rattle.vp_zpl.proofs.Runs.{front_is, fits, front_ran}
 use Rattle.vp_zpl.proofs.reader.ZplReader.take_data.Goals as goal
 
@@ -16,4 +16,4 @@ returns-clause-gives c bytes n stands few =
     (front_ran c.args.self.now.phase c.args.self.now n bytes c.args.input.now refl (omega (arith, c.front-n.ensures, few)) stands).gives
 
 pub returns-clause-stands : goal.returns-clause-stands
-returns-clause-stands c bytes stands = grind (arith, carry, front_ran)
+returns-clause-stands c bytes stands = grind (arith, front_ran)
