@@ -1,13 +1,11 @@
 -- Data of a known length.
-use Rattle.std.proofs.Common.{◌≡◌, ℕ, ◌+◌, ◌-◌, ◌*◌, true, false, ltb, eqb, Option, Some, Ok, List, [], ◌∷◌, ◌++◌, length, get_or, refl, sym, ap, subst, ◌∙◌, append_assoc, arith}
+use Rattle.std.proofs.Common.{◌≡◌, ℕ, ◌+◌, ◌-◌, ◌*◌, true, false, ltb, eqb, Some, Ok, List, [], ◌∷◌, ◌++◌, length, get_or, refl, sym, ap, subst, ◌∙◌, append_assoc, arith}
 use Rattle.std.proofs.lemmas.Grind.{common_steps}
-use Rattle.std.specs.Prelude.{option_to_list}
 use Rattle.std.proofs.lemmas.Bool.Decides.{nat_tests}
 use Rattle.arrayvec.specs.ArrayVec.{ArrayVec}
 use Rattle.vp_esc.specs.declared.item.EscItem.{EscItem}
 use Rattle.vp_esc.specs.declared.item.EscItem.TheVariants as items
 use Rattle.vp_esc.specs.declared.item.Lead.{Lead}
-use Rattle.vp_esc.specs.declared.item.RasterScale.{RasterScale}
 use Rattle.vp_esc.specs.declared.command.Command.{Command}
 use Rattle.vp_esc.specs.declared.command.Command.TheVariants.{Raster, Function, Graphics}
 use Rattle.vp_esc.specs.declared.reader.EscReader.{EscReader}
@@ -44,20 +42,13 @@ land_bytes r command kind left rest item final b enough counted l rows skipped s
       gives = λ more. behind more ∙ ap (λ xs. xs ++ data_items kind more) (sym g);
     }))
 
--- the items of one byte, and of one more
-pub one_item : (kind : Data) (c : ℕ) → data_items kind (c ∷ []) ≡ option_to_list (data_item kind c)
-one_item kind c = grind arith
-
-pub next_item : (kind : Data) (c : ℕ) (more : List ℕ) → data_items kind (c ∷ more) ≡ data_items kind (c ∷ []) ++ data_items kind more
-next_item kind c more = grind arith
-
 -- one byte of them
 pub bytes_step : (r : EscReader) (kind : Data) (left c : ℕ) (rest : List ℕ) → InBytes r kind left rest
     → Advances (Ok (data_item kind c)) rest c (record r { phase = bytes_or_ground kind (left - 1) })
 bytes_step r kind left c rest hand =
     let p : IsPushed hand.command hand.args left c = pushed hand.command hand.args left c hand.begun.listed hand.counted hand.left_is in
     advances_by _ c (data_item kind c) _ hand.begun p.listed p.needs
-    (hand.gives (c ∷ []) ∙ ap (λ xs. given_by r.lead r.name hand.command hand.args ++ xs) (one_item kind c))
+    (hand.gives (c ∷ []) ∙ ap (λ xs. given_by r.lead r.name hand.command hand.args ++ xs) (grind arith))
     (stands_before r (phases.Bytes kind (left - 1)) (left - 1) (rest ++ c ∷ []) (λ h. record {
       command = hand.command;
       args = hand.args ++ c ∷ [];
@@ -67,7 +58,7 @@ bytes_step r kind left c rest hand =
       rows = p.rows ∙ hand.rows;
       skipped = p.skipped ∙ hand.skipped;
       stored = λ more. ap (stores_bytes hand.command) (append_assoc hand.args (c ∷ []) more) ∙ hand.stored (c ∷ more);
-      gives = grind (arith, append_assoc, next_item);
+      gives = grind (arith, append_assoc);
     }))
 
 -- a byte of a raster
@@ -87,16 +78,13 @@ raster_given : (lead : Lead) (name z m xl xh yl yh : ℕ) (more : List ℕ)
 unfolding given_behind
 raster_given lead name z m xl xh yl yh more = given_is lead name Raster (z ∷ m ∷ xl ∷ xh ∷ yl ∷ yh ∷ more) (omega arith)
 
-none_stored : (scale : Option RasterScale) → false ≡ are_stored (raster_data scale)
-none_stored scale = grind arith
-
 pub land_raster : (r : EscReader) (z m xl xh yl yh left : ℕ) (rest : List ℕ) → Begun r.lead r.name Raster r.kept.items rest
     → r.kept.items ≡ z ∷ m ∷ xl ∷ xh ∷ yl ∷ yh ∷ [] → left ≡ (xl + 256 * xh) * (yl + 256 * yh)
     → Lands (Some (items.Raster (spelled m (scale_of m)) (xl + 256 * xh) (yl + 256 * yh))) rest
     (record r { phase = bytes_or_ground (raster_data (scale_of m)) left })
 land_raster r z m xl xh yl yh left rest b k l =
     let item : EscItem = items.Raster (spelled m (scale_of m)) (xl + 256 * xh) (yl + 256 * yh) in
-    land_bytes r Raster (raster_data (scale_of m)) left rest item r.kept b (rw k refl) refl (rw k l) (rw k (grind arith)) (rw k (grind arith)) (λ more. none_stored (scale_of m))
+    land_bytes r Raster (raster_data (scale_of m)) left rest item r.kept b (rw k refl) refl (rw k l) (rw k (grind arith)) (rw k (grind arith)) (λ more. grind arith)
     (rw k (raster_given r.lead r.name z m xl xh yl yh [] ∙ ap (λ xs. item ∷ xs) (grind arith)))
     (λ more. rw k (raster_given r.lead r.name z m xl xh yl yh more ∙ ap (λ xs. item ∷ xs) (grind arith)))
 

@@ -71,7 +71,7 @@ whole_next : (xs : List ℕ) (a b c : ℕ) → part_of_column xs ≡ a ∷ b ∷
 whole_next (x ∷ y ∷ z ∷ xs) a b c h = more_next x y z xs c _ _ (whole_next xs a b c h)
 whole_next xs a b c h = grind arith
 
-drop_push : (args : List ℕ) (c : ℕ) → 3 ≤ length args → drop 3 (args ++ c ∷ []) ≡ drop 3 args ++ c ∷ []
+pub drop_push : (args : List ℕ) (c : ℕ) → 3 ≤ length args → drop 3 (args ++ c ∷ []) ≡ drop 3 args ++ c ∷ []
 drop_push args c h = grind arith
 
 first_push : (args : List ℕ) (c : ℕ) → 3 ≤ length args → get_or (args ++ c ∷ []) 0 0 ≡ get_or args 0 0

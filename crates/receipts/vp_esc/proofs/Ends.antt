@@ -108,13 +108,7 @@ can_close (b ∷ bytes) o f = close_after (lead_of b) b bytes refl o f
 -- the first whole one of the fronts that go on from a rest is a unit
 unit_within : (more rest : List ℕ) → IsRest rest → is_unfinished (rest ++ more) ≡ false → (end : List ℕ) × IsUnit (rest ++ end)
 unit_within [] rest r e = let o : is_unfinished rest ≡ false = rw append-nil at e in let p : is_unfinished rest ≡ true = r.opens in cc
-unit_within (x ∷ more) rest r e = ⊎_elim
-    (λ (o : is_unfinished (rest ++ x ∷ []) ≡ true).
-    let next : IsRest (rest ++ x ∷ []) = record { opens = o; shortest = fronts_push rest x r } in
-    let w : (end : List ℕ) × IsUnit ((rest ++ x ∷ []) ++ end) = unit_within more (rest ++ x ∷ []) next (rw append_assoc e) in
-    (x ∷ w.0, rw append_assoc at w.1))
-    (λ (o : is_unfinished (rest ++ x ∷ []) ≡ false). (x ∷ [], record { whole = o; shortest = fronts_push rest x r }))
-    (cases_Bool (is_unfinished (rest ++ x ∷ [])))
+unit_within (x ∷ more) rest r e = grind (arith, fronts_push, append_assoc, unit_within more (rest ++ x ∷ []))
 
 pub completes_lem : (bytes : List ℕ) → fault_of bytes ≡ None → (end : List ℕ) × IsUnit ((split bytes).rest ++ end)
 unfolding fault_of

@@ -18,9 +18,6 @@ use Rattle.vp_esc.specs.Reader.{Begun, Advances, StandsIn, Lands}
 pub lead_of-lead_byte : (lead : Lead) → lead_of (lead_byte lead) ≡ Some lead
 lead_of-lead_byte lead = grind arith
 
-pub lead_byte-of : (b : ℕ) (lead : Lead) → lead_of b ≡ Some lead → lead_byte lead ≡ b
-lead_byte-of b lead e = grind (arith, nat_tests)
-
 -- a front that is a command with these arguments
 pub record Front (front : List ℕ) (lead : Lead) (name : ℕ) (command : Command) (args : List ℕ) : Type 0 where
   pub opens : is_unfinished front ≡ cond (is_listed command args) (needs_more command args) true
@@ -66,7 +63,9 @@ refuses {lead} {name} {command} {args} {rest} c new b l p =
 pub leads : (b : ℕ) (lead : Lead) (new : EscReader) → lead_of b ≡ Some lead → new.phase ≡ AfterLead → new.lead ≡ lead
     → Advances (Ok None) [] b new
 unfolding is_unfinished given fault_in
-leads b lead new e p q = record { gives = (rw e refl, rw e refl); stands = rw e (rw p (rw q (ap (λ x. x ∷ []) (sym (lead_byte-of b lead e))))) }
+leads b lead new e p q =
+    let l : lead_byte lead ≡ b = grind (arith, nat_tests) in
+    record { gives = (rw e refl, rw e refl); stands = rw e (rw p (rw q (ap (λ x. x ∷ []) (sym l)))) }
 
 -- a byte alone
 pub alone : (b : ℕ) (new : EscReader) → lead_of b ≡ None → new.phase ≡ Ground → Advances (Ok (Some (single_item b))) [] b new
@@ -90,11 +89,6 @@ lands_by {lead} {name} {command} {args} {front} more item new b n g s =
 pub stands_before : (r : EscReader) (x : Phase) (left : ℕ) (rest : List ℕ) → (0 < left → StandsIn (record r { phase = x }) rest)
     → StandsIn (record r { phase = cond (eqb left 0) Ground x }) (cond (ltb 0 left) rest [])
 stands_before r x left rest h = grind (arith, nat_tests)
-
--- nothing was given before
-pub advances_from_lands : (item : Option EscItem) (rest : List ℕ) (c : ℕ) (new : EscReader) → given rest ≡ []
-    → Lands item (rest ++ c ∷ []) new → Advances (Ok item) rest c new
-advances_from_lands item rest c new none l = record { gives = (l.fault, rw none l.gives); stands = l.stands }
 
 pub given_begun : {lead : Lead} {name : ℕ} {command : Command} {args rest : List ℕ} → Begun lead name command args rest
     → given_by lead name command args ≡ [] → given rest ≡ []

@@ -21,7 +21,7 @@ use Rattle.vp_esc.specs.Split.{split, items as items_of}
 use Rattle.vp_esc.specs.Laws.{Splits}
 use Rattle.vp_esc.proofs.Splits.{items-push, items-is}
 use Rattle.vp_esc.proofs.Divisions.{splits}
-use Rattle.vp_esc.proofs.Heads.{given_is, heads, IsHead, head_first}
+use Rattle.vp_esc.proofs.Heads.{given_is, heads, IsHead}
 
 -- items go on from others
 abbrev IsFrontOf : List EscItem → List EscItem → Type 0
@@ -112,7 +112,7 @@ by_command lead name k [] c n = from_nil _ _ (given_none lead name k n)
 by_command lead name k (a ∷ args) c n = ⊎_elim
     (λ (h : length (a ∷ args) < head_len k (a ∷ args)). let i : IsHead lead name k (a ∷ args) = heads lead name k (a ∷ args) h in from_nil _ _ i.gives)
     (λ (h : head_len k (a ∷ args) ≤ length (a ∷ args)).
-    let s : head_len k (a ∷ args ++ c ∷ []) ≤ length (a ∷ args ++ c ∷ []) = grind (arith, head_first, length_push) in
+    let s : head_len k (a ∷ args ++ c ∷ []) ≤ length (a ∷ args ++ c ∷ []) = grind (arith, length_push) in
     rw (given_is lead name k (a ∷ args) h, given_is lead name k (a ∷ args ++ c ∷ []) s) (behind_grows lead name k (a ∷ args) c h n))
     (cases_lt (length (a ∷ args)) (head_len k (a ∷ args)))
 

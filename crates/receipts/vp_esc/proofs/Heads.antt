@@ -12,9 +12,6 @@ use Rattle.vp_esc.specs.Reader.{HasLeft}
 pub head_small : (k : Command) (args : List ℕ) → head_len k args ≤ 8
 head_small k args = grind arith
 
-pub head_first : (k : Command) (f : ℕ) (xs ys : List ℕ) → head_len k (f ∷ xs) ≡ head_len k (f ∷ ys)
-head_first k f xs ys = grind arith
-
 -- one more argument is still in the head
 pub head_push : (k : Command) (args : List ℕ) (c : ℕ) → length args < head_len k args → length args + 1 ≤ head_len k (args ++ c ∷ [])
 head_push k args c h = grind (arith, common_steps)

@@ -9,25 +9,21 @@ use Rattle.vp_esc.specs.declared.item.Lead.{Lead}
 use Rattle.vp_esc.specs.declared.event.Event.{Event}
 use Rattle.vp_esc.specs.declared.event.Event.TheVariants.{Given}
 use Rattle.vp_esc.specs.declared.reader.EscReader.{EscReader}
-use Rattle.vp_esc.specs.declared.reader.Phase.{Phase}
 use Rattle.vp_esc.specs.Units.{unused}
 use Rattle.vp_esc.specs.Shown.{shown, shown_loan}
-use Rattle.vp_esc.specs.Reader.{in_phase, Advances, Lands}
+use Rattle.vp_esc.specs.Reader.{Advances, Lands}
 
 -- the reader with this item
 abbrev pub giving : EscReader → EscItem → EscReader
 giving r item = record r { item = item }
 
-stands_giving : (p : Phase) (r : EscReader) (item : EscItem) (rest : List ℕ) → in_phase p r rest → in_phase p (giving r item) rest
-stands_giving p r item rest h = grind arith
-
 pub advances_giving : (r : EscReader) (item : EscItem) {result : Result (Option EscItem) Fault} {rest : List ℕ} {c : ℕ}
     → Advances result rest c r → Advances result rest c (giving r item)
-advances_giving r item a = record { gives = a.gives; stands = stands_giving r.phase r item _ a.stands }
+advances_giving r item a = record { gives = a.gives; stands = (grind arith) }
 
 pub lands_giving : (r : EscReader) (item : EscItem) {given : Option EscItem} {front : List ℕ}
     → Lands given front r → Lands given front (giving r item)
-lands_giving r item l = record { fault = l.fault; gives = l.gives; stands = stands_giving r.phase r item _ l.stands }
+lands_giving r item l = record { fault = l.fault; gives = l.gives; stands = (grind arith) }
 
 pub lands_item : (r : EscReader) (item given : EscItem) {front : List ℕ} → item ≡ given
     → Lands (Some given) front r → Lands (Some item) front (giving r item)

@@ -11,8 +11,8 @@ use Rattle.vp_esc.specs.declared.reader.Data.{Data}
 use Rattle.vp_esc.specs.declared.reader.Phase.{Phase}
 use Rattle.vp_esc.specs.declared.reader.Phase.TheVariants as phases
 use Rattle.vp_esc.specs.Units.{stores_bytes, fault_in}
-use Rattle.vp_esc.specs.Reader.{Stands, in_phase, Begun, HasLeft, InBytes, InQr, are_rows, give_nothing, are_stored}
-use Rattle.vp_esc.specs.Runs.{left_in, left_before_last, text_in, raster_left, skipped_left, stored_left}
+use Rattle.vp_esc.specs.Reader.{Stands, in_phase, Begun, InBytes, InQr, are_rows, give_nothing, are_stored}
+use Rattle.vp_esc.specs.Runs.{left_in, left_before_last, raster_left, skipped_left, stored_left}
 use Rattle.vp_esc.proofs.Fronts.{lead_of-lead_byte}
 
 -- of the data of these kinds, by the phase
@@ -38,9 +38,6 @@ none_other : (is_meant : Command → List ℕ → Bool) {lead : Lead} {name : �
     → Begun lead name command args rest → is_meant command args ≡ false → left_in is_meant rest ≡ 0
 none_other is_meant b e = left_begun is_meant b ∙ rw e refl
 
-left_of : (command : Command) (args : List ℕ) (left : ℕ) → HasLeft command args left → left_before_last command args ≡ left - 1
-left_of command args left h = grind (arith, nat_tests)
-
 none_stopped : (is_meant : Command → List ℕ → Bool) (rest : List ℕ) (f : Fault) → fault_in rest ≡ Some f → left_in is_meant rest ≡ 0
 unfolding left_in fault_in
 none_stopped is_meant rest f e = grind arith
@@ -53,7 +50,8 @@ left_is is_meant are tied phases.AfterLead r rest h = rw h (rw lead_of-lead_byte
 left_is is_meant are tied (phases.Arguments command) r rest h = grind arith
 left_is is_meant are tied (phases.Stops last) r rest h = none_other is_meant h.begun (tied.stops _)
 left_is is_meant are tied (phases.Bytes kind left) r rest h =
-    left_begun is_meant h.begun ∙ rw (tied.bytes r kind left rest h) (ap (λ n. cond (are kind) n 0) (left_of h.command h.args left h.left_is))
+    left_begun is_meant h.begun
+    ∙ rw (tied.bytes r kind left rest h) (ap (λ n. cond (are kind) n 0) (grind (arith, nat_tests)))
 left_is is_meant are tied (phases.TallColumns left) r rest h = none_other is_meant h.begun (tied.columns _)
 left_is is_meant are tied (phases.Qr count left) r rest h = none_other is_meant h.begun (tied.qr r count left rest h)
 left_is is_meant are tied (phases.Stopped fault) r rest h = none_stopped is_meant rest fault h
@@ -76,7 +74,3 @@ stored_count r bytes n m s e = rw (left_is stores_bytes are_stored (record {
   qr = λ r count left rest hand. rw hand.is_qr (rw hand.not_stored refl);
   bytes = λ r kind left rest hand. ap (stores_bytes hand.command) (sym (append-nil hand.args)) ∙ hand.stored [];
 }) r.phase r _ s) e
-
--- text in a command
-pub no_text : (rest input : List ℕ) → (rest ≡ [] → ⊥) → text_in rest input ≡ 0
-no_text rest input some = grind arith

@@ -27,19 +27,6 @@ use Rattle.vp_esc.proofs.Named.{IsNamed}
 abbrev pub IsBytes : List ℕ → Type 0
 IsBytes bytes = AllByRecursion (λ b. b < 256) bytes
 
--- one line
-pub one_line : (lead : Lead) (bytes : List ℕ) (item : EscItem) → line_of item ≡ listed (lead_word lead) bytes → Lists lead bytes (map line_of (item ∷ []))
-one_line lead bytes item e =
-    record {
-      head = bytes;
-      word = [];
-      parts = [];
-      skipped = [];
-      bytes_are = sym (append-nil (bytes ++ []) ∙ append-nil bytes);
-      lines_are = ap (λ l. l ∷ []) e;
-      whole = λ s. refl;
-    }
-
 -- one line of a front
 pub front_line : (lead : Lead) (front rest bytes : List ℕ) (item : EscItem) → bytes ≡ front ++ rest → may_skip lead bytes ≡ true
     → line_of item ≡ listed (lead_word lead) front → Lists lead bytes (map line_of (item ∷ []))
@@ -59,6 +46,10 @@ pub part_lines : (lead : Lead) (head word bytes : List ℕ) (parts : List (List 
     → line_of item ≡ listed (lead_word lead) head → map line_of more ≡ map (λ part. listed word part) parts
     → Lists lead bytes (map line_of (item ∷ more))
 part_lines lead head word bytes parts item more b e f = grind (arith, append-nil)
+
+-- one line
+pub one_line : (lead : Lead) (bytes : List ℕ) (item : EscItem) → line_of item ≡ listed (lead_word lead) bytes → Lists lead bytes (map line_of (item ∷ []))
+one_line lead bytes item e = part_lines lead bytes [] bytes [] item [] (sym (append-nil bytes)) e refl
 
 pub two_is : (l h : ℕ) → l < 256 → h < 256 → two_bytes (l + 256 * h) ≡ l ∷ h ∷ []
 two_is l h p q = grind arith
@@ -80,20 +71,12 @@ unfolding singles
 all_singles [] = refl
 all_singles (b ∷ bytes) = ap (λ (t : List ℕ). b ∷ t) (all_singles bytes)
 
-column_lines : (bytes : List ℕ) → map line_of (map (λ b. items.Column8 b) bytes) ≡ map (λ part. listed (codes "column") part) (singles bytes)
+pub single_lines : (item : ℕ → EscItem) (word bytes : List ℕ)
+    → ((b : ℕ) → line_of (item b) ≡ listed word (b ∷ []))
+    → map line_of (map item bytes) ≡ map (λ part. listed word part) (singles bytes)
 unfolding singles
-column_lines [] = refl
-column_lines (b ∷ bytes) = ap (λ ls. listed (codes "column") (b ∷ []) ∷ ls) (column_lines bytes)
-
-pub raster_lines : (bytes : List ℕ) → map line_of (map (λ b. items.RasterByte b) bytes) ≡ map (λ part. listed (codes "byte") part) (singles bytes)
-unfolding singles
-raster_lines [] = refl
-raster_lines (b ∷ bytes) = ap (λ ls. listed (codes "byte") (b ∷ []) ∷ ls) (raster_lines bytes)
-
-pub stored_lines : (bytes : List ℕ) → map line_of (map (λ b. items.QrByte b) bytes) ≡ map (λ part. listed (codes "byte") part) (singles bytes)
-unfolding singles
-stored_lines [] = refl
-stored_lines (b ∷ bytes) = ap (λ ls. listed (codes "byte") (b ∷ []) ∷ ls) (stored_lines bytes)
+single_lines item word [] one = refl
+single_lines item word (b ∷ bytes) one = let e = one b in let more = single_lines item word bytes one in cc
 
 -- each three bytes in a line
 triples : List ℕ → List (List ℕ)
@@ -118,7 +101,9 @@ record InParts (bytes : List ℕ) (lines : List (List ℕ)) (word : List ℕ) : 
 columns_listed : (mode : ColumnMode) (bytes : List ℕ) (n : ℕ) → length bytes ≡ column_bytes mode * n → InParts bytes (map line_of (columns mode bytes)) (codes "column")
 columns_listed Single24 bytes n e = record { parts = triples bytes; bytes_are = sym (all_triples bytes n e); lines_are = triple_lines bytes }
 columns_listed Double24 bytes n e = record { parts = triples bytes; bytes_are = sym (all_triples bytes n e); lines_are = triple_lines bytes }
-columns_listed mode bytes n e = record { parts = singles bytes; bytes_are = sym (all_singles bytes); lines_are = column_lines bytes }
+columns_listed mode bytes n e =
+    let lines = single_lines items.Column8 (codes "column") bytes (λ b. refl) in
+    record { parts = singles bytes; bytes_are = sym (all_singles bytes); lines_are = lines }
 
 pub columns_list : (args : List ℕ) → IsColumns args → IsBytes args → Lists Esc (0x2A ∷ args) (map line_of (given_behind Esc 0x2A Columns args))
 unfolding given_behind
@@ -134,7 +119,8 @@ by_scale : (head dots : List ℕ) (m w n : ℕ) (scale : Option RasterScale) →
 by_scale head dots m w n None s e = front_line Gs head dots (head ++ dots) (items.Raster (spelled m None) w n) refl s e
 by_scale head dots m w n (Some scale) s e =
     part_lines Gs head (codes "byte") (head ++ dots) (singles dots) (items.Raster (spelled m (Some scale)) w n) (map (λ b. items.RasterByte b) dots)
-    (ap (λ (t : List ℕ). head ++ t) (sym (all_singles dots))) e (raster_lines dots)
+    (ap (λ (t : List ℕ). head ++ t) (sym (all_singles dots))) e
+    (single_lines items.RasterByte _ dots (λ b. refl))
 
 pub raster_list : (args : List ℕ) → IsRaster args → IsBytes args → Lists Gs (0x76 ∷ args) (map line_of (given_behind Gs 0x76 Raster args))
 unfolding given_behind

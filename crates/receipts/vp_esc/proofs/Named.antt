@@ -1,5 +1,5 @@
 -- The first two bytes of a command, by the command.
-use Rattle.std.proofs.Common.{◌≡◌, ℕ, Bool, true, false, cond, Option, Some, None, arith}
+use Rattle.std.proofs.Common.{◌≡◌, ℕ, Option, Some, None, arith}
 use Rattle.std.proofs.lemmas.Grind.{common_steps}
 use Rattle.std.proofs.lemmas.Bool.Decides.{nat_tests}
 use Rattle.std.proofs.lemmas.Bool.{eqb-true}
@@ -62,17 +62,11 @@ IsNamed Graphics = Is Gs 0x38
 none : {P : Type 0} {k : Command} → ◌≡◌ {A = Option Command} None (Some k) → P
 none e = cc
 
--- the same for a test of several names of commands without effect
-pass : (lead : Lead) (b : ℕ) (k x : Command) (t : Bool) (rest : Option Command) → IsNamed x lead b → (rest ≡ Some k → IsNamed k lead b)
-    → cond t (Some x) rest ≡ Some k → IsNamed k lead b
-pass lead b k x true rest here other e = grind arith
-pass lead b k x false rest here other e = other e
-
 esc_command_named : (b : ℕ) (k : Command) → esc_command b ≡ Some k → IsNamed k Esc b
 esc_command_named b k e = grind (arith, common_steps)
 
 gs_command_named : (b : ℕ) (k : Command) → gs_command b ≡ Some k → IsNamed k Gs b
-gs_command_named b k e = grind (arith, nat_tests, eqb-true, pass, none)
+gs_command_named b k e = grind (arith, nat_tests, eqb-true, none)
 
 -- each command is named so
 pub named_so : (lead : Lead) (name : ℕ) (k : Command) → command_of lead name ≡ Some k → IsNamed k lead name

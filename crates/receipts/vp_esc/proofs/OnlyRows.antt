@@ -1,5 +1,5 @@
 -- A unit is a row of the table.
-use Rattle.std.proofs.Common.{◌≡◌, ℕ, ◌≤◌, ◌<◌, ◌+◌, Bool, true, false, ◌&&◌, ◌||◌, cond, not, ltb, eqb, Option, None, Some, List, [], ◌∷◌, ◌++◌, length, refl, sym, ap, ◌∙◌, arith, ⊎_elim, inl, inr}
+use Rattle.std.proofs.Common.{◌≡◌, ℕ, ◌≤◌, ◌<◌, ◌+◌, Bool, true, false, ◌&&◌, cond, not, ltb, eqb, Option, None, Some, List, [], ◌∷◌, ◌++◌, length, refl, sym, ap, ◌∙◌, arith, ⊎_elim, inl, inr}
 use Rattle.std.proofs.lemmas.Grind.{common_steps}
 use Rattle.std.specs.List.{list_any}
 use Rattle.std.proofs.lemmas.List.{length_push}
@@ -15,7 +15,6 @@ use Rattle.vp_esc.specs.Units.{is_unfinished, needs_more, is_counted, is_short, 
 use Rattle.vp_esc.specs.Reader.{last_or}
 use Rattle.vp_esc.specs.Laws.{IsUnit}
 use Rattle.vp_esc.specs.Table.{IsPlain, IsArea, IsRaster, IsGraphics, IsStops, IsToZero, IsArguments, IsRow}
-use Rattle.vp_esc.proofs.Fronts.{lead_byte-of}
 use Rattle.vp_esc.proofs.Stops.{rises_push}
 use Rattle.vp_esc.proofs.Symbols.{no_zero_push}
 use Rattle.vp_esc.proofs.Heads.{same, needs_counted, head_push}
@@ -78,9 +77,6 @@ raster_row args s = grind (arith, common_steps)
 graphics_row : (args : List ℕ) → IsSized Graphics args → IsGraphics args
 graphics_row args s = grind (arith, common_steps)
 
-other_of : (a b : Bool) → (a || b) ≡ true → a ≡ false → b ≡ true
-other_of a b h e = grind arith
-
 -- Data whose end a byte tells.
 
 stops_row : (args : List ℕ) → IsWhole TabStops args → IsStops args
@@ -88,17 +84,17 @@ unfolding needs_more
 stops_row [] w = let d : true ≡ false = w.whole in cc
 stops_row (a ∷ args) w =
     let l : HasLast (a ∷ args) = last_of a args in
-    let n : (rises_from 0 l.front && ltb (length l.front) 32) ≡ true = w.fronts l.front l.last l.is in
-    let up : rises_from 0 l.front ≡ true = left_of _ _ n in
-    let few : ltb (length l.front) 32 ≡ true = right_of _ _ n in
+    let n = w.fronts l.front l.last l.is in
+    let both : (rises_from 0 l.front ≡ true) × (ltb (length l.front) 32 ≡ true) = grind (arith, n) in
     let d : (rises_from 0 (l.front ++ l.last ∷ []) && ltb (length (l.front ++ l.last ∷ [])) 32) ≡ false = ap (needs_more TabStops) (sym l.is) ∙ w.whole in
-    let p : rises_from 0 (l.front ++ l.last ∷ []) ≡ ltb (last_or 0 l.front) l.last = rises_push 0 l.front l.last ∙ rw up refl in
+    let p : rises_from 0 (l.front ++ l.last ∷ []) ≡ ltb (last_or 0 l.front) l.last = rises_push 0 l.front
+    l.last ∙ rw (both.0) refl in
     let len : length (l.front ++ l.last ∷ []) ≡ length l.front + 1 = length_push l.front l.last in
     record {
       stops = l.front;
       last = l.last;
       bytes = l.is;
-      rise = up;
+      rise = both.0;
       few = grind (arith, nat_tests);
       ends = ⊎_elim
           (λ (h : l.last < last_or 0 l.front + 1). inl (omega arith))
@@ -108,14 +104,6 @@ stops_row (a ∷ args) w =
           inr (grind (arith, nat_tests)))
           (cases_lt l.last (last_or 0 l.front + 1));
     }
-  where
-    left_of : (a b : Bool) → (a && b) ≡ true → a ≡ true
-    left_of true b h = refl
-    left_of false b h = cc
-
-    right_of : (a b : Bool) → (a && b) ≡ true → b ≡ true
-    right_of true b h = h
-    right_of false b h = cc
 
 zero_row : (args : List ℕ) → is_counted Symbol args ≡ false → IsWhole Symbol args → IsToZero args
 unfolding needs_more
@@ -146,9 +134,6 @@ arguments_of k args w = grind (arith, nil_of, area_row, cut_row, sensor_row, rea
 listed_of : (l n : Bool) → cond l n true ≡ false → (l ≡ true) × (n ≡ false)
 listed_of l n e = grind arith
 
-needs_of : (l n : Bool) → l ≡ true → cond l n true ≡ true → n ≡ true
-needs_of l n e h = grind arith
-
 listed_front : (k : Command) (front : List ℕ) (x : ℕ) → is_listed k (front ++ x ∷ []) ≡ true → is_listed k front ≡ true
 listed_front k front x l = grind arith
 
@@ -170,9 +155,9 @@ unit_named lead b name args (Some k) e f u =
         fronts = λ front x p.
             let o : is_unfinished (b ∷ name ∷ front) ≡ true = u.shortest (b ∷ name ∷ front) (x ∷ []) (ap (λ y. b ∷ name ∷ y) p) (λ q. cc q) in
             let n : cond (is_listed k front) (needs_more k front) true ≡ true = rw (e, f) at o in
-            needs_of (is_listed k front) (needs_more k front) (listed_front k front x (rw p at l.0)) n;
+            (grind arith);
       });
-      bytes_are = ap (λ y. y ∷ name ∷ args) (sym (lead_byte-of b lead e));
+      bytes_are = ap (λ y. y ∷ name ∷ args) (sym (grind (arith, nat_tests)));
     })
 
 unit_after : (o : Option Lead) (b : ℕ) (bytes : List ℕ) → lead_of b ≡ o → IsUnit (b ∷ bytes) → IsRow (b ∷ bytes)

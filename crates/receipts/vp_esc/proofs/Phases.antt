@@ -14,7 +14,7 @@ use Rattle.vp_esc.specs.declared.reader.Phase.TheVariants as phases
 use Rattle.vp_esc.specs.Command.{head_len, plain_len, lead_byte, command_of, is_listed, lists}
 use Rattle.vp_esc.specs.Units.{needs_more, given_by, given_behind, plain_item}
 use Rattle.vp_esc.specs.Reader.{Begun, Advances, Lands, InArguments}
-use Rattle.vp_esc.proofs.Fronts.{lands_by, refuses, advances_from_lands, given_begun, begun_longer, given_lead}
+use Rattle.vp_esc.proofs.Fronts.{lands_by, refuses, given_begun, begun_longer, given_lead}
 use Rattle.vp_esc.proofs.Heads.{head_small, head_push, IsHead, heads, given_is}
 
 pub nil_of : (xs : List ℕ) → length xs ≤ 0 → xs ≡ []
@@ -52,15 +52,11 @@ land_stops r rest b few =
     lands_by true None (record r { phase = phases.Stops 0 }) b (rw e refl) (rw e refl)
     (record { begun = b; rise = rw e refl; few = rw e (lit< tt); last_is = rw e refl })
 
-pub listed_push : (command : Command) (args : List ℕ) (c : ℕ) → (length args ≡ 0 → lists command c ≡ true)
-    → is_listed command args ≡ true → is_listed command (args ++ c ∷ []) ≡ true
-listed_push command args c h l = grind arith
-
 pub argument_lands : (r : EscReader) (command : Command) (rest : List ℕ) (c : ℕ) (kept : List ℕ) (item : Option EscItem) (new : EscReader)
     → InArguments r command rest → is_listed command (r.kept.items ++ c ∷ []) ≡ true → kept ≡ take 255 (r.kept.items ++ c ∷ [])
     → ((front : List ℕ) → Begun r.lead r.name command kept front → length kept ≤ head_len command kept → Lands item front new)
     → Advances (Ok item) rest c new
-argument_lands r command rest c kept item new hand l k lands = grind (arith, kept_whole, head_small, length_push, head_push, heads, begun_longer, advances_from_lands, given_begun)
+argument_lands r command rest c kept item new hand l k lands = grind (arith, kept_whole, head_small, length_push, head_push, heads, begun_longer, given_begun)
 
 pub argument_refused : (r : EscReader) (command : Command) (rest : List ℕ) (c b : ℕ) (new : EscReader)
     → InArguments r command rest → length r.kept.items ≤ 0 → lists command c ≡ false → b ≡ lead_byte r.lead
@@ -72,4 +68,4 @@ pub land_begun : (lead : Lead) (c : ℕ) (command : Command) (kept : List ℕ) (
     → command_of lead c ≡ Some command → kept ≡ []
     → ((front : List ℕ) → Begun lead c command kept front → length kept ≤ head_len command kept → Lands item front new)
     → Advances (Ok item) (lead_byte lead ∷ []) c new
-land_begun lead c command kept item new e k lands = grind (arith, advances_from_lands, given_lead)
+land_begun lead c command kept item new e k lands = grind (arith, given_lead)

@@ -18,6 +18,7 @@ use Rattle.vp_esc.specs.Reader.{Begun, Advances, Lands, InQr, bytes_or_ground, q
 use Rattle.vp_esc.proofs.Fronts.{lands_by, advances_by, stands_before, begun_longer}
 use Rattle.vp_esc.proofs.Heads.{given_is, needs_counted, IsPushed, pushed}
 use Rattle.vp_esc.proofs.Symbols.{take_255_push}
+use Rattle.vp_esc.proofs.Columns.{drop_push}
 
 -- what a byte adds from the second value on
 abbrev pub added : ℕ → ℕ → ℕ → List EscItem
@@ -80,9 +81,6 @@ record IsQr (args : List ℕ) (count : ℕ) : Type 0 where
   pub bytes : args ≡ 107 ∷ pl ∷ ph ∷ drop 3 args
   pub count_is : count ≡ pl + 256 * ph
 
-drop_push : (args : List ℕ) (c : ℕ) → 3 ≤ length args → drop 3 (args ++ c ∷ []) ≡ drop 3 args ++ c ∷ []
-drop_push args c h = grind arith
-
 front_push : (args : List ℕ) (c : ℕ) → 3 ≤ length args
     → (get_or (args ++ c ∷ []) 0 0 ≡ get_or args 0 0) × (get_or (args ++ c ∷ []) 1 0 + 256 * get_or (args ++ c ∷ []) 2 0 ≡ get_or args 1 0 + 256 * get_or args 2 0)
 front_push args c h = grind (arith, common_steps)
@@ -98,10 +96,6 @@ qr_given_next lead name count args c xs q h = grind (arith, qr_given_is)
 -- The first values tell whether those behind them are stored.
 store_front : (values : List ℕ) → begins_store (take 255 values) ≡ begins_store values
 store_front values = grind arith
-
--- the third value begins them
-begins_here : (values : List ℕ) (c : ℕ) → begins_store values ≡ false → begins_store (values ++ c ∷ []) ≡ true → values ++ c ∷ [] ≡ 49 ∷ 80 ∷ 48 ∷ []
-begins_here values c u h = grind (arith, nat_tests)
 
 -- what the bytes behind them give
 stored_given : (count : ℕ) (more : List ℕ) → 4 ≤ count → qr_items count (49 ∷ 80 ∷ 48 ∷ more) ≡ items.QrStore (count - 3) ∷ map (λ b. items.QrByte b) more
@@ -128,7 +122,7 @@ qr_step r count left c rest item final hand given k =
     by_values (begins_store final.items)
     (λ stored.
     let values : drop 3 hand.args ++ c ∷ [] ≡ 49 ∷ 80 ∷ 48 ∷ [] =
-    begins_here (drop 3 hand.args) c hand.not_stored (ap begins_store (sym (drop_push hand.args c enough)) ∙ sym begins ∙ stored) in
+    grind (arith, nat_tests) in
     let bytes : hand.args ++ c ∷ [] ≡ 107 ∷ q.pl ∷ q.ph ∷ 49 ∷ 80 ∷ 48 ∷ [] =
     ap (λ xs. xs ++ c ∷ []) q.bytes ∙ ap (λ xs. 107 ∷ q.pl ∷ q.ph ∷ xs) values in
     advances_by _ c item _ hand.begun p.listed p.needs g

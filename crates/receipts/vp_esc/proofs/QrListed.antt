@@ -17,7 +17,7 @@ use Rattle.vp_esc.specs.Units.{given_behind}
 use Rattle.vp_esc.specs.Lines.{two_bytes, line_of}
 use Rattle.vp_esc.specs.Listings.{Lists}
 use Rattle.vp_esc.specs.Table.{IsFunction}
-use Rattle.vp_esc.proofs.Listed.{IsBytes, one_line, front_line, part_lines, two_is, singles, all_singles, stored_lines}
+use Rattle.vp_esc.proofs.Listed.{IsBytes, one_line, front_line, part_lines, two_is, singles, all_singles, single_lines}
 
 -- a count and its two bytes
 record IsCount (p pl ph : ℕ) : Type 0 where
@@ -79,7 +79,8 @@ module _ (p pl ph cn n : ℕ) (c : IsCount p pl ph) where
           ∙ ap (λ (xs : List ℕ). listed (codes "gs") (0x28 ∷ 0x6B ∷ (xs ++ 49 ∷ 80 ∷ 48 ∷ []))) c.bytes ∙ rw (n0, c0) refl in
           rw t (part_lines Gs (0x28 ∷ 0x6B ∷ pl ∷ ph ∷ cn ∷ 80 ∷ n ∷ []) (codes "byte") (0x28 ∷ 0x6B ∷ pl ∷ ph ∷ cn ∷ 80 ∷ n ∷ more) (singles more)
           (items.QrStore (p - 3)) (map (λ b. items.QrByte b) more)
-          (ap (λ (xs : List ℕ). 0x28 ∷ 0x6B ∷ pl ∷ ph ∷ cn ∷ 80 ∷ n ∷ xs) (sym (all_singles more))) head (stored_lines more))
+          (ap (λ (xs : List ℕ). 0x28 ∷ 0x6B ∷ pl ∷ ph ∷ cn ∷ 80 ∷ n ∷ xs) (sym (all_singles more))) head
+          (single_lines items.QrByte _ more (λ b. refl)))
       by_value false t = rw t (ignored_list p pl ph (cn ∷ 80 ∷ n ∷ []) more c)
 
   print_list : (more : List ℕ) → is_qr_function cn 81 p ≡ true → length more + 3 ≡ p
@@ -93,15 +94,12 @@ module _ (p pl ph cn n : ℕ) (c : IsCount p pl ph) where
   unfolding ValueListed value_items
   value_list function more f l = grind (arith, eqb-true, model_list, module_list, level_list, store_list, print_list, and_parts)
 
-no_function : (cn function : ℕ) → is_qr_function cn function 2 ≡ false
-no_function cn function = grind (arith, nat_tests)
-
 qr_list : (p pl ph : ℕ) (ps : List ℕ) → IsCount p pl ph → length ps ≡ p → Lists Gs (0x28 ∷ 0x6B ∷ pl ∷ ph ∷ ps) (map line_of (qr_items p ps))
 unfolding qr_items ValueListed
 qr_list p pl ph [] c l = let e : eqb p 0 ≡ true = grind (arith, nat_tests) in rw e (ignored_list p pl ph [] [] c)
 qr_list p pl ph (cn ∷ []) c l = let e : eqb p 1 ≡ true = grind (arith, nat_tests) in rw e (ignored_list p pl ph (cn ∷ []) [] c)
 qr_list p pl ph (cn ∷ function ∷ []) c l =
-    let e : is_qr_function cn function p ≡ false = grind (arith, no_function) in
+    let e : is_qr_function cn function p ≡ false = grind (arith) in
     rw e (ignored_list p pl ph (cn ∷ function ∷ []) [] c)
 qr_list p pl ph (cn ∷ function ∷ n ∷ more) c l = by_function (is_qr_function cn function p) refl
   where

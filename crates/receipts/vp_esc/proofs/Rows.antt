@@ -1,21 +1,20 @@
 -- Each row of the table is a unit.
-use Rattle.std.proofs.Common.{◌≡◌, ◌≢◌, ℕ, ◌≤◌, ◌<◌, ◌+◌, true, false, Some, List, [], ◌∷◌, ◌++◌, length, refl, sym, ap, ◌∙◌, arith, ⊎_elim}
+use Rattle.std.proofs.Common.{◌≡◌, ◌≢◌, ℕ, ◌≤◌, ◌+◌, true, false, Some, List, [], ◌∷◌, ◌++◌, length, refl, sym, ◌∙◌, arith, ⊎_elim}
 use Rattle.std.proofs.lemmas.Grind.{common_steps}
 use Rattle.std.proofs.lemmas.List.{length-append, length_push}
 use Rattle.std.proofs.lemmas.List.Folds.{list_any-append}
-use Rattle.std.proofs.lemmas.Bool.{cases_lt}
 use Rattle.std.proofs.lemmas.Bool.Decides.{nat_tests}
 use Rattle.vp_esc.specs.declared.item.Lead.{Lead}
 use Rattle.vp_esc.specs.declared.item.Lead.TheVariants.{Esc}
 use Rattle.vp_esc.specs.declared.command.Command.{Command}
-use Rattle.vp_esc.specs.declared.command.Command.TheVariants.{Plain, TabStops, Columns, Raster, Symbol, Function, Graphics}
+use Rattle.vp_esc.specs.declared.command.Command.TheVariants.{Plain, TabStops, Symbol}
 use Rattle.vp_esc.specs.Command.{lead_byte, command_of, head_len, is_listed}
 use Rattle.vp_esc.specs.Units.{is_unfinished, needs_more, is_counted, data_len, rises_from}
 use Rattle.vp_esc.specs.Laws.{IsUnit}
 use Rattle.vp_esc.specs.Table.{IsStops, IsToZero, IsCountedSymbol, IsArguments, IsCommand, IsAlone, IsRow}
 use Rattle.vp_esc.proofs.Fronts.{front_is, lead_of-lead_byte}
 use Rattle.vp_esc.proofs.Stops.{rises_push}
-use Rattle.vp_esc.proofs.Heads.{IsSame, same, needs_counted, heads, IsHead}
+use Rattle.vp_esc.proofs.Heads.{same, needs_counted, heads}
 use Rattle.vp_esc.proofs.Divisions.{front_of_push}
 
 -- a front needs more
@@ -42,25 +41,11 @@ counted_front k front more h e = grind (arith, common_steps)
 
 sized_short : (k : Command) (args front more : List ℕ) → IsSized k args → args ≡ front ++ more → more ≢ [] → IsShort k front
 sized_short k args front more s e n =
-    let l : length front < length args = grind (arith, common_steps) in
-    record {
-      listed = listed_front k args front more e s.listed;
-      needs = ⊎_elim
-          (λ (h : length front < head_len k front). let i : IsHead Esc 0 k front = heads Esc 0 k front h in i.needs)
-          (λ (h : head_len k front ≤ length front).
-          let c : is_counted k front ≡ true = counted_front k front more h (rw e at s.counted) in
-          let i : IsSame k front more = same k front more c h in
-          let a : head_len k args ≡ head_len k front = ap (head_len k) e ∙ i.head in
-          let b : data_len k args ≡ data_len k front = ap (data_len k) e ∙ i.count in
-          needs_counted k front c ∙ grind (arith, nat_tests, s.len))
-          (cases_lt (length front) (head_len k front));
-    }
+    let h = heads Esc 0 k front in
+    grind (arith, common_steps, listed_front, h, counted_front, same k front more, needs_counted, nat_tests)
 
 sized_done : (k : Command) (args : List ℕ) → IsSized k args → IsDone k args
 sized_done k args s = record { listed = s.listed; needs = needs_counted k args s.counted ∙ grind (arith, nat_tests, s.len) }
-
-sized_symbol : (args : List ℕ) → IsCountedSymbol args → IsSized Symbol args
-sized_symbol args h = grind arith
 
 -- Tab stops.
 
@@ -91,26 +76,20 @@ zero_done args z = grind (arith, common_steps)
 arguments_short : (k : Command) (args front more : List ℕ) → IsArguments k args → args ≡ front ++ more → more ≢ [] → IsShort k front
 arguments_short (Plain p) args front more a e n = sized_short (Plain p) args front more (grind (arith, nat_tests)) e n
 arguments_short TabStops args front more a e n = stops_short args front more a e n
-arguments_short Columns args front more a e n = sized_short Columns args front more (grind arith) e n
-arguments_short Raster args front more a e n = sized_short Raster args front more (grind arith) e n
 arguments_short Symbol args front more a e n = ⊎_elim
     (λ (z : IsToZero args). zero_short args front more z e n)
-    (λ (z : IsCountedSymbol args). sized_short Symbol args front more (sized_symbol args z) e n)
+    (λ (z : IsCountedSymbol args). sized_short Symbol args front more (grind arith) e n)
     a
-arguments_short Function args front more a e n = sized_short Function args front more (grind arith) e n
-arguments_short Graphics args front more a e n = sized_short Graphics args front more (grind arith) e n
+arguments_short k args front more a e n = sized_short k args front more (grind arith) e n
 
 arguments_done : (k : Command) (args : List ℕ) → IsArguments k args → IsDone k args
 arguments_done (Plain p) args a = sized_done (Plain p) args (grind (arith, nat_tests))
 arguments_done TabStops args a = stops_done args a
-arguments_done Columns args a = sized_done Columns args (grind arith)
-arguments_done Raster args a = sized_done Raster args (grind arith)
 arguments_done Symbol args a = ⊎_elim
     (λ (z : IsToZero args). zero_done args z)
-    (λ (z : IsCountedSymbol args). sized_done Symbol args (sized_symbol args z))
+    (λ (z : IsCountedSymbol args). sized_done Symbol args (grind arith))
     a
-arguments_done Function args a = sized_done Function args (grind arith)
-arguments_done Graphics args a = sized_done Graphics args (grind arith)
+arguments_done k args a = sized_done k args (grind arith)
 
 row_fronts : (lead : Lead) (name : ℕ) (k : Command) (args : List ℕ) → command_of lead name ≡ Some k → IsArguments k args
     → (front more : List ℕ) → lead_byte lead ∷ name ∷ args ≡ front ++ more → more ≢ [] → is_unfinished front ≡ true
@@ -135,11 +114,9 @@ alone_is_unit bytes a =
   where
     no_front : (front more : List ℕ) → a.byte ∷ [] ≡ front ++ more → more ≢ [] → is_unfinished front ≡ true
     no_front [] more e n = refl
-    no_front (x ∷ front) more e n = let t : [] ≡ front ++ more = cc in absurd (n (nil_end front more (sym t)))
-      where
-        nil_end : (xs ys : List ℕ) → xs ++ ys ≡ [] → ys ≡ []
-        nil_end [] ys e = e
-        nil_end (x ∷ xs) ys e = cc
+    no_front (x ∷ []) [] e n = absurd (n refl)
+    no_front (x ∷ []) (y ∷ more) e n = cc
+    no_front (x ∷ y ∷ front) more e n = cc
 
 -- each row of the table is a unit
 pub row_is_unit : (bytes : List ℕ) → IsRow bytes → IsUnit bytes

@@ -1,6 +1,5 @@
 -- Bytes of data, one after another.
 use Rattle.std.proofs.Common.{◌≡◌, ℕ, ◌-◌, ◌<◌, ◌≤◌, eqb, false, List, [], ◌∷◌, ◌++◌, length, take, None, Ok, sym, ap, subst, ◌∙◌, append_assoc, arith}
-use Rattle.std.proofs.lemmas.Grind.{common_steps}
 use Rattle.std.proofs.lemmas.Bool.Decides.{nat_tests}
 use Rattle.std.proofs.lemmas.List.{append-nil, length-take-le}
 use Rattle.vp_esc.specs.declared.item.EscItem.{EscItem}
@@ -10,8 +9,9 @@ use Rattle.vp_esc.specs.declared.reader.Phase.{Phase}
 use Rattle.vp_esc.specs.declared.reader.Phase.TheVariants.{Bytes}
 use Rattle.vp_esc.specs.Split.{split, items, fault_of}
 use Rattle.vp_esc.specs.Reader.{Stands, Gives, data_item, data_items}
-use Rattle.vp_esc.proofs.Bytes.{bytes_step, one_item, next_item}
+use Rattle.vp_esc.proofs.Bytes.{bytes_step}
 use Rattle.vp_esc.proofs.Splits.{gives-from_advances, stands-from_advances}
+use Rattle.vp_esc.proofs.Texts.{known_on}
 
 -- a reader before so many bytes of data
 abbrev pub before_bytes : EscReader → Data → ℕ → EscReader
@@ -31,7 +31,7 @@ next r kind left bytes b s h =
     let g : Gives (Ok (data_item kind b)) (items bytes) (items (bytes ++ b ∷ [])) (fault_of (bytes ++ b ∷ [])) = gives-from_advances _ bytes b _ a in
     let z : eqb (left - 1) 0 ≡ false = grind (arith, nat_tests) in
     record {
-      gives = g.1 ∙ ap (λ (given : List EscItem). items bytes ++ given) (sym (one_item kind b));
+      gives = g.1 ∙ ap (λ (given : List EscItem). items bytes ++ given) (sym (grind arith));
       known = g.0;
       stands = stands-from_advances _ bytes b _ (rw z at a);
     }
@@ -42,9 +42,6 @@ pub record Runs (r : EscReader) (kind : Data) (left : ℕ) (bytes xs : List ℕ)
   pub known : 0 < length xs → fault_of (bytes ++ xs) ≡ None
   pub stands : Stands (before_bytes r kind (left - length xs)) (bytes ++ xs)
 
-known_on : (bytes xs : List ℕ) → fault_of bytes ≡ None → (0 < length xs → fault_of (bytes ++ xs) ≡ None) → fault_of (bytes ++ xs) ≡ None
-known_on bytes xs e h = grind (arith, common_steps)
-
 pub runs : (r : EscReader) (kind : Data) (left : ℕ) (bytes xs : List ℕ) → Stands (before_bytes r kind left) bytes → length xs ≤ left - 1
     → Runs r kind left bytes xs
 runs r kind left bytes [] s h = grind (arith, append-nil)
@@ -53,7 +50,7 @@ runs r kind left bytes (b ∷ xs) s h =
     let more = runs r kind (left - 1) (bytes ++ b ∷ []) xs one.stands (omega arith) in
     let all : (bytes ++ b ∷ []) ++ xs ≡ bytes ++ b ∷ xs = append_assoc bytes (b ∷ []) xs in
     record {
-      gives = grind (arith, append_assoc, next_item);
+      gives = grind (arith, append_assoc);
       known = λ some. ap fault_of (sym all) ∙ known_on (bytes ++ b ∷ []) xs one.known more.known;
       stands = grind (arith, before_bytes);
     }

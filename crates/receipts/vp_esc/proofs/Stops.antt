@@ -1,5 +1,5 @@
 -- Tab stops.
-use Rattle.std.proofs.Common.{◌≡◌, ℕ, ◌-◌, ◌<◌, ◌≤◌, Bool, true, false, ◌&&◌, ltb, Some, None, Ok, List, [], ◌∷◌, ◌++◌, length, take, get_or, refl, ap, ◌∙◌, arith}
+use Rattle.std.proofs.Common.{◌≡◌, ℕ, ◌-◌, ◌<◌, ◌≤◌, true, false, ◌&&◌, ltb, Some, None, Ok, List, [], ◌∷◌, ◌++◌, length, take, get_or, refl, ap, ◌∙◌, arith}
 use Rattle.std.proofs.lemmas.Bool.Decides.{nat_tests}
 use Rattle.std.proofs.lemmas.List.{take_at, length_push}
 use Rattle.arrayvec.specs.ArrayVec.{ArrayVec}
@@ -14,12 +14,9 @@ use Rattle.vp_esc.proofs.Fronts.{advances_by, begun_longer}
 use Rattle.vp_esc.proofs.Heads.{given_is}
 use Rattle.vp_esc.proofs.Phases.{kept_whole}
 
-and_assoc : (a b c : Bool) → (a && (b && c)) ≡ ((a && b) && c)
-and_assoc a b c = grind arith
-
 pub rises_push : (last : ℕ) (ns : List ℕ) (c : ℕ) → rises_from last (ns ++ c ∷ []) ≡ (rises_from last ns && ltb (last_or last ns) c)
 rises_push last [] c = grind arith
-rises_push last (n ∷ ns) c = ap (λ b. ltb last n && b) (rises_push n ns c) ∙ and_assoc (ltb last n) _ _
+rises_push last (n ∷ ns) c = ap (λ b. ltb last n && b) (rises_push n ns c) ∙ (grind arith)
 
 last_or_push : (last : ℕ) (ns : List ℕ) (c : ℕ) → c ≡ last_or last (ns ++ c ∷ [])
 last_or_push last [] c = refl
@@ -40,10 +37,10 @@ unfolding needs_more given_behind
 stops_more r last c rest kept hand less k few =
     let w : kept.items ≡ r.kept.items ++ c ∷ [] = k ∙ kept_whole r.kept.items c (omega (arith, hand.few)) in
     let up : rises_from 0 (r.kept.items ++ c ∷ []) ≡ true = grind (arith, rises_push, nat_tests, hand.last_is) in
-    let m : ltb (length (r.kept.items ++ c ∷ [])) 32 ≡ true = grind (arith, nat_tests) in
-    let n : (rises_from 0 (r.kept.items ++ c ∷ []) && ltb (length (r.kept.items ++ c ∷ [])) 32) ≡ true = rw (up, m) refl in
-    let m' : ltb (length r.kept.items) 32 ≡ true = grind (arith, nat_tests, hand.few) in
-    let n' : (rises_from 0 r.kept.items && ltb (length r.kept.items) 32) ≡ true = rw (hand.rise, m') refl in
+    let n : (rises_from 0 (r.kept.items ++ c ∷ []) && ltb (length (r.kept.items ++ c ∷ [])) 32) ≡ true =
+    grind (arith, nat_tests) in
+    let n' : (rises_from 0 r.kept.items && ltb (length r.kept.items) 32) ≡ true =
+    grind (arith, nat_tests, hand.rise, hand.few) in
     let new : EscReader = record r { phase = phases.Stops c; kept = kept } in
     let longer_begun : Begun r.lead r.name TabStops kept.items (rest ++ c ∷ []) = grind (arith, begun_longer, listed_stops) in
     advances_by true c None new hand.begun (listed_stops (r.kept.items ++ c ∷ [])) n (grind (arith, given_is))
@@ -58,12 +55,11 @@ stops_full r last c rest kept stops hand less k many same =
     let w : kept.items ≡ r.kept.items ++ c ∷ [] = k ∙ kept_whole r.kept.items c (omega (arith, hand.few)) in
     let l : 32 ≤ length (r.kept.items ++ c ∷ []) = rw (← w) many in
     let no_more : length kept.items ≤ 32 = rw w (omega (arith, hand.few, length_push r.kept.items c)) in
-    let b : ltb (last_or 0 r.kept.items) c ≡ true = grind (arith, nat_tests, hand.last_is) in
-    let up : rises_from 0 (r.kept.items ++ c ∷ []) ≡ true = rises_push 0 r.kept.items c ∙ rw (hand.rise, b) refl in
-    let m : ltb (length (r.kept.items ++ c ∷ [])) 32 ≡ false = grind (arith, nat_tests) in
-    let n : (rises_from 0 (r.kept.items ++ c ∷ []) && ltb (length (r.kept.items ++ c ∷ [])) 32) ≡ false = rw (up, m) refl in
-    let m' : ltb (length r.kept.items) 32 ≡ true = grind (arith, nat_tests, hand.few) in
-    let n' : (rises_from 0 r.kept.items && ltb (length r.kept.items) 32) ≡ true = rw (hand.rise, m') refl in
+    let up : rises_from 0 (r.kept.items ++ c ∷ []) ≡ true = grind (arith, rises_push, nat_tests, hand.last_is) in
+    let n : (rises_from 0 (r.kept.items ++ c ∷ []) && ltb (length (r.kept.items ++ c ∷ [])) 32) ≡ false =
+    grind (arith, nat_tests) in
+    let n' : (rises_from 0 r.kept.items && ltb (length r.kept.items) 32) ≡ true =
+    grind (arith, nat_tests, hand.rise, hand.few) in
     advances_by false c (Some (items.TabStops stops None)) (record r { phase = phases.Ground; kept = kept }) hand.begun
     (listed_stops (r.kept.items ++ c ∷ [])) n
     (grind (arith, given_is)) refl
@@ -76,8 +72,8 @@ unfolding needs_more given_behind
 stops_end r last c rest stops hand less same =
     let up : rises_from 0 (r.kept.items ++ c ∷ []) ≡ false = grind (arith, rises_push, nat_tests, hand.last_is) in
     let n : (rises_from 0 (r.kept.items ++ c ∷ []) && ltb (length (r.kept.items ++ c ∷ [])) 32) ≡ false = rw up refl in
-    let m' : ltb (length r.kept.items) 32 ≡ true = grind (arith, nat_tests, hand.few) in
-    let n' : (rises_from 0 r.kept.items && ltb (length r.kept.items) 32) ≡ true = rw (hand.rise, m') refl in
+    let n' : (rises_from 0 r.kept.items && ltb (length r.kept.items) 32) ≡ true =
+    grind (arith, nat_tests, hand.rise, hand.few) in
     let len : length (r.kept.items ++ c ∷ []) - 1 ≡ length r.kept.items = omega (arith, length_push r.kept.items c) in
     let s : stops.items ≡ r.kept.items = same (omega (arith, hand.few)) in
     let t : take (length (r.kept.items ++ c ∷ []) - 1) (r.kept.items ++ c ∷ []) ≡ stops.items = grind (arith, take, length, take_at) in

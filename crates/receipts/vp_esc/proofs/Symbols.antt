@@ -1,14 +1,12 @@
 -- The data of symbols.
-use Rattle.std.proofs.Common.{◌≡◌, ◌≢◌, ℕ, ◌+◌, ◌-◌, ◌<◌, ◌≤◌, Bool, true, false, cond, ◌||◌, eqb, ltb, Option, Some, None, Ok, List, [], ◌∷◌, ◌++◌, length, take, get_or, refl, sym, ap, ◌∙◌, arith, ⊎_elim}
+use Rattle.std.proofs.Common.{◌≡◌, ◌≢◌, ℕ, ◌+◌, ◌-◌, ◌<◌, ◌≤◌, Bool, true, false, cond, ◌||◌, eqb, ltb, Some, None, Ok, List, [], ◌∷◌, ◌++◌, length, take, get_or, refl, sym, ap, ◌∙◌, arith, ⊎_elim}
 use Rattle.std.proofs.lemmas.Grind.{common_steps}
 use Rattle.std.proofs.lemmas.Bool.{cases_lt}
 use Rattle.std.specs.List.{list_any}
-use Rattle.std.specs.Prelude.{option_to_list}
 use Rattle.std.proofs.lemmas.Bool.Decides.{nat_tests}
 use Rattle.std.proofs.lemmas.List.{take_all, take_at, take-append-le, length_push, length-take, length-take-le}
 use Rattle.std.proofs.lemmas.List.Folds.{list_any-append}
 use Rattle.arrayvec.specs.ArrayVec.{ArrayVec}
-use Rattle.vp_esc.specs.declared.item.EscItem.{EscItem}
 use Rattle.vp_esc.specs.declared.command.Command.TheVariants.{Symbol}
 use Rattle.vp_esc.specs.declared.reader.EscReader.{EscReader}
 use Rattle.vp_esc.specs.declared.reader.Phase.TheVariants as phases
@@ -42,16 +40,6 @@ symbol_given : (lead : Lead) (name m : ℕ) (args : List ℕ) → head_len Symbo
 unfolding given_behind
 symbol_given lead name m args h = given_is lead name Symbol (m ∷ args) h
 
--- nothing was given before
-symbol_pushed : (lead : Lead) (name m : ℕ) (args : List ℕ) (c : ℕ) (item : Option EscItem) → head_len Symbol (m ∷ args) ≤ length (m ∷ args)
-    → needs_more Symbol (m ∷ args) ≡ true
-    → at_last (needs_more Symbol (m ∷ args ++ c ∷ [])) (symbol_unit m (symbol_data (m ∷ args ++ c ∷ []))) ≡ option_to_list item
-    → given_by lead name Symbol (m ∷ args ++ c ∷ []) ≡ given_by lead name Symbol (m ∷ args) ++ option_to_list item
-symbol_pushed lead name m args c item h n e = grind (arith, length_push, symbol_given)
-
-two_at_least : (b : Bool) (x y : ℕ) (xs : List ℕ) → cond b 1 2 ≤ length (x ∷ y ∷ xs)
-two_at_least b x y xs = grind arith
-
 pub symbol_more : (r : EscReader) (kind c : ℕ) (more more' : Bool) (rest : List ℕ) (kept : ArrayVec ℕ) → InSymbolToZero r kind more rest
     → c ≢ 0 → kept.items ≡ take 255 (r.kept.items ++ c ∷ []) → more' ≡ (more || eqb (length r.kept.items) 255)
     → Advances (Ok None) rest c (record r { phase = phases.SymbolToZero kind more'; kept = kept })
@@ -61,7 +49,7 @@ symbol_more r kind c more more' rest kept hand some k m =
     let n : needs_more Symbol (kind ∷ hand.codes ++ c ∷ []) ≡ true = rw hand.to_zero (rw a refl) in
     let n' : needs_more Symbol (kind ∷ hand.codes) ≡ true = rw hand.to_zero (rw hand.no_zero refl) in
     advances_by true c None (record r { phase = phases.SymbolToZero kind more'; kept = kept }) hand.begun hand.begun.listed n
-    (symbol_pushed r.lead r.name kind hand.codes c None (grind arith) n' (rw n refl))
+    (grind (arith, length_push, symbol_given))
     (record {
       codes = hand.codes ++ c ∷ [];
       begun = begun_longer c hand.begun hand.begun.listed;
@@ -83,7 +71,7 @@ symbol_ends r kind c more rest final hand zero =
     let d : symbol_data (kind ∷ hand.codes ++ c ∷ []) ≡ hand.codes = grind (arith, take_at, length_push, length) in
     let i : symbol_unit kind (symbol_data (kind ∷ hand.codes ++ c ∷ [])) ≡ symbol_with kind r.kept.items more = rw (d, hand.kept, hand.beyond) refl in
     advances_by false c (Some (symbol_with kind r.kept.items more)) (record r { phase = phases.Ground; kept = final }) hand.begun hand.begun.listed n
-    (symbol_pushed r.lead r.name kind hand.codes c (Some (symbol_with kind r.kept.items more)) l n' (rw n (ap (λ x. x ∷ []) i))) refl
+    (grind (arith, length_push, symbol_given)) refl
 
 pub symbol_goes_on : (r : EscReader) (kind left c : ℕ) (rest : List ℕ) (kept : ArrayVec ℕ) → InSymbolData r kind left rest
     → 1 < left → kept.items ≡ take 255 (r.kept.items ++ c ∷ [])
@@ -95,7 +83,7 @@ symbol_goes_on r kind left c rest kept hand some k =
     let n : needs_more Symbol (kind ∷ hand.count ∷ r.kept.items ++ c ∷ []) ≡ true = rw hand.counted (rw len (grind (arith, nat_tests, hand.sum))) in
     let n' : needs_more Symbol (kind ∷ hand.count ∷ r.kept.items) ≡ true = rw hand.counted (grind (arith, nat_tests, hand.sum, hand.some_left)) in
     advances_by true c None (record r { phase = phases.SymbolData kind (left - 1); kept = kept }) hand.begun hand.begun.listed n
-    (symbol_pushed r.lead r.name kind (hand.count ∷ r.kept.items) c None (two_at_least (is_kind_to_zero kind) kind hand.count r.kept.items) n' (rw n refl))
+    (grind (arith, length_push, symbol_given))
     (record {
       count = hand.count;
       begun = rw w (begun_longer c hand.begun hand.begun.listed);
@@ -115,7 +103,7 @@ symbol_last r kind left c rest kept final hand some k =
     let n' : needs_more Symbol (kind ∷ hand.count ∷ r.kept.items) ≡ true = rw hand.counted (grind (arith, nat_tests, hand.sum, hand.some_left)) in
     let i : symbol_unit kind (symbol_data (kind ∷ hand.count ∷ r.kept.items ++ c ∷ [])) ≡ symbol_with kind kept.items false = grind (arith, nat_tests, hand.sum, hand.some_left, hand.fits) in
     advances_by false c (Some (symbol_with kind kept.items false)) (record r { phase = phases.Ground; kept = final }) hand.begun hand.begun.listed n
-    (symbol_pushed r.lead r.name kind (hand.count ∷ r.kept.items) c (Some (symbol_with kind kept.items false)) (two_at_least (is_kind_to_zero kind) kind hand.count r.kept.items) n' (rw n (ap (λ x. x ∷ []) i))) refl
+    (grind (arith, length_push, symbol_given)) refl
 
 -- The head of a symbol.
 
@@ -147,7 +135,7 @@ unfolding needs_more
 symbol_counts r kind left rest b empty z some fits =
     let n : needs_more Symbol (kind ∷ left ∷ []) ≡ true = grind (arith, nat_tests) in
     lands_by true None (record r { phase = phases.SymbolData kind left }) b n
-    (symbol_given r.lead r.name kind (left ∷ []) (two_at_least (is_kind_to_zero kind) kind left []) ∙ rw n refl)
+    (symbol_given r.lead r.name kind (left ∷ []) (grind arith) ∙ rw n refl)
     (record { count = left; begun = rw empty b; counted = z; some_left = omega arith; sum = rw empty (omega arith); fits = fits })
 
 pub symbol_empty : (r : EscReader) (kind left : ℕ) (rest : List ℕ) (kept : ArrayVec ℕ) → Begun r.lead r.name Symbol (kind ∷ left ∷ []) rest
@@ -158,4 +146,5 @@ symbol_empty r kind left rest kept b z none =
     let n : needs_more Symbol (kind ∷ 0 ∷ []) ≡ false = rw z refl in
     let d : symbol_data (kind ∷ 0 ∷ []) ≡ [] = rw z refl in
     lands_by false (Some (symbol_with kind [] false)) (record r { phase = phases.Ground; kept = kept }) (rw none at b) n
-    (symbol_given r.lead r.name kind (0 ∷ []) (two_at_least (is_kind_to_zero kind) kind 0 []) ∙ rw n (ap (λ (d : List ℕ). symbol_unit kind d ∷ []) d)) refl
+    (symbol_given r.lead r.name kind (0 ∷ []) (grind arith)
+    ∙ rw n (ap (λ (d : List ℕ). symbol_unit kind d ∷ []) d)) refl

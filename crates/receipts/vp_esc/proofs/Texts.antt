@@ -19,7 +19,7 @@ first_passes z n m h = grind arith
 
 -- what stands at the front of the front is text
 pub front_passes : (n : ℕ) (cs : List ℕ) → n ≤ prefix_len is_text cs → AllByRecursion (λ b. is_text b ≡ true) (take n cs)
-front_passes (suc n) (c ∷ cs) h = grind (arith, front_passes n cs (first_passes (is_text c) n (prefix_len is_text cs) h).1)
+front_passes (suc n) (c ∷ cs) h = grind (arith, front_passes n cs)
 front_passes n cs h = tt
 
 no_lead : (lead : Option Lead) (z : Bool) → is_none lead && z ≡ true → lead ≡ None
@@ -38,7 +38,7 @@ one r bytes b phase stands text =
     let g : Gives (Ok (Some (single_item b))) (items bytes) (items (bytes ++ b ∷ [])) (fault_of (bytes ++ b ∷ [])) = gives-from_advances _ bytes b _ a in
     record { gives = g.1; known = λ some. g.0; stands = stands-from_advances _ bytes b _ a }
 
-known_on : (bytes xs : List ℕ) → fault_of bytes ≡ None → (0 < length xs → fault_of (bytes ++ xs) ≡ None) → fault_of (bytes ++ xs) ≡ None
+pub known_on : (bytes xs : List ℕ) → fault_of bytes ≡ None → (0 < length xs → fault_of (bytes ++ xs) ≡ None) → fault_of (bytes ++ xs) ≡ None
 known_on bytes xs e h = grind (arith, common_steps)
 
 pub ran : (r : EscReader) (bytes xs : List ℕ) → r.phase ≡ Ground → Stands r bytes → AllByRecursion (λ b. is_text b ≡ true) xs → Ran r bytes xs

@@ -1,7 +1,7 @@
 use Rattle.std.proofs.Common.{refl, ◌≡◌, true, false, length, arith}
 use Rattle.std.proofs.lemmas.Bool.Decides.{nat_tests}
 use Rattle.vp_esc.specs.Command.{lists}
-use Rattle.vp_esc.proofs.Phases.{argument_lands, argument_refused, listed_push}
+use Rattle.vp_esc.proofs.Phases.{argument_lands, argument_refused}
 use Rattle.vp_esc.proofs.reader.EscReader.argument.Goals as goal
 use Rattle.vp_esc.proofs.reader.EscReader.argument.Goals.{else-is_empty-via-then-is_empty+else-not-lists, else-is_empty-via-else-is_empty}
 
@@ -18,4 +18,4 @@ returns c rest hand =
       | else-is_empty-via-else-is_empty w ↦ grind (arith, nat_tests, c.is_empty.ensures, w.if-is_empty)
     ] in
     argument_lands c.args.self.now c.args.command rest c.args.byte c.keep.new.kept.items _ _ hand
-    (listed_push c.args.command c.args.self.now.kept.items c.args.byte first hand.begun.listed) c.keep.ensures c.land.ensures
+    (grind arith) c.keep.ensures c.land.ensures

@@ -1,7 +1,6 @@
 use Rattle.std.proofs.Common.{◌≡◌, take, length, arith}
 use Rattle.std.proofs.lemmas.List.{length-take-le}
 use Rattle.std.proofs.lemmas.List.Sums.{prefix_len-le-length}
-use Rattle.vp_esc.proofs.Lefts.{no_text}
 use Rattle.vp_esc.proofs.Rests.{rests}
 use Rattle.vp_esc.specs.Reader.{Stands, is_text}
 use Rattle.vp_esc.proofs.Texts.{front_passes, ran}
@@ -13,7 +12,7 @@ returns-in-Ground-clause-count c bytes s = grind (arith, c.in-Ground.is, c.text_
 
 pub returns-in_default-clause-count : goal.returns-in_default-clause-count
 unfolding Stands
-returns-in_default-clause-count c bytes s = grind (arith, no_text, rests)
+returns-in_default-clause-count c bytes s = grind (arith, rests)
 
 pub returns-in-Ground-clause-fits : goal.returns-in-Ground-clause-fits
 returns-in-Ground-clause-fits c = omega (arith, c.text_len.ensures, prefix_len-le-length is_text c.args.input.now)
