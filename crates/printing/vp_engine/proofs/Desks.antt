@@ -2,7 +2,7 @@
 use Rattle.std.proofs.Common.{subst, ◌≡◌, ℕ, ◌<◌, ◌≤◌, ◌+◌, ◌-◌, ◌^◌, min, List, [], ◌++◌, length, take, drop, length-drop, Option, Some, None, refl, sym, ap, ◌∙◌, arith, length-append, append_assoc}
 use Rattle.std.proofs.lemmas.Grind.{common_steps}
 use Rattle.std.proofs.lemmas.List.{append-nil, take-append-drop, length-take-le}
-use Rattle.std.specs.Io.KnownBytes.{Appends, Consumes, Keeps}
+use Rattle.std.specs.Io.KnownBytes.{Keeps}
 use Rattle.vp_engine.specs.Setups.{Setup, rules_of}
 use Rattle.vp_streams.specs.Count.{counted, grown}
 use Rattle.vp_engine.specs.Stands.{Stands}
@@ -12,27 +12,8 @@ use Rattle.vp_dots.specs.declared.fault.Fault.{Fault}
 use Rattle.vp_engine.specs.Paper.{paper, fault_at_end}
 use Rattle.vp_engine.specs.declared.session.Report.{Report}
 
--- a count goes on
-pub counted_more : (a b n m : ℕ) → a ≡ counted n → b ≡ min (a + m) (2 ^ 64 - 1) → b ≡ counted (n + m)
-counted_more a b n m e f = omega arith
-
-appends_more : (a b c : Option (List ℕ)) (x y : List ℕ) → Appends a b x → Appends b c y → Appends a c (x ++ y)
-appends_more a b c x y h k = grind (arith, append_assoc)
-
-appends_none : (a : Option (List ℕ)) → Appends a a []
-appends_none a = grind (arith, append-nil)
-
-keeps_appends : (a b : Option (List ℕ)) → Keeps a b → Appends a b []
-keeps_appends a b h = grind (arith, append-nil)
-
 take_nil : (n : ℕ) → n ≤ 0 → take {A = ℕ} n [] ≡ []
 take_nil n h = grind arith
-
-consumes_more : (a b c : Option (List ℕ)) (x y : List ℕ) → Consumes a b x → Consumes b c y → Consumes a c (x ++ y)
-consumes_more a b c x y h k = grind (arith, append_assoc)
-
-pub consumes_none : (a : Option (List ℕ)) → Consumes a a []
-consumes_none a = grind arith
 
 -- one read more in a call
 pub reads_more : (start now next n : ℕ) → (n ≡ 0 → now ≡ start) → (0 < n → now ≡ grown start n) → next ≡ grown now 1 → next ≡ grown start (n + 1)
@@ -50,14 +31,20 @@ module _ (setup : Setup) where
   pub accepts_more : (a b c : Option (List ℕ)) (s q : Desk) (r w : List ℕ) → Accepts a b setup s r w → ((v : List ℕ) → IsAt setup s r v → Accepts b c setup q r v) → Accepts a c setup q r w
   accepts_more a b c s q r w h f =
       let k = f (w ++ h.accepted) h.at in
-      record { accepted = h.accepted ++ k.accepted; appended = appends_more a b c h.accepted k.accepted h.appended k.appended; at = rw (← append_assoc w h.accepted k.accepted) k.at }
+      record {
+        accepted = h.accepted ++ k.accepted;
+        appended = grind (arith, append_assoc);
+        at = rw (← append_assoc w h.accepted k.accepted) k.at;
+      }
 
   -- nothing is accepted
   pub accepts_none : (a b : Option (List ℕ)) (s q : Desk) (r w : List ℕ) → Keeps a b → q ≡ s → IsAt setup s r w → Accepts a b setup q r w
-  accepts_none a b s q r w k e h = record { accepted = []; appended = keeps_appends a b k; at = at_still s q r w h e }
+  accepts_none a b s q r w k e h =
+      record { accepted = []; appended = grind (arith, append-nil); at = at_still s q r w h e }
 
   pub accepts_start : (a : Option (List ℕ)) (s : Desk) (r w : List ℕ) → IsAt setup s r w → Accepts a a setup s r w
-  accepts_start a s r w h = record { accepted = []; appended = appends_none a; at = at_still s s r w h refl }
+  accepts_start a s r w h =
+      record { accepted = []; appended = grind (arith, append-nil); at = at_still s s r w h refl }
 
   -- n bytes of the output are accepted
   pub at_wrote : (s q : Desk) (r w slice : List ℕ) (n : ℕ) → IsAt setup s r w → slice ≡ s.unwritten → n ≤ length slice → q.printer ≡ s.printer → q.unread ≡ s.unread → q.taken ≡ s.taken →
@@ -74,7 +61,9 @@ module _ (setup : Setup) where
     stands = st a.t a.o a.stands;
     read = append_assoc a.t (take n slice) q.unread ∙ ap (λ x. a.t ++ x) (ap (λ x. take n x ++ q.unread) e ∙ ap (λ x. take n s.unread ++ x) un ∙ take-append-drop n s.unread) ∙ a.read;
     wrote = ap (λ x. x ++ q.unwritten) (sym (append-nil w) ∙ ap (λ x. w ++ x) (sym none) ∙ a.wrote);
-    taken = counted_more s.taken q.taken (length a.t) n a.taken ta ∙ ap counted (sym (length-append a.t (take n slice) ∙ ap (λ k. length a.t + k) (length-take-le n slice h)));
+    taken = (omega arith)
+        ∙ ap counted (sym (length-append a.t (take n slice)
+        ∙ ap (λ k. length a.t + k) (length-take-le n slice h)));
     written = wr ∙ a.written;
     unread_fit = omega (arith, a.unread_fit, ap length un, length-drop n s.unread);
     unwritten_fit = fit;
@@ -112,7 +101,7 @@ module _ (setup : Setup) where
         read = h.read;
         accepted = h.accepted ++ k.accepted;
         consumed = h.consumed;
-        appended = appends_more c d e h.accepted k.accepted h.appended k.appended;
+        appended = grind (arith, append_assoc);
         at = rw (← append_assoc w h.accepted k.accepted) k.at;
       }
 
@@ -122,13 +111,19 @@ module _ (setup : Setup) where
       record {
         read = h.read ++ k.read;
         accepted = h.accepted;
-        consumed = consumes_more a b c h.read k.read h.consumed k.consumed;
+        consumed = grind (arith, append_assoc);
         appended = h.appended;
         at = rw (← append_assoc r h.read k.read) k.at;
       }
 
   pub reaches_start : (a b : Option (List ℕ)) (s : Desk) (r w : List ℕ) → IsAt setup s r w → Reaches a a b b setup s r w
-  reaches_start a b s r w h = record { read = []; accepted = []; consumed = consumes_none a; appended = appends_none b; at = rw (append-nil r, append-nil w) h }
+  reaches_start a b s r w h = record {
+    read = [];
+    accepted = [];
+    consumed = grind arith;
+    appended = grind (arith, append-nil);
+    at = rw (append-nil r, append-nil w) h;
+  }
 
   pub all_taken : (s : Desk) (r w : List ℕ) → (a : IsAt setup s r w) → s.unread ≡ [] → a.t ≡ r
   all_taken s r w a un = sym (append-nil a.t) ∙ ap (λ x. a.t ++ x) (sym un) ∙ a.read
@@ -146,9 +141,6 @@ module _ (setup : Setup) where
   end_answer s r w f after end a d un run fi ta e = grind (arith, common_steps)
 
   -- a new session
-  pub at_first : (s : Desk) → Stands setup s.printer [] [] → s.unread ≡ [] → s.unwritten ≡ [] → s.taken ≡ 0 → s.written ≡ 0 → IsAt setup s [] []
-  at_first s st un uw ta wr = grind arith
-
   -- what is written is a front of the paper of what is read
   pub written_front : (s : Desk) (r w : List ℕ) → IsAt setup s r w → ((bytes more : List ℕ) → IsPrefix (paper (rules_of setup) bytes) (paper (rules_of setup) (bytes ++ more))) → IsPrefix w (paper (rules_of setup) r)
   written_front s r w a grows =

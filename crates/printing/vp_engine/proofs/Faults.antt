@@ -16,9 +16,6 @@ none_first a b e = grind arith
 pub none_second : (a b : Option Fault) → option_or a b ≡ None → b ≡ None
 none_second a b e = grind arith
 
-or_none : (a : Option Fault) → option_or a None ≡ a
-or_none a = grind arith
-
 -- what comes where there is no fault yet
 else_same : (fault : Option Fault) (xs ys zs : List ℕ) → (fault ≡ None → ys ≡ zs) → cond (is_some fault) xs ys ≡ cond (is_some fault) xs zs
 else_same fault xs ys zs e = grind arith
@@ -35,7 +32,7 @@ module _ {Item : Type 0} (rules : Rules Item) where
   first_more : (front rest : List ℕ) (b : ℕ) →
       first_fault rules front (rest ++ b ∷ []) ≡ option_or (first_fault rules front rest) (fault_at rules ((front ++ rest) ++ b ∷ []))
   unfolding first_fault
-  first_more front [] b = or_none (fault_at rules (front ++ b ∷ [])) ∙ ap (λ x. fault_at rules (x ++ b ∷ [])) (sym (append-nil front))
+  first_more front [] b = (grind arith) ∙ ap (λ x. fault_at rules (x ++ b ∷ [])) (sym (append-nil front))
   first_more front (x ∷ rest) b = grind (arith, append_assoc, first_more (front ++ x ∷ []) rest b)
 
   pub fault_more : (t : List ℕ) (b : ℕ) → fault rules (t ++ b ∷ []) ≡ option_or (fault rules t) (fault_at rules (t ++ b ∷ []))

@@ -7,9 +7,9 @@ use Rattle.vp_engine.specs.declared.session.Report.{Report}
 use Rattle.vp_engine.specs.declared.session.RunFault.{RunFault}
 use Rattle.vp_engine.specs.Bytes.{IsPrefix}
 use Rattle.vp_streams.specs.Count.{counted, grown}
-use Rattle.vp_engine.specs.Listing.{lines, ListsBy, IsListing}
+use Rattle.vp_engine.specs.Listing.{lines, ListsBy}
 use Rattle.vp_engine.specs.Paper.{history, before_fault, fault, paper}
-use Rattle.vp_engine.specs.Session.{Desk, IsFirstFault, IsEnding, HasEnded, IsAnswer, Pumps}
+use Rattle.vp_engine.specs.Session.{Desk, IsFirstFault, IsEnding, HasEnded, Pumps}
 use Rattle.vp_engine.specs.Setups.{Setup, Item, rules_of}
 use Rattle.vp_engine.proofs.Desks.{written_front}
 use Rattle.vp_engine.proofs.Faults.{before_whole, none_first}
@@ -30,9 +30,6 @@ module _ (setup : Setup) (line : Item setup → List ℕ) (before after held hol
       IsFirstFault (rules_of setup) f t (Unit {0}) ⊎ IsEnding (rules_of setup) f t rest end
   stops f after t rest end h = grind arith
 
-  answers : (fault : RunFault) (r w : List ℕ) (end : Type 0) → IsAnswer setup s (Err fault) r w end → IsListing (rules_of setup) line (Err fault) r w end
-  answers fault r w end a = grind arith
-
   -- it ends early
   pub lists_some : (fault : RunFault) → Pumps before after held holds setup s [] [] (Err fault) → ListsBy (rules_of setup) line before after held holds (Err fault)
   lists_some fault p = record {
@@ -41,5 +38,5 @@ module _ (setup : Setup) (line : Item setup → List ℕ) (before after held hol
     consumed = p.reaches.consumed;
     appended = p.reaches.appended;
     front = written_front setup s p.reaches.read p.reaches.accepted p.reaches.at grows;
-    answer = answers fault p.reaches.read p.reaches.accepted _ p.answer;
+    answer = grind arith;
   }

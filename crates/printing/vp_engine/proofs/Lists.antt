@@ -7,7 +7,7 @@ use Rattle.vp_esc.specs.declared.item.EscItem.TheVariants.{RasterByte}
 use Rattle.vp_esc.specs.Lines.{line_of}
 use Rattle.vp_streams.specs.Count.{counted, grown}
 use Rattle.vp_engine.specs.Bytes.{IsPrefix}
-use Rattle.vp_engine.specs.Lines.{Listed, no_lines, taken_of, more_taken, listed_line, byte_lines, byte_lines_after, listed_bytes}
+use Rattle.vp_engine.specs.Lines.{Listed, taken_of, more_taken, listed_line, byte_lines, byte_lines_after, listed_bytes}
 use Rattle.vp_engine.specs.Machines.{AreLines}
 use Rattle.vp_engine.specs.Offsets.{Placed, ListedItem, listed_items, listed_by, line_by, placed_line}
 use Rattle.vp_engine.specs.Paper.{Reading, listing, printed}
@@ -19,10 +19,6 @@ use Rattle.vp_engine.proofs.Rasters.{all_listed, printed_lines}
 -- as many bytes more are taken
 pub all_taken : (w : Bool) (old new : Option ℕ) (t more : List ℕ) → old ≡ taken_of w t → new ≡ more_taken old (length more) → new ≡ taken_of w (t ++ more)
 all_taken w old new t more e f = grind (arith, length-append)
-
--- none yet
-pub none_listed : (w : Bool) {Item : Type 0} (lines : Listed) → lines ≡ no_lines w → AreLines w {Item = Item} lines [] []
-none_listed w lines e = grind arith
 
 module _ {Item : Type 0} (reading : Reading Item) (line : Item → List ℕ)
     (grows : (bytes more : List ℕ) → IsPrefix (reading.items bytes) (reading.items (bytes ++ more))) where

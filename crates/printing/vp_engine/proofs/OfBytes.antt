@@ -1,5 +1,5 @@
 -- The faults that a byte makes are F1 to F7.
-use Rattle.std.proofs.Common.{◌≡◌, ℕ, Bool, List, [], ◌∷◌, ◌++◌, cond, Option, Some, None, Result, Ok, Err, subst, arith}
+use Rattle.std.proofs.Common.{◌≡◌, ℕ, Bool, List, [], ◌∷◌, ◌++◌, Option, Some, None, Result, Ok, Err, subst, arith}
 use Rattle.std.proofs.lemmas.Grind.{common_steps}
 use Rattle.std.specs.Prelude.{option_map}
 use Rattle.vp_dots.specs.declared.fault.Fault.{Fault}
@@ -42,12 +42,6 @@ abbrev pub SomeOfByte : Option Fault → Type 0
 SomeOfByte None = Unit {0}
 SomeOfByte (Some f) = IsOfByte f
 
-pub some_if : (c : Bool) (a b : Option Fault) → SomeOfByte a → SomeOfByte b → SomeOfByte (cond c a b)
-some_if c a b h k = grind arith
-
-pub err_if : {A : Type 0} (c : Bool) (a b : Result A Fault) → ErrOfByte a → ErrOfByte b → ErrOfByte (cond c a b)
-err_if c a b h k = grind arith
-
 pub some_is : (o : Option Fault) (f : Fault) → SomeOfByte o → o ≡ Some f → IsOfByte f
 some_is o f h e = subst SomeOfByte e h
 
@@ -81,7 +75,7 @@ symbol_by : (code : Option BarCode) (bytes : List ℕ) (more : Bool) → ErrOfBy
 symbol_by code bytes more = grind (arith, bars_of_byte)
 
 pub receipts_of_byte : (setup : ReceiptSetup) (before : List EscItem) (item : EscItem) → SomeOfByte (receipt_refusal setup before item)
-receipts_of_byte setup before item = grind (arith, symbol_by, some_if)
+receipts_of_byte setup before item = grind (arith, symbol_by)
 
 front_by : (bytes : List ℕ) → ErrOfByte (fronts.front_in bytes)
 front_by bytes = grind (arith, common_steps)
@@ -96,7 +90,7 @@ qr_by : (stored : List ℕ) (dots : ℕ) (bytes : Span) (front : Result QrFront 
 qr_by stored dots bytes front h = grind arith
 
 content_by : (stored : List ℕ) (s : Settings) (p : FieldParts) (content : OpenContent) → ErrOfByte (content_of stored s p content)
-content_by stored s p content = grind (arith, bars_of_byte, qr_by, err_if, front_by)
+content_by stored s p content = grind (arith, bars_of_byte, qr_by, front_by)
 
 -- a field that is closed
 abbrev ClosedOfByte : Option (Result Field Fault) → Type 0

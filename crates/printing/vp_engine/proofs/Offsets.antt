@@ -88,15 +88,14 @@ module _ {Item : Type 0} (reading : Reading Item) where
   placed_append bytes k (i ∷ xs) ys = grind (arith, placed_append bytes (suc k) xs ys)
 
   -- more bytes give more items behind those that there are
-  pub placed_more : (bytes more : List ℕ) (added : List Item) → reading.items (bytes ++ more) ≡ reading.items bytes ++ added →
-      listed_items true reading (bytes ++ more) ≡ listed_items true reading bytes ++ placed_from reading (bytes ++ more) (length (reading.items bytes)) added
-  placed_more bytes more added e = grind (arith, placed_append, placed_stays)
-
   places_read : Reads reading → Reads (listed_by true reading)
   places_read reads = record {
     nothing = ap (placed_from reading [] 0) reads.nothing;
     no_fault = reads.no_fault;
-    grows = λ bytes more. let p = reads.grows bytes more in (placed_from reading (bytes ++ more) (length (reading.items bytes)) p.0, sym (placed_more bytes more p.0 (sym p.1)));
+    grows = λ bytes more. let p = reads.grows bytes more in (
+      placed_from reading (bytes ++ more) (length (reading.items bytes)) p.0,
+      sym (grind (arith, placed_append, placed_stays)),
+    );
     stays = reads.stays;
   }
 
@@ -124,7 +123,9 @@ module _ {Item : Type 0} (reading : Reading Item) where
     pub placed_byte : (t : List ℕ) (b : ℕ) (added : List Item) → reading.items (t ++ b ∷ []) ≡ reading.items t ++ added →
         listed_items true reading (t ++ b ∷ []) ≡ listed_items true reading t ++ map (at_place (suc (length t))) added
     placed_byte t b added e =
-        placed_more t (b ∷ []) added e ∙ ap (λ x. listed_items true reading t ++ x) (placed_last t b (length (reading.items t)) added (omega arith))
+        (grind (arith, placed_append, placed_stays))
+        ∙ ap (λ x. listed_items true reading t ++ x)
+        (placed_last t b (length (reading.items t)) added (omega arith))
 
 -- the line at a place that a count gives
 pub line_at : (n taken : ℕ) (line : List ℕ) → counted taken ≡ counted n → offset_line taken line ≡ offset_line n line

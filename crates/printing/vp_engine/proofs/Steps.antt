@@ -91,9 +91,6 @@ module _ (setup : Setup) where
   pub stopped_idle : (p : Engine) (t o : List ℕ) → Stands setup p t o → IsSome p.stopped → p.pending ≡ []
   stopped_idle p t o s h = grind (arith, nothing_left, last_prints_nothing)
 
-  pub pending_none : (p : Engine) (t o : List ℕ) → Stands setup p t o → o ≡ paper rules t → p.pending ≡ []
-  pending_none p t o s e = nothing_left (paper rules t) p.pending o [] s.pending (append-nil (paper rules t) ∙ sym e)
-
   -- where a printer that has not stopped ends
   pub ends_at : (p : Engine) (t o : List ℕ) (answer : Option Fault) → Reads rules.reading → Stands setup p t o → ((f : Fault) → p.stopped ≡ Some f → ⊥) →
       ((before : List (Item setup)) → MachineStands p.machine setup t before → rules.reading.fault_of t ≡ None → answer ≡ missing (rules.reading.is_between t) (rules.is_at_rest before)) →

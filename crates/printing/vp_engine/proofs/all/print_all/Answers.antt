@@ -3,12 +3,9 @@ use Rattle.vp_engine.specs.Paper.{paper, fault_at_end}
 use Rattle.vp_engine.specs.Setups.{setup_of, rules_of}
 use Rattle.vp_engine.proofs.Cuts.{length_part}
 use Rattle.vp_engine.proofs.Faults.{no_longer}
-use Rattle.vp_engine.proofs.Steps.{pending_none, answer_of}
+use Rattle.vp_engine.proofs.Steps.{answer_of}
 use Rattle.vp_engine.proofs.Whole.{next_stands, all_taken, all_printed, stopped_paper, stopped_fault}
 use Rattle.vp_engine.proofs.all.print_all.Goals as goal
-
-pub finish-requires : goal.finish-requires
-finish-requires g c = grind (arith, pending_none)
 
 pub returns-in-More-clause-paper : goal.returns-in-More-clause-paper
 returns-in-More-clause-paper g c =

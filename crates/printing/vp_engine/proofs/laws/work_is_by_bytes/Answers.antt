@@ -1,4 +1,4 @@
-use Rattle.std.proofs.Common.{◌≡◌, ◌≤◌, ℕ, ◌+◌, ◌*◌, Bool, true, false, cond, List, [], ◌∷◌, ◌++◌, length, reverse, is_some, ap, arith}
+use Rattle.std.proofs.Common.{◌≡◌, ◌≤◌, ℕ, ◌+◌, ◌*◌, List, [], ◌∷◌, ◌++◌, length, reverse, is_some, ap, arith}
 use Rattle.std.proofs.lemmas.List.{length_push}
 use Rattle.vp_esc.specs.declared.item.EscItem.{EscItem}
 use Rattle.vp_esc.specs.Split.{items}
@@ -11,16 +11,11 @@ use Rattle.vp_engine.specs.Paper.{Rules, before_fault, sound}
 use Rattle.vp_engine.specs.Setups.{Receipts}
 use Rattle.vp_engine.proofs.laws.work_is_by_bytes.Goals as goal
 
--- no more bytes stand before the first fault than there are
-shorter : (stops : Bool) (front more : List ℕ) (n : ℕ) → length front ≤ n → length more ≤ n → length (cond stops front more) ≤ n
-shorter true front more n h k = h
-shorter false front more n h k = k
-
 module _ {Item : Type 0} (rules : Rules Item) where
   sound_few : (front rest : List ℕ) → length (sound rules front rest) ≤ length front + length rest
   unfolding sound
   sound_few front [] = omega arith
-  sound_few front (b ∷ rest) = grind (arith, shorter, is_some, length_push, sound_few (front ++ b ∷ []) rest)
+  sound_few front (b ∷ rest) = grind (arith, is_some, length_push, sound_few (front ++ b ∷ []) rest)
 
   before_few : (bytes : List ℕ) → length (before_fault rules bytes) ≤ length bytes
   unfolding before_fault

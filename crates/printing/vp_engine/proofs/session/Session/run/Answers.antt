@@ -1,10 +1,6 @@
-use Rattle.std.proofs.Common.{◌≡◌, ℕ, Result, Err, None, sym, ap, ◌∙◌, arith}
+use Rattle.std.proofs.Common.{◌≡◌, None, sym, ap, ◌∙◌, arith}
 use Rattle.std.proofs.lemmas.Result.{err_from_is_err_and}
 use Rattle.vp_engine.specs.Session.{IsDrained}
-use Rattle.vp_dots.specs.declared.fault.Fault.{Fault}
-use Rattle.vp_engine.specs.declared.session.Report.{Report}
-use Rattle.vp_engine.specs.declared.session.RunFault.{RunFault}
-use Rattle.vp_engine.specs.declared.session.RunFault.TheVariants.{Print, Read, Write}
 use Rattle.vp_engine.specs.Stands.{Engine}
 use Rattle.vp_engine.proofs.Desks.{reaches_start, reaches_accepts, reaches_takes, stop_answer, whole_answer, end_answer, none_of, reads_more}
 use Rattle.vp_engine.proofs.session.Session.run.Goals as goal
@@ -63,18 +59,11 @@ returns-in-Err-clause-pumps g c setup r w a =
       answer = end_answer setup c.fill.new.self _ _ c.in-Err.fault _ _ k.at dr z.0 run (c.in-Err.ensures setup) (c.report-report.ensures.taken ∙ sym s.taken) z.1;
     }
 
--- what is no fault of the stream
-read_no_print : (f : Fault) (after : ℕ) (answer : Result Report RunFault) → answer ≡ Err Read → answer ≡ Err (Print f after) → ⊥
-read_no_print f after answer e h = let no : Err Read ≡ Err (Print f after) = sym e ∙ h in cc
-
-write_no_print : (f : Fault) (after : ℕ) (answer : Result Report RunFault) → answer ≡ Err Write → answer ≡ Err (Print f after) → ⊥
-write_no_print f after answer e h = let no : Err Write ≡ Err (Print f after) = sym e ∙ h in cc
-
 pub returns-in_err-settle-clause-at_end : goal.returns-in_err-settle-clause-at_end
-returns-in_err-settle-clause-at_end g c f after e end = grind (arith, err_from_is_err_and, write_no_print)
+returns-in_err-settle-clause-at_end g c f after e end = grind (arith, err_from_is_err_and)
 
 pub returns-in_err-n-clause-at_end : goal.returns-in_err-n-clause-at_end
-returns-in_err-n-clause-at_end g c f after e end = grind (arith, err_from_is_err_and, read_no_print)
+returns-in_err-n-clause-at_end g c f after e end = grind (arith, err_from_is_err_and)
 
 -- the printer stops by a fault of a byte
 pub returns-in-Some-clause-at_end : goal.returns-in-Some-clause-at_end
