@@ -1,6 +1,6 @@
 use Rattle.std.proofs.Common.{◌≡◌, ℕ, ◌*◌, List, ◌∷◌, drop, rules, sym, arith}
 use Rattle.vp_format.specs.declared.codes.Symbol.{Symbol}
-use Rattle.vp_format.specs.declared.codes.Symbol.TheVariants.{Digits, Again, Refused}
+use Rattle.vp_format.specs.declared.codes.Symbol.TheVariants.{Digits, ToEnd, Again, Refused}
 use Rattle.vp_format.specs.declared.rows.Coding.TheVariants.{RunLength}
 use Rattle.vp_format.specs.Codes.{spelled, joined, code_of, symbols, symbols_behind}
 use Rattle.vp_format.specs.Pictures.{Picture}
@@ -44,3 +44,18 @@ pub returns-in-Again-2-2 : goal.returns-in-Again-2-2
 returns-in-Again-2-2 c =
     let next = next (goal.at.returns-in-Again-2-2 c).After-symbol_of Refused _ c.in-Again-2.ensures.symbol in
     sym (other_passed (picture c.args.codes.now c.args.row_bytes c.args.rows) c.pass_runs-from.result _ _ (omega arith) (rw (sym c.from.ensures) (omega arith)) next)
+
+pub loop-codes-preserved : goal.loop-codes-preserved
+loop-codes-preserved c =
+    let next = next (goal.at.loop-codes-preserved c).After-symbol_of Again _ c.in-Again.ensures.symbol in
+    record { bytes = search rules; reading = search rules; passed = grind (arith, next) }
+
+pub loop-codes-preserved-in-ToEnd-1 : goal.loop-codes-preserved-in-ToEnd-1
+loop-codes-preserved-in-ToEnd-1 c =
+    let next = next (goal.at.loop-codes-preserved-in-ToEnd-1 c).After-symbol_of (ToEnd c.in-ToEnd.field-0) _ c.in-ToEnd.ensures.symbol in
+    record { bytes = search rules; reading = search rules; passed = grind (arith, next) }
+
+pub loop-codes-preserved-in-Digits-1 : goal.loop-codes-preserved-in-Digits-1
+loop-codes-preserved-in-Digits-1 c =
+    let next = next (goal.at.loop-codes-preserved-in-Digits-1 c).After-symbol_of (Digits c.in-Digits.n c.in-Digits.field-1) _ c.in-Digits.ensures.symbol in
+    record { bytes = search rules; reading = search rules; passed = digits_passed (2 * c.args.row_bytes) _ c.pass_runs-from.result c.in-Digits.n c.in-Digits.field-1 _ _ next }
