@@ -54,10 +54,10 @@ pub returns-in-Across-clause-counted : goal.returns-in-Across-clause-counted
 returns-in-Across-clause-counted g c = λ x k low e. omega (arith, c.paint_block_across.ensures.counted)
 
 pub paint_block_along-requires-clause-few : goal.paint_block_along-requires-clause-few
-paint_block_along-requires-clause-few g c = grind (arith, text_few)
+paint_block_along-requires-clause-few g c = text_few c.args.stored.now c.args.block _ c.requires.block (c.from_row-block.ensures.text ∙ c.block_of-ink.ensures.text)
 
 pub paint_block_across-requires-clause-few : goal.paint_block_across-requires-clause-few
-paint_block_across-requires-clause-few g c = grind (arith, text_few)
+paint_block_across-requires-clause-few g c = text_few c.args.stored.now c.args.block _ c.requires.block (c.from_row-block.ensures.text ∙ c.block_of-ink.ensures.text)
 
 pub returns-in-Along-clause-lines : goal.returns-in-Along-clause-lines
 returns-in-Along-clause-lines g c = grind (arith, along_cost, text_less)
