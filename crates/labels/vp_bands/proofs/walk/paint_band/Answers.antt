@@ -29,7 +29,7 @@ pub entry-entry-requires-clause-within : goal.entry-entry-requires-clause-within
 entry-entry-requires-clause-within g c = rw c.loop-n.invariant.stays.entries (c.in-Some.ensures c.args.threads.now.entries c.args.b _ _ c.loop-n.invariant.walk.carried c.loop-n.invariant.walk.begins).1
 
 pub entry-entry-requires-clause-countable : goal.entry-entry-requires-clause-countable
-entry-entry-requires-clause-countable g c = grind (arith, few_passed)
+entry-entry-requires-clause-countable g c = omega (arith, few_passed (field_meets c.args.sheets.now c.args.format.now.stored c.args.view c.args.b) c.args.format.now.fields c.loop-n.walk.seen (omega (arith, c.requires.label.spanned.each)))
 
 pub field-field-requires : goal.field-field-requires
 field-field-requires g c = omega (arith, (c.in-Some.ensures c.args.threads.now.entries c.args.b _ _ c.loop-n.invariant.walk.carried c.loop-n.invariant.walk.begins).1, c.requires.label.spanned.each)
@@ -57,7 +57,7 @@ pub after-walk-requires-clause-within : goal.after-walk-requires-clause-within
 after-walk-requires-clause-within g c = omega (arith, (c.in-Some.ensures c.args.threads.now.entries c.args.b _ _ c.loop-n.invariant.walk.carried c.loop-n.invariant.walk.begins).1)
 
 pub after-walk-requires-clause-countable : goal.after-walk-requires-clause-countable
-after-walk-requires-clause-countable g c = grind (arith, few_passed)
+after-walk-requires-clause-countable g c = rw c.entry-entry.ensures.look (omega (arith, few_passed (field_meets c.args.sheets.now c.args.format.now.stored c.args.view c.args.b) c.args.format.now.fields c.loop-n.walk.seen (omega (arith, c.requires.label.spanned.each))))
 
 pub loop-n-init : goal.loop-n-init
 loop-n-init g c =
@@ -152,7 +152,7 @@ returns-clause-shown g c =
     omega (arith, ap length (all_passed shows held.fields c.loop-n.walk.seen (omega arith) none), length-filter shows held.fields)
 
 pub overflow_add-work : goal.overflow_add-work
-overflow_add-work g c = grind (arith, few_passed)
+overflow_add-work g c = omega (arith, few_passed (field_meets c.args.sheets.now c.args.format.now.stored c.args.view c.args.b) c.args.format.now.fields c.loop-n.walk.seen (omega (arith, c.requires.label.spanned.each)))
 
 pub returns-clause-countable : goal.returns-clause-countable
-returns-clause-countable g c = grind (arith, few_passed)
+returns-clause-countable g c = omega (arith, few_passed (field_meets c.args.sheets.now c.args.format.now.stored c.args.view c.args.b) c.args.format.now.fields c.loop-n.walk.seen (omega (arith, c.requires.label.spanned.each)))
