@@ -61,7 +61,7 @@ fn lost(word: u64, s: u32) -> u8
 #[inline(always)]
 fn or_inside(word: u64, far: u64, row: &mut [u8])
     requires { far / 8 + 9 ≤ length row.old }
-    ensures { Painted Black (λ d. nat_le far d && word_dot word (d - far)) row.old row.new }
+    ensures { Painted Black (shifted (pos far) (word_dot word)) row.old row.new }
 {
     let s = (far % 8) as u32;
     let i = (far / 8) as usize;

@@ -1,10 +1,11 @@
-use Rattle.std.proofs.Common.{◌≡◌, ℕ, Bool, [], ◌+◌, ◌-◌, ◌<◌, ◌≤◌, ◌∙◌, refl, get_or, length, take, false, arith}
+use Rattle.std.proofs.Common.{◌≡◌, ℕ, Bool, [], ◌+◌, ◌-◌, ◌<◌, ◌≤◌, ◌∙◌, refl, get_or, length, take, false, min, arith}
 use Rattle.std.proofs.lemmas.List.{length-take}
 use Rattle.std.proofs.lemmas.Bool.{lt-ltb}
 use Rattle.vp_page.specs.Layers.{Mark}
 use Rattle.vp_page.specs.Runs.{across}
 use Rattle.vp_page.proofs.Marks.{ink_white, ink_line, ink_run, no_ink, shown_line}
-use Rattle.vp_page.proofs.Pages.{between_more, lines_more}
+use Rattle.vp_page.proofs.Pages.{between_more, lines_more, rows_make_an_image}
+use Rattle.vp_page.proofs.RunRows.{deep_across}
 use Rattle.vp_page.proofs.Shown.{none_told}
 use Rattle.vp_page.proofs.page.Page.lay_across.Goals as goal
 
@@ -52,3 +53,12 @@ loop-line-preserved g c =
           (λ u w _ l. ink_line lines ink k (g.I.Ink.width c.args.ink.now) w u (λ i x h. c.draw_lines.ensures.lines i x h) (λ x y t. (g.met.I.Ink.outside c.args.ink.now x y t).0) c.requires (omega (arith, l, long)))
           (rw (c.across-direction.ensures, none_told [] lines refl) at (c.lay_long.ensures _ (c.loop-line.invariant.laid layers page)));
     }
+
+pub returns : goal.returns
+returns g c = λ layers page.
+    let m : Mark = record { area = c.args.area; direction = across c.args.way; top = c.args.top; high = g.I.Ink.height c.args.ink.now; dot = g.I.Ink.ink_at c.args.ink.now } in
+    let deep = deep_across c.args.area c.args.way in
+    let done : c.loop-line.line ≡ min m.high (c.args.area.dx - c.args.top) =
+    omega (arith, c.loop-line-test.false, c.loop-line.invariant.within, c.min-high.ensures, c.size-width.ensures.height, c.saturating_sub.ensures, c.from.ensures) in
+    rows_make_an_image.all m c.loop-line.line layers _ (λ u w e l. let within = g.met.I.Ink.outside c.args.ink.now u w e in omega (arith, within.1, l, deep, done)) (omega (arith, deep, done))
+    (c.loop-line.invariant.laid layers page)

@@ -5,6 +5,7 @@ use Rattle.vp_page.specs.Layers.{rows_mark}
 use Rattle.vp_page.specs.Pages.{HasPage}
 use Rattle.vp_page.specs.declared.area.Direction.TheVariants.{LeftToRight}
 use Rattle.vp_page.proofs.Pages.{laid}
+use Rattle.vp_page.proofs.Whites.{laid_on}
 use Rattle.vp_page.proofs.Whole.{whole_left, whole_right}
 use Rattle.vp_page.proofs.page.Page.lay_rows.Goals as goal
 
@@ -18,3 +19,11 @@ returns-in-LeftToRight g c = λ layers page.
 
 pub returns-in-RightToLeft : goal.returns-in-RightToLeft
 returns-in-RightToLeft g c = λ layers page. grind (arith, nat_tests, whole_left)
+
+pub invariant_of-self : goal.invariant_of-self
+invariant_of-self g c = laid_on _ c.self.inside.laid _ _ c.self.inside.band _ c.self.invariant c.lay_whole.ensures c.with-self-inside.ensures.within c.with-self-inside.ensures.these
+    (λ x y h e. c.with-self-inside.ensures.others y h (grind (arith, nat_tests)))
+
+pub invariant_of-self-then-are_whole-2 : goal.invariant_of-self-then-are_whole-2
+invariant_of-self-then-are_whole-2 g c = laid_on _ c.self.inside.laid _ _ c.self.inside.band _ c.self.invariant c.lay_whole_back.ensures c.with-self-inside-in-RightToLeft.ensures.within c.with-self-inside-in-RightToLeft.ensures.these
+    (λ x y h e. c.with-self-inside-in-RightToLeft.ensures.others y h (grind (arith, nat_tests)))
