@@ -18,7 +18,7 @@ returns-in-Blank g c = c.dots_decide.ensures.row PAPER_BYTES (clipped c.args.lef
     (λ d h. rw c.in-Blank.is (dot_white PAPER_BYTES d (omega arith) ∙ sym (and_false _)))
 
 pub returns-in-Qr : goal.returns-in-Qr
-returns-in-Qr g c = grind arith
+returns-in-Qr g c = c.write_ink.ensures ∙ ap (λ (k : Symbol). row_of PAPER_BYTES (clipped c.args.left c.args.length (λ x. symbol_dot c.args.sheets.now k x c.args.y))) (sym c.in-Qr.is)
 
 pub returns-in-Bars : goal.returns-in-Bars
 returns-in-Bars g c = c.write_ink-in-Bars.ensures ∙ ap (λ (b : Boxed). row_of PAPER_BYTES (clipped c.args.left c.args.length (λ x. box_dot b x c.args.y))) c.boxed.ensures
