@@ -37,3 +37,12 @@ returns-clause-on_paper c = λ setup before e g.
     c.requires.part (told c.args.s.now r c.requires.plain) k.taken k.at e g c.after_row.ensures.value passed
     (subst (λ xs. length xs ≤ room_of c.pass.new.self) rest (rest_fits r c.pass.new.self bytes n wide k.taken c.from-wide.ensures c.pass.ensures.value))
     (subst (λ xs. IsGathering c.take_all.new.self (bytes_after xs (bytes_after (take end bytes) before))) rest (c.take_all.ensures.gathers _ passed))
+
+pub returns-clause-count : goal.returns-clause-count
+returns-clause-count c = (counts c.args.s.now c.args.raster.now (length c.args.bytes.now) (length c.args.output.now) c.from-wide.result c.min-rows.result c.from.result c.requires.plain c.requires.few c.from-wide.ensures c.from.ensures c.min-rows.ensures).whole
+
+pub returns-clause-fits : goal.returns-clause-fits
+returns-clause-fits c = (counts c.args.s.now c.args.raster.now (length c.args.bytes.now) (length c.args.output.now) c.from-wide.result c.min-rows.result c.from.result c.requires.plain c.requires.few c.from-wide.ensures c.from.ensures c.min-rows.ensures).fits
+
+pub slice_bounds-copy_from_slice-end : goal.slice_bounds-copy_from_slice-end
+slice_bounds-copy_from_slice-end c = (counts c.args.s.now c.args.raster.now (length c.args.bytes.now) (length c.args.output.now) c.from-wide.result c.min-rows.result c.from.result c.requires.plain c.requires.few c.from-wide.ensures c.from.ensures c.min-rows.ensures).fits
