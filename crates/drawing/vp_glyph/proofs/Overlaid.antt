@@ -25,6 +25,10 @@ painted_over op at f g h a b c n u p q = grind arith
 indent_within : (d : Alignment) (room : ℕ) → indent d room ≤ room
 indent_within d room = grind arith
 
+-- the cells of a line stand on it
+pub line_fits : (d : Alignment) (a w n k left : ℕ) → n ≡ w → k ≤ a / w → left ≡ indent d (a - w * k) → left + n * k ≤ a
+line_fits d a w n k left s m e = rw s (let in_room = indent_within d (a - w * k) in omega (arith, in_room, mul-le-mul_left w m, mul-div-le a w))
+
 or_assoc : (a b c : Bool) → (a || (b || c)) ≡ (a || b || c)
 or_assoc a b c = grind arith
 

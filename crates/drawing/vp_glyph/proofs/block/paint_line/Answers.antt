@@ -1,4 +1,4 @@
-use Rattle.std.proofs.Common.{arith, refl, sym, w64}
+use Rattle.std.proofs.Common.{◌+◌, ◌*◌, ◌≤◌, arith, refl, sym, w64}
 use Rattle.std.proofs.Math.Nat.{mul-le-mul_left, mul-le-mul_right}
 use Rattle.std.proofs.lemmas.Int.{to_z-of_z}
 use Rattle.vp_glyph.specs.Blocks.{pieces, first}
@@ -41,3 +41,18 @@ returns g c = rw (sym (to_z-of_z w64 c.args.at c.ranges.at)) (record {
       (mul-le-mul_left c.args.stretch.now.width (omega (arith, e, c.loop-i.invariant.counted, c.loop-i.invariant.after))) c.seen-from.ensures.before c.seen-from.ensures.behind l)
       t;
 })
+
+pub paint_cell-requires : goal.paint_cell-requires
+paint_cell-requires g c =
+    let w = c.args.stretch.now.width in
+    let m : w * (c.loop-i._i + 1) ≤ w * c.args.line.cells = mul-le-mul_left w (omega (arith, c.seen-from.ensures.last)) in
+    omega (arith, m, c.loop-i.invariant.place_is)
+
+pub overflow_add-place-in-loop-i : goal.overflow_add-place-in-loop-i
+overflow_add-place-in-loop-i g c =
+    let w = c.args.stretch.now.width in
+    let m : w * (c.loop-i._i + 1) ≤ w * c.args.line.cells = mul-le-mul_left w (omega (arith, c.seen-from.ensures.last)) in
+    omega (arith, m, c.loop-i.invariant.place_is)
+
+pub overflow_cast-place : goal.overflow_cast-place
+overflow_cast-place g c = let m : 1 * c.args.line.cells ≤ c.args.stretch.now.width * c.args.line.cells = mul-le-mul_right c.args.line.cells c.requires.w in omega (arith, m, c.seen-from.ensures.first)

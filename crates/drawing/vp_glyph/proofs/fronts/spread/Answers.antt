@@ -1,4 +1,5 @@
-use Rattle.std.proofs.Common.{◌+◌, ◌-◌, min, ap, ◌∙◌, arith}
+use Rattle.std.proofs.Common.{◌+◌, ◌-◌, ◌*◌, ◌≤◌, min, ap, ◌∙◌, arith}
+use Rattle.std.proofs.Math.Nat.{mul-le-mul_right}
 use Rattle.vp_glyph.proofs.Gathered.{added_none, added_past, added_more, added_all}
 use Rattle.vp_glyph.proofs.fronts.spread.Goals as goal
 
@@ -25,3 +26,8 @@ loop-s-preserved g c =
 
 pub returns : goal.returns
 returns g c = added_all _ _ _ _ _ c.loop-s.s _ _ (omega arith) c.loop-s.invariant.added
+
+pub blacken_run-requires : goal.blacken_run-requires
+blacken_run-requires g c =
+    let m : c.loop-s.s * c.args.starts.now.high ≤ c.end_of-behind.result * c.args.starts.now.high = mul-le-mul_right c.args.starts.now.high (omega (arith, c.end_of-behind.ensures.some)) in
+    omega (arith, m, c.rows_above-from.ensures, c.rows_above-to.ensures, c.first.ensures.row, c.first-in-loop-s.ensures.row)

@@ -51,7 +51,7 @@ loop-k-preserved g c =
     record {
       within = omega (arith, more);
       counted = omega (arith, c.loop-k.invariant.counted);
-      none = λ e. absurd (omega (arith, e));
+      none = λ e. absurd {A = w * (c.loop-k.k + 1) ≤ c.seen_dots-from.result.0} (omega (arith, e));
       behind = behind_more c.loop-k.k _ _ _ _ c.loop-k.invariant.behind c.in-Some.ensures;
       added = λ s x l m. dot_more Black _ c.args.sheet.now _ c.args.line.cells w 24 c.args.left s c.requires.cells c.requires.w c.loop-k.k c.in-Some.character (c.args.left + w * c.loop-k.k) more
           (cell_is c.loop-k.k _ _ _ _ c.loop-k.invariant.behind c.in-Some.ensures) refl _ _ _ x (c.loop-k.invariant.added s x l m)
@@ -74,3 +74,9 @@ returns g c = rw (sym (to_z-of_z w64 c.args.at c.ranges.at)) (record {
       (let before = c.loop-k.invariant.none e in omega (arith, before)) c.seen_dots-from.ensures.before c.seen_dots-from.ensures.behind m)
       t;
 })
+
+pub overflow_cast-line : goal.overflow_cast-line
+overflow_cast-line g c = let m : 1 * c.args.line.cells ≤ c.args.stretch.now.width * c.args.line.cells = mul-le-mul_right c.args.line.cells c.requires.w in omega (arith, m)
+
+pub overflow_add-k : goal.overflow_add-k
+overflow_add-k g c = let m : 1 * c.loop-k.k ≤ c.args.stretch.now.width * c.loop-k.k = mul-le-mul_right c.loop-k.k c.requires.w in omega (arith, m, c.seen_dots-from.ensures.last)

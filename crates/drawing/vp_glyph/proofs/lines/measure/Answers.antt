@@ -1,7 +1,8 @@
 use Rattle.std.proofs.Common.{arith, ◌≡◌, ◌+◌, ◌-◌, ap, ◌∙◌, eq-eqb}
 use Rattle.std.proofs.lemmas.Bool.{ne_eqb}
 use Rattle.vp_glyph.specs.Blocks.{pieces, first, last_blank}
-use Rattle.vp_glyph.proofs.Pieces.{scan_more, behind_all, blank_more, cell_is}
+use Rattle.vp_glyph.proofs.Breaking.{last_blank_within}
+use Rattle.vp_glyph.proofs.Pieces.{scan_more, behind_all, behind_more, blank_more, cell_is}
 use Rattle.vp_glyph.proofs.lines.measure.Goals as goal
 use Rattle.vp_glyph.proofs.lines.measure.Goals.{then-b-eq32, else-b-eq32, then-b-eq32-2, else-b-eq32-2}
 
@@ -27,3 +28,15 @@ returns-clause-blank c =
       | else-b-eq32-2 w ↦ rw (ne_eqb c.in-Some-next_cell.b 32 w.if-b-eq32-2.false) w.blank-is
     ])
     ∙ ap (λ n. last_blank n (first (pieces c.args.text.now))) same
+
+pub returns-in_default-clause-within : goal.returns-in_default-clause-within
+returns-in_default-clause-within c = omega (arith, c.loop-i.invariant.blank_is, last_blank_within (c.loop-i.i - 1) (first (pieces c.args.text.now)))
+
+pub returns-in_default-next_cell-clause-within : goal.returns-in_default-next_cell-clause-within
+returns-in_default-next_cell-clause-within c = omega (arith, c.loop-i.invariant.blank_is, last_blank_within (c.loop-i.i - 1) (first (pieces c.args.text.now)))
+
+pub returns-clause-within : goal.returns-clause-within
+returns-clause-within c = omega (arith, returns-clause-blank c, last_blank_within (c.args.most + 1 - 1) (first (pieces c.args.text.now)))
+
+pub returns-clause-cells : goal.returns-clause-cells
+returns-clause-cells c = omega (arith, behind_more c.loop-i.i _ _ _ _ c.loop-i.invariant.behind c.in-Some-next_cell.ensures)

@@ -1,4 +1,5 @@
 use Rattle.std.proofs.Common.{◌≡◌, ℕ, ◌-◌, ◌≤◌, List, [], ◌∷◌, get_or, length, take, drop, sym, ap, arith}
+use Rattle.std.proofs.lemmas.Grind.{common_steps}
 use Rattle.std.proofs.lemmas.List.{take_all}
 use Rattle.vp_glyph.specs.Blocks.{pieces}
 use Rattle.vp_glyph.specs.declared.lines.Piece.TheVariants.{Cell}
@@ -11,3 +12,9 @@ backslash_first (b ∷ next ∷ text) l p q = rw (p, q) (ap (λ (t : List ℕ). 
 
 pub returns-in-92-2 : goal.returns-in-92-2
 returns-in-92-2 c = backslash_first c.args.text.now (omega arith) (omega arith) (omega arith)
+
+pub returns-in-92 : goal.returns-in-92
+returns-in-92 c = grind (arith, common_steps)
+
+pub returns-in-len1-up : goal.returns-in-len1-up
+returns-in-len1-up c = grind (arith, common_steps)

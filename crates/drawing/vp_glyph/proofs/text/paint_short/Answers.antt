@@ -1,11 +1,15 @@
-use Rattle.std.proofs.Common.{inl, inr, arith, refl, ap, ◌-◌, length, take, sym, w64, to_z, of_z, ◌+◌, ◌*◌, ◌/◌, ◌<◌, ◌≤◌, ◌≡◌}
-use Rattle.std.proofs.Math.Nat.{div-lt_iff_lt-mul, div-mul-le_self, mul-le-mul_left}
+use Rattle.std.proofs.Common.{ℕ, inl, inr, arith, refl, ap, ◌-◌, length, take, sym, w64, to_z, of_z, ◌+◌, ◌*◌, ◌/◌, ◌<◌, ◌≤◌, ◌≡◌}
+use Rattle.std.proofs.Math.Nat.{div-lt_iff_lt-mul, div-mul-le_self, mul-le-mul_left, mul-le-mul_right}
 use Rattle.std.proofs.lemmas.Int.{to_z-of_z}
 use Rattle.vp_glyph.proofs.Handed.{cells_few, text_unseen, seen_some, no_text, short_last}
 use Rattle.vp_glyph.proofs.Moved.{short_row}
 use Rattle.vp_glyph.proofs.Sides.{so_far, front_none, front_more, text_all, text_below}
 use Rattle.vp_glyph.proofs.text.paint_short.Goals as goal
 use Rattle.vp_glyph.proofs.text.paint_short.Goals.{then-loop-k-test+else-w-k, else-loop-k-test}
+
+-- no more cells than dots
+few : (w n : ℕ) → 0 < w → n ≤ w * n
+few w n p = let m : 1 * n ≤ w * n = mul-le-mul_right n p in omega (arith, m)
 
 pub returns-then-y-h : goal.returns-then-y-h
 returns-then-y-h g c = record {
@@ -58,3 +62,17 @@ returns g c =
           (let same : c.loop-k.k ≡ c.seen_dots-from.result.0 / w = omega (arith, e, c.loop-k.invariant.after, c.whole_cells-first.ensures) in let m = rw same at all in omega (arith, m, whole)) c.seen_dots-from.ensures.before c.seen_dots-from.ensures.behind l)
           t;
     })
+
+pub overflow_cast-k-in-loop-k : goal.overflow_cast-k-in-loop-k
+overflow_cast-k-in-loop-k g c = omega (arith, few c.args.stretch.now.width (length c.args.text.now) c.requires.some)
+
+pub overflow_cast-k-in-loop-k-2 : goal.overflow_cast-k-in-loop-k-2
+overflow_cast-k-in-loop-k-2 g c = omega (arith, few c.args.stretch.now.width (length c.args.text.now) c.requires.some)
+
+pub overflow_cast-result : goal.overflow_cast-result
+overflow_cast-result g c = omega (arith, few c.args.stretch.now.width (length c.args.text.now) c.requires.some)
+
+pub cell_front-front-requires-clause-fits : goal.cell_front-front-requires-clause-fits
+cell_front-front-requires-clause-fits g c =
+    let m : c.args.stretch.now.width * (c.loop-k.k + 1) ≤ c.args.stretch.now.width * length c.args.text.now = mul-le-mul_left c.args.stretch.now.width (omega arith) in
+    omega (arith, m)

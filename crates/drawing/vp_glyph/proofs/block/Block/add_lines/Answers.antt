@@ -1,4 +1,5 @@
 use Rattle.std.proofs.Common.{inl, inr, ℕ, List, ◌*◌, ◌||◌, ◌+◌, ◌∙◌, ap, get_or, sym, refl, arith, w64, to_z, of_z}
+use Rattle.std.proofs.Math.Nat.{mul-le-mul_right}
 use Rattle.std.proofs.lemmas.Int.{to_z-of_z}
 use Rattle.vp_glyph.specs.Halves.{half_dot, front_dot}
 use Rattle.vp_glyph.proofs.Gathered.{shown}
@@ -64,3 +65,15 @@ returns-then-self-eq0 g c =
       most = (let left = ap pieces_left c.in-Some.is in omega (arith, left, c.loop-left.invariant.counted, c.joined.ensures.most));
       none = λ e. absurd (omega (arith, e, c.joined.ensures.some));
     })
+
+pub overflow_mul-place : goal.overflow_mul-place
+overflow_mul-place g c = omega (arith, mul-le-mul_right c.args.self.now.pitch c.loop-left.invariant.place_within)
+
+pub overflow_mul-place-then-self-eq0 : goal.overflow_mul-place-then-self-eq0
+overflow_mul-place-then-self-eq0 g c = omega (arith, mul-le-mul_right c.args.self.now.pitch c.loop-left.invariant.place_within)
+
+pub overflow_mul-place-in-Some : goal.overflow_mul-place-in-Some
+overflow_mul-place-in-Some g c = omega (arith, mul-le-mul_right c.args.self.now.pitch c.loop-left.invariant.place_within)
+
+pub spread-requires-in-Some : goal.spread-requires-in-Some
+spread-requires-in-Some g c = omega (arith, c.of-starts.ensures, mul-le-mul_right c.args.self.now.pitch c.loop-left.invariant.place_within)

@@ -4,6 +4,7 @@ use Rattle.std.proofs.lemmas.Int.{to_z-of_z}
 use Rattle.vp_glyph.specs.Blocks.{lines_dot, block_lines, line_pieces}
 use Rattle.vp_dots.specs.Dots.{dot}
 use Rattle.vp_glyph.specs.Layouts.{layout_of, sheet_rows}
+use Rattle.vp_glyph.proofs.Gathered.{row_alike}
 use Rattle.vp_glyph.proofs.Joining.{lines_rows}
 use Rattle.vp_glyph.proofs.Sheeted.{rows_more, shown_none, shown_more, shown_all}
 use Rattle.vp_glyph.proofs.block.Block.draw_joined.Goals as goal
@@ -57,3 +58,18 @@ returns g c =
       none = c.loop-k.invariant.none;
       most = (let m : c.loop-k.k * (2 * line_pieces c.args.text.now) ≤ 32 * (2 * line_pieces c.args.text.now) = mul-le-mul_right (2 * line_pieces c.args.text.now) c.loop-k.invariant.upto in omega (arith, m, c.loop-k.invariant.most));
     })
+
+pub overflow_add-s : goal.overflow_add-s
+overflow_add-s g c = grind (arith, row_alike, c.source_row-s.ensures, c.rows_above-end.ensures)
+
+pub overflow_cast-s : goal.overflow_cast-s
+overflow_cast-s g c = grind (arith, row_alike, c.source_row-s.ensures, c.rows_above-end.ensures)
+
+pub first_row-requires : goal.first_row-requires
+first_row-requires g c = grind (arith, row_alike, c.source_row-s.ensures, c.rows_above-end.ensures)
+
+pub joined_row-requires : goal.joined_row-requires
+joined_row-requires g c = grind (arith, row_alike, c.source_row-s.ensures, c.rows_above-end.ensures)
+
+pub overflow_add-above-in-loop-k : goal.overflow_add-above-in-loop-k
+overflow_add-above-in-loop-k g c = omega (arith, mul-le-mul_right c.args.self.now.pitch c.requires.place, c.first_row.ensures)

@@ -55,3 +55,18 @@ returns-then-k-end-clause-dots g c =
 
 pub returns-clause-most : goal.returns-clause-most
 returns-clause-most g c = let m : c.loop-k.k * c.args.line.cells ≤ 32 * c.args.line.cells = mul-le-mul_right c.args.line.cells c.loop-k.invariant.upto in omega (arith, m, c.loop-k.invariant.most)
+
+pub overflow_add-above-in-loop-k : goal.overflow_add-above-in-loop-k
+overflow_add-above-in-loop-k g c = omega (arith, mul-le-mul_right c.args.self.now.pitch c.requires.place, c.first_row.ensures)
+
+pub overflow_add-top : goal.overflow_add-top
+overflow_add-top g c = omega (arith, mul-le-mul_right c.args.self.now.pitch c.requires.place, c.rows_above-end.ensures)
+
+pub overflow_add-s : goal.overflow_add-s
+overflow_add-s g c = grind (arith, row_alike, c.source_row-s.ensures, c.rows_above-end.ensures)
+
+pub overflow_cast-s : goal.overflow_cast-s
+overflow_cast-s g c = grind (arith, row_alike, c.source_row-s.ensures, c.rows_above-end.ensures)
+
+pub first_row-requires : goal.first_row-requires
+first_row-requires g c = grind (arith, row_alike, c.source_row-s.ensures, c.rows_above-end.ensures)

@@ -1,5 +1,6 @@
 use Rattle.std.proofs.Common.{ap, false, ◌≡◌, ℕ, ◌+◌, ◌∙◌, sym, refl, arith, w64, to_z, of_z}
 use Rattle.std.proofs.lemmas.Int.{to_z-of_z}
+use Rattle.std.proofs.Math.Nat.{mul-le-mul_right}
 use Rattle.vp_glyph.specs.Runs.{run_dot}
 use Rattle.vp_glyph.proofs.Handed.{pieces_left, less_left}
 use Rattle.vp_glyph.proofs.Sheeted.{drawn_none, drawn_more, drawn_all, drawn_joined}
@@ -63,3 +64,6 @@ returns-then-self-eq0 g c =
       none = λ e k x. ap (λ r. run_dot r.alone r.down r.up 32 k x) (c.draw_joined.ensures.none e) ∙ c.loop-left.invariant.none (omega (arith, e, c.draw_joined.ensures.counted)) k x;
       most = omega (arith, left, c.loop-left.invariant.counted, c.draw_joined.ensures.most);
     })
+
+pub overflow_mul-place : goal.overflow_mul-place
+overflow_mul-place g c = omega (arith, mul-le-mul_right c.args.self.now.pitch c.loop-left.invariant.place_within)

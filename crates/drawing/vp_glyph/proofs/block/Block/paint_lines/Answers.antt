@@ -1,4 +1,5 @@
 use Rattle.std.proofs.Common.{ℕ, arith, sym, w64, refl}
+use Rattle.std.proofs.Math.Nat.{mul-le-mul_right}
 use Rattle.std.proofs.lemmas.Int.{to_z-of_z}
 use Rattle.vp_glyph.proofs.Handed.{less_left, seen_some, block_unseen}
 use Rattle.vp_glyph.proofs.Stacks.{lines_below}
@@ -38,3 +39,6 @@ returns-then-y-place g c =
           (λ (x : ℕ). lines_below b.sheet.now b.w b.h b.wide b.rows b.pitch b.alignment x c.args.y c.loop-left.place _ c.loop-left.invariant.place_within (omega arith)))
           t;
     })
+
+pub overflow_mul-place : goal.overflow_mul-place
+overflow_mul-place g c = omega (arith, mul-le-mul_right c.args.self.now.pitch c.loop-left.invariant.place_within)

@@ -1,4 +1,5 @@
 use Rattle.std.proofs.Common.{◌≡◌, ◌<◌, ◌+◌, ◌-◌, ◌*◌, arith, ap, ◌∙◌, sym, get_or, take, drop}
+use Rattle.std.proofs.lemmas.Grind.{common_steps}
 use Rattle.std.proofs.lemmas.List.{get_or_default}
 use Rattle.vp_glyph.specs.Inked.{IsInked}
 use Rattle.vp_glyph.proofs.Cuts.{ready_of}
@@ -16,3 +17,15 @@ returns g c =
     rw all (rw here at (c.self.invariant.inked.each c.args.c inside)) in
     rw (c.deref.ensures.value, c.from.ensures, sym c.self.view_is)
     (ready_of _ c.self.inside.rows.items c.args.c c.args.w c.args.h _ _ c.index.result.now c.self.invariant.cut inside (omega arith) all (omega arith) (omega arith) is)
+
+pub offset_bounds-rows-first : goal.offset_bounds-rows-first
+offset_bounds-rows-first g c = grind (arith, common_steps)
+
+pub slice_bounds-result-start : goal.slice_bounds-result-start
+slice_bounds-result-start g c = grind (arith, common_steps)
+
+pub slice_bounds-result-end : goal.slice_bounds-result-end
+slice_bounds-result-end g c = grind (arith, common_steps)
+
+pub slice_bounds-result-count : goal.slice_bounds-result-count
+slice_bounds-result-count g c = grind (arith, common_steps)
