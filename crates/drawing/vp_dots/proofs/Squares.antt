@@ -85,6 +85,10 @@ came : (wide left : ℕ) (k : ℕ → ℕ → Bool) (x y : ℕ) (rows new : List
 unfolding at_source
 came wide left k x y rows new p h l e = grind arith
 
+passed : (wide left : ℕ) (k : ℕ → ℕ → Bool) (x y : ℕ) (rows new : List ℕ) (r : Bool) → Stepped wide left 64 rows new → x < 64 → y < 64 → at_source wide left k x y ≡ true
+    → ((u v : ℕ) → u < 64 → v < 64 → k u v ≡ true → word_dot (get_or rows v 0) u ≡ r) → word_dot (get_or new y 0) x ≡ r
+passed wide left k x y rows new r p h l e next = let c = came wide left k x y rows new p h l e in c.same ∙ next c.u c.v c.column c.row c.passes
+
 -- six steps turn a square
 turn_test : (x y : ℕ) → x < 64 → y < 64
     → at_source 1 0xaaaa_aaaa_aaaa_aaaa (at_source 2 0xcccc_cccc_cccc_cccc (at_source 4 0xf0f0_f0f0_f0f0_f0f0
@@ -102,15 +106,13 @@ pub turned_dots : (r0 r1 r2 r3 r4 r5 r6 : List ℕ) → Stepped 32 0xffff_ffff_0
     → Stepped 4 0xf0f0_f0f0_f0f0_f0f0 64 r3 r4 → Stepped 2 0xcccc_cccc_cccc_cccc 64 r4 r5 → Stepped 1 0xaaaa_aaaa_aaaa_aaaa 64 r5 r6
     → (x y : ℕ) → x < 64 → y < 64 → word_dot (get_or r6 y 0) x ≡ word_dot (get_or r0 x 0) y
 turned_dots r0 r1 r2 r3 r4 r5 r6 p1 p2 p3 p4 p5 p6 x y h k =
-    let c6 = came _ _ _ x y r5 r6 p6 h k (turn_test x y h k) in
-    let c5 = came _ _ _ c6.u c6.v r4 r5 p5 c6.column c6.row c6.passes in
-    let c4 = came _ _ _ c5.u c5.v r3 r4 p4 c5.column c5.row c5.passes in
-    let c3 = came _ _ _ c4.u c4.v r2 r3 p3 c4.column c4.row c4.passes in
-    let c2 = came _ _ _ c3.u c3.v r1 r2 p2 c3.column c3.row c3.passes in
-    let c1 = came _ _ _ c2.u c2.v r0 r1 p1 c2.column c2.row c2.passes in
-    let t = and_parts _ _ c1.passes in
-    c6.same ∙ c5.same ∙ c4.same ∙ c3.same ∙ c2.same ∙ c1.same
-    ∙ ap (λ n. word_dot (get_or r0 n 0) c1.u) (eqb-true _ _ t.1) ∙ ap (λ n. word_dot (get_or r0 x 0) n) (eqb-true _ _ t.0)
+    passed _ _ _ x y r5 r6 _ p6 h k (turn_test x y h k)
+    (λ u v h k e. passed _ _ _ u v r4 r5 _ p5 h k e
+    (λ u v h k e. passed _ _ _ u v r3 r4 _ p4 h k e
+    (λ u v h k e. passed _ _ _ u v r2 r3 _ p3 h k e
+    (λ u v h k e. passed _ _ _ u v r1 r2 _ p2 h k e
+    (λ u v h k e. passed _ _ _ u v r0 r1 _ p1 h k e
+    (λ u v h k e. let t = and_parts _ _ e in ap (λ n. word_dot (get_or r0 n 0) u) (eqb-true _ _ t.1) ∙ ap (λ n. word_dot (get_or r0 x 0) n) (eqb-true _ _ t.0)))))))
 
 -- the parts of a row
 parts_all : (s left : ℕ) → every 64 (λ x. cond (leb s x && word_dot left (x - s)) (not (word_dot left x)) (word_dot left x)) ≡ true → (x : ℕ) → x < 64 → (leb s x && word_dot left (x - s)) ≡ not (word_dot left x)
