@@ -58,7 +58,7 @@ digit_even set d b = grind (arith, set_a_even, set_b_even)
 left_is : (sets ds : List ℕ) → expand false (left_elements sets ds) ≡ left_modules sets ds
 left_is [] ds = refl
 left_is (s ∷ sets) [] = refl
-left_is (s ∷ sets) (d ∷ ds) = grind (arith, expand_append, digit_even, digit_is, left_is sets ds)
+left_is (s ∷ sets) (d ∷ ds) = rw (expand_append, digit_even s d (eqb s 0), digit_is s d (eqb s 0), left_is sets ds) refl
 
 left_even : (sets ds : List ℕ) → behind false (left_elements sets ds) ≡ false
 left_even [] ds = refl
@@ -67,7 +67,7 @@ left_even (s ∷ sets) (d ∷ ds) = behind_append false (left_elements_of s d) (
 
 right_is : (ds : List ℕ) → expand true (flat_map set_a_elements ds) ≡ flat_map set_c ds
 right_is [] = refl
-right_is (d ∷ ds) = grind (arith, expand_append, set_c_even, set_c_is, right_is ds)
+right_is (d ∷ ds) = rw (expand_append, set_c_even d, set_c_is d, right_is ds) refl
 
 right_even : (ds : List ℕ) → behind true (flat_map set_a_elements ds) ≡ true
 right_even [] = refl
