@@ -1,4 +1,5 @@
 use Rattle.std.proofs.Common.{◌≡◌, ◌*◌, ◌<◌, ◌≤◌, ◌++◌, ap, sym, subst, ◌∙◌, arith, take, drop, length, refl}
+use Rattle.std.proofs.lemmas.Grind.{common_steps}
 use Rattle.vp_dots.specs.Images.{row_bytes}
 use Rattle.vp_copies.specs.Copies.{pending}
 use Rattle.vp_copies.specs.Progress.{Progress, image_of, IsPainted}
@@ -35,3 +36,6 @@ returns-clause-bytes g c = λ dots painted.
     subst P c.self.view_is (rw (c.bytes_of_row-bytes.ensures, c.in-Row.is, byte)
     (c.copy_rows.ensures i refl (omega (arith, below, c.min-rows.ensures)) (rw c.in-Row.is at shown)
     ∙ ap (λ t. t ++ drop (n * row_bytes j.width) out) (rows_front i v.high j.copies c.in-Row.y n some v.wide (omega arith) (omega (arith, below, c.min-rows.ensures)))))
+
+pub returns-clause-rest : goal.returns-clause-rest
+returns-clause-rest g c = grind (arith, common_steps)
