@@ -76,24 +76,27 @@ fn offsets<'a>(alloc: Global) -> Arg<'a> {
 }
 
 fn receipt<'a>(alloc: Global) -> Result<Command<'a>, AllocError> {
-    let args = vec![in alloc; width(alloc), font_a(alloc), font_b(alloc), file(alloc)]?;
     Command::new(alloc, "receipt")
         .about("Prints a receipt (ESC/POS)")
-        .args(args)
+        .arg(width(alloc))?
+        .arg(font_a(alloc))?
+        .arg(font_b(alloc))?
+        .arg(file(alloc))
 }
 
 fn label<'a>(alloc: Global) -> Result<Command<'a>, AllocError> {
-    let args = vec![in alloc; font_a(alloc), file(alloc)]?;
     Command::new(alloc, "label")
         .about("Prints labels (ZPL II)")
-        .args(args)
+        .arg(font_a(alloc))?
+        .arg(file(alloc))
 }
 
 fn list<'a>(alloc: Global) -> Result<Command<'a>, AllocError> {
-    let args = vec![in alloc; lang(alloc), offsets(alloc), file(alloc)]?;
     Command::new(alloc, "list")
         .about("Lists the commands of a stream, a line for each")
-        .args(args)
+        .arg(lang(alloc))?
+        .arg(offsets(alloc))?
+        .arg(file(alloc))
 }
 
 fn join<'a>(alloc: Global) -> Result<Command<'a>, AllocError> {
@@ -104,10 +107,10 @@ fn join<'a>(alloc: Global) -> Result<Command<'a>, AllocError> {
 
 /// A command with one subcommand more.
 fn with<'a>(
-    command: Result<Command<'a>, AllocError>,
+    command: Command<'a>,
     subcommand: Result<Command<'a>, AllocError>,
 ) -> Result<Command<'a>, AllocError> {
-    command?.subcommand(subcommand?)
+    command.subcommand(subcommand?)
 }
 
 /// The program without its subcommands.
@@ -125,8 +128,8 @@ fn vp<'a>(alloc: Global) -> Result<Command<'a>, AllocError> {
 
 /// The words that are read.
 pub fn program<'a>(alloc: Global) -> Result<Command<'a>, AllocError> {
-    let command = with(vp(alloc), receipt(alloc));
-    let command = with(command, label(alloc));
-    let command = with(command, list(alloc));
+    let command = with(vp(alloc)?, receipt(alloc))?;
+    let command = with(command, label(alloc))?;
+    let command = with(command, list(alloc))?;
     with(command, join(alloc))
 }
