@@ -36,6 +36,7 @@ TO_LOAD, A_CRATE, A_LINE, TO_COMPILE = 15, 5, 0.023, 60
 # How much of the processors is used, how many of them a crate uses that is proved alone, and for how many of the
 # guess's seconds that is believed rather than what was measured.
 USED, ALONE, BELIEVED = 0.85, 2, 100
+
 # How many jobs a crate has at most.
 JOBS = 4
 
@@ -280,14 +281,14 @@ class Build:
 
     def begin(self):
         """Starts what can be started and finds memory, what the longest chain waits for first. A proof with several jobs takes
-        a quarter more of the processors than with one: so only the first of the longest chain gets a second job, and all
-        processors that are left where nothing else can be started."""
+        a quarter more of the processors than with one: so only the first of the longest chain gets half of them, and each
+        other crate one."""
         is_ready = lambda it: it not in self.took and it not in self.running and all(dep in self.took for dep in it.uses)
         ready = sorted(filter(is_ready, self.crates), key=lambda it: -self.behind[it])
         longest = max((self.behind[it] for it in [*ready, *self.running]), default=0)
         for it in ready:
             idle = self.lanes - sum(run.jobs for run in self.running.values())
-            jobs = min(idle, (2 if len(ready) > 1 else JOBS) if self.behind[it] == longest else 1)
+            jobs = min(idle, max(1, min(self.lanes // 2, JOBS)) if self.behind[it] == longest else 1)
             memory = self.memory - sum(need(run.jobs) for run in self.running.values())
             while jobs > 1 and need(jobs) > memory:
                 jobs -= 1
