@@ -1,4 +1,5 @@
 """An edit of a crate (must-fail/*.edit, must-pass/*.edit), and the functions whose bodies it changes."""
+import glob
 import re
 
 FUNCTION = re.compile(r'( *)(?:pub(?:\([^)]*\))? )?(?:const )?(?:extern "C" )?fn (\w+)')
@@ -58,15 +59,29 @@ def constant_around(text, place):
     return (items[-1][1], items[-1].start(), ends) if place <= ends else None
 
 
-def changed_at(path, text, place):
+def is_cited(folder, path, name):
+    """Returns whether a definition or a clause of the crate cites a constant of this file of src."""
+    module = path.removeprefix("src/").removesuffix(".rt").replace("/", ".")
+    cites = re.compile(rf"declared\.{'' if module == 'lib' else f'{module}.'}TheConstants\.\{{[^}}]*\b{name}\b")
+    parts = "specs/**/*.antt", "src/**/*.rt"
+    for file in (it for part in parts for it in glob.glob(f"{glob.escape(folder)}/{part}", recursive=True)):
+        with open(file, encoding="utf-8", errors="replace") as it:
+            if cites.search(it.read()):
+                return True
+    return False
+
+
+def changed_at(folder, path, text, place):
     """Returns the functions whose bodies change with what stands at a place of a file: the one that it is in, or of a private
-    constant all that name it; None where it changes more than bodies."""
+    constant that no definition or clause cites all that name it; None where it changes more than bodies."""
     if around := function_around(path, text, place):
         return [around]
     if constant := constant_around(text, place):
         name, begins, ends = constant
+        if is_cited(folder, path, name):
+            return None
         uses = [it.start() for it in re.finditer(rf"\b{name}\b", text) if not begins <= it.start() <= ends]
-        users = [changed_at(path, text, it) for it in uses]
+        users = [changed_at(folder, path, text, it) for it in uses]
         return None if None in users else sum(users, [])
     return None
 
@@ -95,7 +110,7 @@ class Edit:
             text = it.read()
         place = text.find(old)
         self.cuts.append((path, place, old, new))
-        changed = changed_at(path, text, place) if place >= 0 else None
+        changed = changed_at(crate.folder, path, text, place) if place >= 0 else None
         self.functions += changed or []
         self.is_of_bodies = self.is_of_bodies and (bool(changed) or bool(FUNCTION.match(new)) and new.endswith(old.strip()))
 

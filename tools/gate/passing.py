@@ -7,7 +7,6 @@ import re
 from edits import Edit, one_for_each_function, with_all
 
 
-
 def rounds(edits):
     """Parts edits so that no two of a round change the same function."""
     while edits:
