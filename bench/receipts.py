@@ -1,8 +1,8 @@
 #!/usr/bin/env python3
 """Writes receipts that all differ, for bench/program.sh: receipts.py text|symbols|journal NUMBER, or pages in a
-direction of 0 to 3: receipts.py rasters|pages NUMBER DIRECTION. And for bench/hostile.sh a page on which a few bytes that
-have much done stand again and again, and which prints nothing: receipts.py KIND NUMBER, a KIND of AGAIN, of about so many
-bytes. The same words give the same bytes."""
+direction of 0 to 3: receipts.py rasters|pages NUMBER DIRECTION. And for bench/hostile.sh a page on which a few bytes
+that have much done stand again and again, and which prints nothing: receipts.py KIND NUMBER, a KIND of AGAIN, of
+about so many bytes. The same words give the same bytes."""
 import random
 import sys
 
@@ -88,8 +88,8 @@ LARGEST, TO_TOP, CANCEL, UNDERLINED = b"\x1d!\x77", b"\x1d$\0\0", b"\x18", b"\x1
 
 
 def widest(direction, spacing=255, style=b"\x1dB\1"):
-    """An area as large as a page that stands on no whole byte, and characters of which one makes a whole line of it black:
-    eight by eight times as large, spaced by so many times eight dots, and in a style: white on black."""
+    """An area as large as a page that stands on no whole byte, and characters of which one makes a whole line of it
+    black: eight by eight times as large, spaced by so many times eight dots, and in a style: white on black."""
     area = b"\x1bW\1\0\1\0\x3f\x02\x7f\x06"
     return area + b"\x1bT" + bytes([direction]) + LARGEST + b"\x1b " + bytes([spacing]) + style
 

@@ -1,14 +1,14 @@
 #!/usr/bin/env python3
 """Looks for streams that hold the program up: search.py [--minutes M] [--bytes N] [--lanes L] [--seed S] [--vp VP]
-[receipt|label]. It makes streams of all commands of both languages, changes those that took longest for a byte, and says
-the ten worst of each language, each beside 1,024 boxes over a whole label, in as many copies as have its rows of paper: a
-printer feeds a narrow row no faster than a wide one.
-Where one takes longer than it may (LIMITS), that is said, and the status is 1.
+[receipt|label]. It makes streams of all commands of both languages, changes those that took longest for a byte, and
+says the ten worst of each language, each beside 1,024 boxes over a whole label, in as many copies as have its rows of
+paper: a printer feeds a narrow row no faster than a wide one. Where one takes longer than it may (LIMITS), that is
+said, and the status is 1.
 
-A stream has a name, as label:7.1.52 or receipt:widest-up.3: the number, or the kind of streams of bench/hostile.sh, that it
-grew from, and the numbers of the changes that were made to it. The name alone makes it again, whatever the machine:
-search.py --make NAME [--bytes N]. bench/found.txt keeps the names of the worst that were found, which a search begins with
-beside all kinds; --keep writes them anew."""
+A stream has a name, as label:7.1.52 or receipt:widest-up.3: the number, or the kind of streams of bench/hostile.sh,
+that it grew from, and the numbers of the changes that were made to it. The name alone makes it again, whatever the
+machine: search.py --make NAME [--bytes N]. bench/found.txt keeps the names of the worst that were found, which a
+search begins with beside all kinds; --keep writes them anew."""
 import argparse
 import concurrent.futures
 import os
@@ -24,8 +24,8 @@ from receipts import AGAIN
 
 ROOT = os.path.dirname(os.path.dirname(os.path.realpath(__file__)))
 FOUND = f"{ROOT}/bench/found.txt"
-# How many streams are kept to be changed, how many of them may have grown from one number, how many bytes of the stream a
-# row of paper weighs, and how many seconds a stream is given, and the program takes to start.
+# How many streams are kept to be changed, how many of them may have grown from one number, how many bytes of the
+# stream a row of paper weighs, and how many seconds a stream is given, and the program takes to start.
 KEPT, ALIKE, ROW, LONGEST, START = 10, 2, 1.5, 60, 0.002
 # How many times the boxes' time a stream of 300,000 bytes may take.
 LIMITS = {"label": 10, "receipt": 15}
@@ -298,8 +298,8 @@ def made(name):
 
 
 def measured(vp, name, most):
-    """Returns the microseconds of a processor that a stream takes for a byte, its seconds, and how many bytes it has and
-    rows it prints."""
+    """Returns the microseconds of a processor that a stream takes for a byte, its seconds, and how many bytes it has
+    and rows it prints."""
     stream = made(name)
     data = stream.bytes(most)
     took, rows = ran(vp, stream.language, data)
@@ -355,7 +355,8 @@ def kept(streams):
 
 
 def searched(given, language):
-    """Returns the worst streams of a language that were found, the worst first, each with what it takes and its size."""
+    """Returns the worst streams of a language that were found, the worst first, each with what it takes and its
+    size."""
     rng, end = random.Random(f"{language} {given.seed}"), time.monotonic() + given.minutes * 60
     best, tried = [], 0
     kinds = AGAIN if language == "receipt" else LABELS

@@ -85,7 +85,7 @@ def room(places):
 
 def failed(made, tests):
     """Returns the tests of a crate that failed, or nothing where they don't compile."""
-    words = [f"{ROOT}/tools/gate/try.py", "--test", "--seconds", "150"]
+    words = [f"{ROOT}/tools/gate/rt_try.py", "--test", "--seconds", "150"]
     ran = subprocess.run(words, cwd=f"{made}/crates/tests/{tests}", capture_output=True, text=True)
     if "test result:" not in ran.stdout + ran.stderr:
         return None

@@ -4,15 +4,15 @@
 set -eu
 export LC_ALL=C
 root=$(dirname "$(dirname "$(realpath "$0")")")
-program=$root/crates/program/vp_cli/out/vp_cli
-[ -x "$program" ] || program=$root/dist/vp
+program=${VP:-$root/dist/vp}
+[ -x "$program" ] || program=$root/crates/program/vp_cli/out/vp_cli
 if ! "$program" --version >/dev/null 2>&1; then
     echo 'not tested: dist/: there is no program to try it with'
     exit 0
 fi
 room=$(mktemp -d)
 trap 'rm -rf "$room"' EXIT
-unset CI
+unset CI VP
 # (another user is to reach it)
 chmod 755 "$room"
 
@@ -131,6 +131,14 @@ done
 [ ! -e "$tree/crates/program/vp_cli/out" ] || fail 'something is built in a clone'
 (cd "$tree" && PATH=$alone sh vp --version >/dev/null) || fail 'sh vp'
 mv "$tree/out" "$room/away"
+# without a tool that sums are taken with
+cp -R "$bin" "$room/lacking"
+for tool in find sort xargs wc od awk; do
+    mv "$room/lacking/$tool" "$room/tool"
+    is 125 "without $tool" vp "$room/lacking"
+    says "^vp: it can't be told whether dist/vp is of these sources: there is no $tool\$"
+    mv "$room/tool" "$room/lacking/$tool"
+done
 echo >"$tree/out"
 is 0 'where nothing can be kept' vp "$alone"
 prints 'where nothing can be kept'
@@ -138,7 +146,7 @@ silent 'where nothing can be kept'
 rm "$tree/out"
 mv "$room/away" "$tree/out"
 mkdir "$tree/docs" "$tree/examples"
-cp "$root/docs/vp.1" "$root"/docs/*.md "$tree/docs"
+cp "$root"/docs/*.1 "$root"/docs/*.md "$tree/docs"
 cp "$root"/examples/*.pbm "$tree/examples"
 for part in install completions python recipes LICENSE-MIT LICENSE-APACHE NOTICE CHANGELOG.md; do
     cp -R "$root/$part" "$tree"

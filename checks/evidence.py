@@ -1,12 +1,13 @@
 #!/usr/bin/env python3
-"""Checks that the must-fail and must-pass edits can be applied, and that those which docs/evidence.md names are there, each
-with the clause at which it is refused; where that is an answer by hand, that a must-pass edit gives the same function a right
-body in another form: checks/evidence.py [[--write] LOG]. With a log of the gate it compares these clauses with those of the
-log, and with --write it writes them into the page.
+"""Checks that the must-fail and must-pass edits can be applied, and that those which docs/evidence.md names are
+there, each with the clause at which it is refused; where that is an answer by hand, that a must-pass edit gives the
+same function a right body in another form: checks/evidence.py [[--write] LOG]. With a log of the gate it compares
+these clauses with those of the log, and with --write it writes them into the page.
 
-The gate tries edits of several functions in one check. Where a function is refused, goals of those that call it can be left
-untried: so which clause an edit breaks first, or whether the page's is among them, can hang on what was tried beside it. So an
-edit of the page that the log doesn't tell as refused is a fault, and another clause than the page's is only told."""
+The gate tries edits of several functions in one check. Where a function is refused, goals of those that call it can
+be left untried: so which clause an edit breaks first, or whether the page's is among them, can hang on what was tried
+beside it. So an edit of the page that the log doesn't tell as refused is a fault, and another clause than the page's
+is only told."""
 import glob
 import os
 import re
@@ -17,7 +18,7 @@ ROOT = os.path.dirname(os.path.dirname(os.path.abspath(__file__)))
 sys.dont_write_bytecode = True
 sys.path.insert(0, f"{ROOT}/tools/gate")
 from edits import Edit  # noqa: E402
-from refused import ANSWER, refusals  # noqa: E402
+from refused import ANSWER, not_tried, refusals  # noqa: E402
 
 PAGE = "docs/evidence.md"
 NAME = re.compile(r"`(vp_\w+/\w+)`")
@@ -89,13 +90,18 @@ def functions_of(file):
 
 
 def without_right_body(rows, there):
-    """Returns the edits that an answer by hand refuses and that change no function, or one of which no must-pass edit is."""
+    """Returns the edits that an answer by hand refuses and that change no function, or one of which no must-pass edit
+    is."""
     pairs = [(edit, clause) for row in rows for edit, clause in zip(row.edits, row.clauses)]
     by_answer = [edit for edit, clause in pairs if clause.endswith(ANSWER) and edit in there]
     right = {file: functions_of(file) for file in glob.glob("crates/*/*/must-pass/*.edit")}
-    beside = lambda edit: set().union(*(it for file, it in right.items() if file.split("/")[2] == edit.split("/")[0]))
-    is_shown = lambda functions, right: bool(functions) and functions <= right
-    return [edit for edit in by_answer if not is_shown(functions_of(there[edit]), beside(edit))]
+
+    def is_shown(edit):
+        functions, crate = functions_of(there[edit]), edit.split("/")[0]
+        beside = set().union(*(it for file, it in right.items() if file.split("/")[2] == crate))
+        return functions and functions <= beside
+
+    return [edit for edit in by_answer if not is_shown(edit)]
 
 
 def rows_of(lines):
@@ -124,8 +130,11 @@ def main():
     faults += [f"{PAGE}: {it}" for row in rows.values() for it in row.faults(there)]
     faults += [f"no must-pass edit is of the function of {it}" for it in without_right_body(rows.values(), there)]
     others = [it for row in rows.values() if log for it in row.others(found)]
+    late = not_tried(log) if log else []
     for edit, told in others:
-        if told:
+        if edit in late:
+            print(f"checks/evidence: (told) {edit} was not tried this time")
+        elif told:
             print(f"checks/evidence: (told) {edit} is refused at {', '.join(told)}")
         else:
             faults.append(f"{PAGE}: the log doesn't tell that {edit} is refused")

@@ -5,8 +5,7 @@
 set -eu
 export LC_ALL=C
 cd "$(dirname "$0")/.."
-vp=${VP:-$PWD/crates/program/vp_cli/out/vp_cli}
-[ -x "$vp" ] || vp=$(tools/dist/program)
+vp=${VP:-$(tools/dist/program)}
 scratch=$(mktemp -d)
 trap 'rm -rf "$scratch"' EXIT
 
@@ -76,6 +75,7 @@ for language in receipt label; do
     room=8192 status=0
     while [ "$status" -eq 0 ]; do
         room=$((room - 32)) status=0
+        # shellcheck disable=SC3045
         (ulimit -v "$room" && exec "$vp" "$language" --font-a examples/font-a.pbm /dev/null) \
             >"$scratch/paper" 2>"$scratch/said" || status=$?
     done

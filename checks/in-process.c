@@ -15,6 +15,10 @@
 #include <stdlib.h>
 #include <string.h>
 #include <time.h>
+#ifdef _WIN32
+#include <fcntl.h>
+#include <io.h>
+#endif
 
 #define FILLED 0xA5
 #define MOST_ROOM 5000
@@ -204,6 +208,11 @@ static int bad(void) {
     expect(vp_fault_line(&done.fault, 4, cut, 0) == 0, "a line into no room");
     fault.number = 77;
     expect(vp_fault_line(&fault, 4, line, sizeof line) == 0 && line[0] == 0, "the line of no fault");
+    unsigned number = vp_version_number();
+    snprintf(line, sizeof line, "%u.%u.%u", number / 10000, number / 100 % 100, number % 100);
+    char text[VP_LINE];
+    expect(vp_version(text, sizeof text) == strlen(line) && strcmp(text, line) == 0, "the version as a text and as a number");
+    expect(number == VP_VERSION, "the version of the header");
     vp_free(&printer);
     vp_free(&printer);
     expect(printer.printer == NULL && vp_pending(&printer) == VP_NO_PRINTER, "a printer that was freed");
@@ -284,6 +293,10 @@ static int timed(char **words) {
 }
 
 int main(int count, char **words) {
+#ifdef _WIN32
+    _setmode(1, _O_BINARY);
+    _setmode(2, _O_BINARY);
+#endif
     const char *mode = count > 1 ? words[1] : "";
     if (strcmp(mode, "print") == 0 && count == 7) return print(words + 2);
     if (strcmp(mode, "bad") == 0) return bad();

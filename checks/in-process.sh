@@ -9,8 +9,7 @@ export LC_ALL=C
 cd "$(dirname "$0")/.."
 root=$PWD library=$PWD/dist a=$PWD/examples/font-a.pbm b=$PWD/examples/font-b.pbm
 count=${COUNT:-100}
-vp=${VP:-$root/crates/program/vp_cli/out/vp_cli}
-[ -x "$vp" ] || vp=$(tools/dist/program)
+vp=${VP:-$(tools/dist/program)}
 room=$(mktemp -d)
 trap 'rm -rf "$room"' EXIT
 fail() {
@@ -64,7 +63,7 @@ built counted -O2 -DCOUNTED -Wl,--wrap=malloc,--wrap=realloc,--wrap=free checks/
 # what is shown, and that C and C++ read the header
 if needs nm; then
     declared=$(sed -n 's/^[a-z0-9_]* \(vp_[a-z_]*\)(.*/\1/p' include/vp.h | LC_ALL=C sort)
-    [ "$(nm -D --defined-only "$library/libvp.so" | sed 's/.* //' | LC_ALL=C sort)" = "$declared" ] || fail 'libvp.so shows other names'
+    [ "$(nm -D --defined-only "$library/libvp.so" | sed -n 's/@@VP_1$//; s/.* T //p' | LC_ALL=C sort)" = "$declared" ] || fail 'libvp.so shows other names'
     [ "$(nm -g --defined-only "$library/libvp.a" | sed -n 's/.* [A-Z] //p' | LC_ALL=C sort)" = "$declared" ] || fail 'libvp.a shows other names'
 fi
 printf '#include <vp.h>\n' >"$room/c90.c"

@@ -4,8 +4,8 @@
 set -eu
 export LC_ALL=C
 root=$(dirname "$(dirname "$(realpath "$0")")")
-program=$root/crates/program/vp_cli/out/vp_cli
-[ -x "$program" ] || program=$root/dist/vp
+program=${VP:-$root/dist/vp}
+[ -x "$program" ] || program=$root/crates/program/vp_cli/out/vp_cli
 if ! "$program" --version >/dev/null 2>&1; then
     echo 'not tested: install, completions, package: there is no program to try them with'
     exit 0
@@ -26,6 +26,13 @@ is() {
     "$@" >"$room/printed" 2>"$room/said" || status=$?
     [ "$status" -eq "$expected" ] || fail "$what: status $status in place of $expected"
 }
+# is_compiled PREFIX: whether each module that a call of vp-show reads is kept compiled
+is_compiled() {
+    python3 -v "$1/bin/vp-show" "$root/examples/shelf.zpl" >/dev/null 2>"$room/said" || fail 'vp-show of modules that are compiled'
+    rm -f shelf.png
+    grep -q "^# code object from .*/lib/vp/.*\.pyc'" "$room/said" || fail "nothing below $1 is compiled"
+    ! grep "^# code object from .*/lib/vp/.*\.py'" "$room/said" || fail "a module below $1 isn't compiled"
+}
 has() { command -v "$1" >/dev/null || { echo "not tested: $2: $1 isn't installed"; false; }; }
 
 # below a prefix, and below a prefix in another root
@@ -39,7 +46,7 @@ for dest in '' "$room/a root"; do
     is 0 'install' "$root/install" "$prefix"
     grep -qx "$dest$prefix/bin/vp" "$room/printed" || fail 'install names no program'
     (cd "$dest$prefix" && find . -type f | LC_ALL=C sort) >"$room/files"
-    for file in bin/vp include/vp.h lib/libvp.so.1 lib/libvp.a lib/pkgconfig/vp.pc share/man/man1/vp.1 share/vp/font-a.pbm share/vp/font-b.pbm lib/vp/job lib/vp/paper \
+    for file in bin/vp include/vp.h lib/libvp.so.1 lib/libvp.a lib/pkgconfig/vp.pc lib/pkgconfig/vp-static.pc lib/cmake/vp/vp-config.cmake lib/cmake/vp/vp-config-version.cmake share/man/man1/vp.1 share/vp/font-a.pbm share/vp/font-b.pbm lib/vp/job lib/vp/paper \
         share/doc/vp/LICENSE-MIT share/doc/vp/LICENSE-APACHE share/doc/vp/NOTICE share/doc/vp/CHANGELOG.md; do
         grep -qx "./$file" "$room/files" || fail "$file isn't installed"
     done
@@ -62,14 +69,19 @@ for dest in '' "$room/a root"; do
     # recipes on the path
     for tool in show lint golden paper; do
         is 0 "vp-$tool" env -i PATH="$PATH" "$dest$prefix/bin/vp-$tool" --help
-        [ -e "$dest$prefix/share/bash-completion/completions/vp-$tool" ] || fail "no completions of vp-$tool"
     done
+    for tool in "$dest$prefix/bin"/vp-*; do
+        tool=${tool##*/}
+        [ -e "$dest$prefix/share/bash-completion/completions/$tool" ] || fail "no completions of $tool"
+        grep -q "^\.Ss $tool\$" "$dest$prefix/share/man/man1/$tool.1" || fail "no manual page of $tool"
+    done
+    (cd "$room" && is_compiled "$dest$prefix")
     (cd "$room" && is 0 'vp-show' env -i PATH="$PATH" "$dest$prefix/bin/vp-show" "$root/examples/shelf.zpl")
     [ -e "$room/shelf.png" ] || fail 'vp-show makes no PNG'
     (cd "$dest$prefix/share/vp" && env -i ../../bin/vp receipt --font-a font-a.pbm --font-b font-b.pbm) \
         <"$root/examples/receipt.bin" >"$room/receipt.pbm"
     (cd "$room" && env -i PATH="$PATH" "$dest$prefix/lib/vp/paper" receipt.png) <"$room/receipt.pbm"
-    cmp "$room/receipt.png" "$root/docs/receipt.png"
+    python3 "$root/recipes/tests/testing.py" same "$room/receipt.png" "$room/receipt.pbm"
     # a file of an earlier version goes with the next install
     echo old >"$dest$prefix/lib/vp/old"
     echo lib/vp/old >>"$dest$prefix/lib/vp/installed"
@@ -87,6 +99,12 @@ for dest in '' "$room/a root"; do
     is 3 'uninstall where nothing is' "$root/install" --uninstall "$prefix"
 done
 unset DESTDIR
+
+# whoever may read the place may use it, whatever the umask
+(umask 077 && is 0 'install under umask 077' "$root/install" "$room/closed/to others")
+closed=$(find "$room/closed" \( -type d ! -perm -755 -o -type f ! -perm -644 \) -print)
+[ -z "$closed" ] || fail "it is closed to others: $closed"
+rm -r "$room/closed"
 
 # files that no install put there stay, and no link leads it elsewhere
 prefix=$room/others
@@ -176,6 +194,14 @@ zpty -n -w asked "$1"$'\t'
 await finished
 zpty -d asked
 END
+"$root/tools/docs/commands.py" --check || fail 'completions or the manual page lack what a command has'
+for words in receipt label list join; do
+    for option in $("$program" "$words" --help | grep -o '^ *\(-., \)\?--[a-z-]*' | grep -o -- '--.*'); do
+        in_bash "vp $words --" | grep -qx -- "$option" || fail "bash doesn't offer vp $words $option"
+        grep -q -- "-l ${option#--}\>" "$root/completions/vp.fish" || fail "fish doesn't offer $option"
+        grep -q -- "$option\>" "$root/completions/_vp" || fail "zsh doesn't offer $option"
+    done
+done
 touch "$room/zsh/order.bin"
 touch "$room/order.bin"
 cd "$room"
@@ -196,6 +222,9 @@ for shell in bash fish zsh; do
         offers "$shell" 'vp-show ord' order.bin
         offers "$shell" 'vp-lint --known ord' order.bin
         offers "$shell" 'vp-golden che' check
+        offers "$shell" 'vp-job --e' --expand
+        offers "$shell" 'vp-job ord' order.bin
+        offers "$shell" 'vp-viewer --width ' 384 576
         offers "$shell" 'vp-sheet --font ' a b
         echo "completions of $shell: ok"
     fi
@@ -222,12 +251,16 @@ if has dpkg-deb 'what the package holds'; then
         "$root/examples/receipt.bin" | cmp - receipt.pbm
     dpkg-deb -e "$deb" head
     (cd empty && md5sum --quiet -c ../head/md5sums) || fail 'a sum of the package is wrong'
-    needed=$("$root/tools/dist/needs.py" "$program")
+    needed=$("$root/tools/dist/glibc_needed.py" "$program")
     grep -q "^Depends: libc6 (>= $needed)" head/control || fail 'the package needs another libc6'
+    grep -q '^Recommends: .*\bzint\b' head/control || fail 'the package recommends no zint'
+    for name in vp vp-tools vp-show vp-viewer; do
+        gzip -dc "empty/usr/share/man/man1/$name.1.gz" >/dev/null || fail "the package has no manual page of $name"
+    done
     # what is built with the library's packages runs by them
     dpkg-deb -x "$library_deb" for-c
     dpkg-deb -x "$dev_deb" for-c
-    dpkg-deb -f "$library_deb" Depends | grep -q "^libc6 (>= $("$root/tools/dist/needs.py" for-c/usr/lib/libvp.so.1))" ||
+    dpkg-deb -f "$library_deb" Depends | grep -q "^libc6 (>= $("$root/tools/dist/glibc_needed.py" for-c/usr/lib/libvp.so.1))" ||
         fail 'the library needs another libc6'
     if has cc 'a program in C by the packages'; then
         cc -Ifor-c/usr/include "$root/examples/c/print.c" -Lfor-c/usr/lib -lvp -o print
@@ -236,6 +269,8 @@ if has dpkg-deb 'what the package holds'; then
         if has pkg-config 'what pkg-config says'; then
             words=$(PKG_CONFIG_PATH=for-c/usr/lib/pkgconfig pkg-config --define-variable=prefix=here --cflags --libs vp)
             [ "$(echo "$words" | tr -s ' ' | sed 's/ $//')" = '-Ihere/include -Lhere/lib -lvp' ] || fail "pkg-config says $words"
+            words=$(PKG_CONFIG_PATH=for-c/usr/lib/pkgconfig pkg-config --define-variable=prefix=here --cflags --libs vp-static)
+            [ "$(echo "$words" | tr -s ' ' | sed 's/ $//')" = '-Ihere/include here/lib/libvp.a' ] || fail "pkg-config says $words"
         fi
     fi
     echo 'what the packages hold: ok'
@@ -245,9 +280,13 @@ if [ "$(id -u)" != 0 ]; then
 elif has dpkg 'the package, installed and removed'; then
     mkdir -p place/var/lib/dpkg/updates place/var/lib/dpkg/info
     : >place/var/lib/dpkg/status
-    dpkg_in() { PATH=$PATH:/usr/sbin:/sbin dpkg --root="$room/place" --force-depends --log=/dev/null "$@"; }
+    dpkg_in() {
+        PATH=$PATH:/usr/sbin:/sbin \
+            dpkg --root="$room/place" --force-depends --force-script-chrootless --log=/dev/null "$@"
+    }
     is 0 'installed by dpkg' dpkg_in -i "$deb" "$library_deb" "$dev_deb"
     place/usr/bin/vp --version >/dev/null
+    is_compiled "$room/place/usr"
     is 0 'removed by dpkg' dpkg_in --purge vp libvp-dev libvp1
     left=$(cd place && find . -path ./var -prune -o -type f -print)
     [ -z "$left" ] || fail "dpkg left: $left"

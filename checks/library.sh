@@ -1,5 +1,5 @@
 #!/bin/sh
-# Takes an example and what it stands on into an empty folder by tools/vendoring/take, and compares docs/library.md with the
+# Takes an example and what it stands on into an empty folder by tools/vendoring/copy-crates, and compares docs/library.md with the
 # examples' files. ./checks/library.sh check proves the example there too, which builds all libraries below it.
 set -eu
 export LC_ALL=C
@@ -21,7 +21,7 @@ is() {
 }
 
 mkdir "$room/ours"
-is 0 "$root/tools/vendoring/take" --edits "$room/ours" "$example"
+is 0 "$root/tools/vendoring/copy-crates" --edits "$room/ours" "$example"
 [ "$(tail -n 1 "$room/printed")" = "$example" ] || fail 'the example is not the last crate that is taken'
 (cd "$room/ours" && find . -type f | sort) >"$room/files"
 ! grep -q '/out/' "$room/files" || fail 'what rt keeps is taken'
@@ -40,7 +40,7 @@ cmp "$root/NOTICE" "$room/ours/licences/vp/NOTICE"
 mkdir "$room/theirs"
 echo 'own:' >"$room/theirs/crates.txt"
 echo 'Handles allowed: Wait.' >"$room/theirs/HANDLES"
-is 0 "$root/tools/vendoring/take" "$room/theirs"
+is 0 "$root/tools/vendoring/copy-crates" "$room/theirs"
 [ "$(head -n 1 "$room/theirs/crates.txt")" = own: ] || fail 'a line of theirs is gone'
 grep -q '^printing/vp_engine: ' "$room/theirs/crates.txt" || fail 'vp_engine is not taken where no crate is named'
 grep -q Wait "$room/theirs/HANDLES" || fail 'their HANDLES is another'
@@ -48,15 +48,15 @@ grep -q Wait "$room/theirs/HANDLES" || fail 'their HANDLES is another'
 
 # what is there stays
 (cd "$room/theirs" && find . -type f -exec sha256sum {} + | sort) >"$room/before"
-is 3 "$root/tools/vendoring/take" "$room/theirs"
+is 3 "$root/tools/vendoring/copy-crates" "$room/theirs"
 (cd "$room/theirs" && find . -type f -exec sha256sum {} + | sort) >"$room/after"
 cmp "$room/before" "$room/after"
-is 2 "$root/tools/vendoring/take"
-is 2 "$root/tools/vendoring/take" --edits
-is 2 "$root/tools/vendoring/take" "$room/none" printing/vp_none
+is 2 "$root/tools/vendoring/copy-crates"
+is 2 "$root/tools/vendoring/copy-crates" --edits
+is 2 "$root/tools/vendoring/copy-crates" "$room/none" printing/vp_none
 [ ! -e "$room/none" ] || fail 'a folder is made for a crate that is none'
 touch "$room/file"
-is 3 "$root/tools/vendoring/take" "$room/file"
+is 3 "$root/tools/vendoring/copy-crates" "$room/file"
 
 # each block of the page behind a line that names a file of an example is that file
 shown=$(sed -n "s/^[\`]\(vp_.*\)[\`]:\$/\1/p" "$root/docs/library.md")
@@ -76,4 +76,4 @@ done
 if [ "${1:-}" = check ]; then
     (cd "$room/ours/crates/$example" && rt check)
 fi
-echo 'tools/vendoring/take, and the examples of docs/library.md: ok'
+echo 'tools/vendoring/copy-crates, and the examples of docs/library.md: ok'

@@ -22,7 +22,7 @@ done
 # refuse LANE NTH: runs the tests in the lane's room, with their nth allocation refused
 refuse() {
     cd "$rooms/$1/crates/tests/vp_memory_tests"
-    "$tools/gate/try.py" --test --fail-alloc "$2" >"$rooms/$1/log" 2>&1 || true
+    "$tools/gate/rt_try.py" --test --fail-alloc "$2" >"$rooms/$1/log" 2>&1 || true
     cp "$rooms/$1/log" "$rooms/said.$2"
 }
 

@@ -27,10 +27,7 @@ left_out() {
     [ -z "${VP_LEFT_OUT:-}" ] || echo "python $1" >>"$VP_LEFT_OUT"
 }
 
-if [ -z "${VP:-}" ]; then
-    VP=$root/crates/program/vp_cli/out/vp_cli
-    [ -x "$VP" ] || VP=$(tools/dist/program)
-fi
+[ -n "${VP:-}" ] || VP=$(tools/dist/program)
 export VP
 library=${LIBVP:-$root/dist/libvp.so}
 if ! [ -f "$library" ] || ! "$VP" --version >/dev/null 2>&1; then
@@ -180,20 +177,50 @@ def test_twice(vp_label, vp_golden):
         vp_golden(paper, 'one')
 END
     tested() { (cd "$room/suite" && env -u LIBVP PYTHONPATH="$site" pytest -q -p no:cacheprovider --basetemp "$room/pytest" "$@"); }
+    unset CI
     is 1 'nothing accepted yet' tested
     says 'no image was accepted yet: .*test_receipt.pbm'
-    is 0 'what is printed is accepted' tested --vp-accept
+    CI=true is 4 'nothing is accepted in a CI' tested --vp-accept
+    says 'CI is set, and there nothing is accepted'
+    is 1 'a fault is accepted by a word alone' tested --vp-accept
+    says 'not accepted: it ends in a fault, vp: F9 after 30 bytes: input ends before printing; --vp-accept-incomplete'
+    [ -z "$(find "$room/suite/expected" -name '*.fault')" ] || fail 'a fault is accepted'
+    is 0 'what is printed is accepted' tested --vp-accept-incomplete
     is 0 'what was accepted is printed' tested
+    is 0 'what was accepted by a word needs none' tested --vp-accept
     grep -q '^vp: F9 after 30 bytes: input ends before printing$' "$room/suite/expected/test_till/"*.fault || fail 'no fault is kept'
     [ -z "$(find "$room/suite" -name '*.pbm' ! -path '*/expected/*' -o -name '.*' -type f)" ] || fail 'a file stands elsewhere'
     TOTAL=9.08 is 1 'a total that changed' tested
-    says 'row 9 is the first that differs; see .*test_receipt.png; --vp-accept'
+    says '27 dots differ, in rows 9 to 16; see .*test_receipt.png; --vp-accept'
     picture=$(find "$room/pytest" -name test_receipt.png)
     [ "$(od -An -j 16 -N 8 -tu1 "$picture" | tr -s ' ')" = ' 0 0 6 224 0 0 0 34' ] || fail 'the picture is another'
     echo '# F9 no more' >>"$room/suite/test_till.py"
     sed -i 's/\^FS^XZ^XA/^FS^XZ/' "$room/suite/test_till.py"
     is 1 'a fault that is gone' tested
     says 'the fault is to be vp: F9 after 30 bytes: input ends before printing and is none'
+    cat >"$room/suite/test_skips.py" <<'END'
+def test_skips(vp_label, vp_receipt, vp_golden):
+    vp_golden(vp_label.print(b'^XA^CI28^LT0^PW80^LL40^GB9,9,1^FS^FVNAME JOHN^FS^XZ'), 'label')
+    vp_golden(vp_receipt.print(b'\x1b@\x1bt\x10A\n'), 'receipt')
+END
+    is 1 'what is skipped is accepted by a word alone' tested test_skips.py --vp-accept
+    says 'not accepted: it skips ^FVNAME JOHN; --vp-accept-incomplete takes it over'
+    is 0 'what is skipped is accepted by a word' tested test_skips.py --vp-accept-incomplete
+    [ "$(cat "$room/suite/expected/test_skips/"*.skipped)" = '^FVNAME JOHN' ] || fail 'other things are skipped'
+    is 0 'what no test compares is told' tested test_skips.py --vp-accept-incomplete
+    ! grep 'any more' "$room/said" >&2 || fail 'an image that is compared is told'
+    sed -i '/receipt.print/d' "$room/suite/test_skips.py"
+    mkdir "$room/suite/expected/test_gone" && cp "$room/suite/expected/test_skips/"*.pbm "$room/suite/expected/test_gone"
+    is 0 'what no test compares any more' tested test_skips.py --vp-accept-incomplete
+    says '^vp_golden: no test compares .*/expected/test_skips/test_skips.receipt.pbm any more$'
+    says '^vp_golden: no test compares .*/expected/test_gone any more$'
+    [ "$(grep -c 'any more' "$room/said")" = 2 ] || { cat "$room/said" >&2 && fail 'others are told'; }
+    is 0 'of a part of a file nothing is told' tested test_skips.py::test_skips
+    ! grep 'test_skips.receipt' "$room/said" >&2 || fail 'a part of a file tells of the rest'
+    sed -i 's/JOHN/MARY/' "$room/suite/test_skips.py"
+    is 1 'what is skipped is another thing' tested test_skips.py
+    says 'what is skipped is to be ^FVNAME JOHN and is ^FVNAME MARY'
+    ! grep 'any more' "$room/said" >&2 || fail 'a test that fails tells of its images'
     echo "pytest's fixtures: ok"
 else
     left_out pytest

@@ -1,7 +1,7 @@
 #!/usr/bin/env python3
-"""streams.py FOLDER COUNT [SEED]: writes so many random receipts (receipt-N.bin) and labels (label-N.zpl) into a folder:
-whole ones of some commands each, and as many that are cut, joined or changed somewhere. The same words give the same
-bytes."""
+"""streams.py FOLDER COUNT [SEED]: writes so many random receipts (receipt-N.bin) and labels (label-N.zpl) into a
+folder: whole ones of some commands each, and as many that are cut, joined or changed somewhere. The same words give
+the same bytes."""
 import os
 import random
 import sys
@@ -11,14 +11,24 @@ sys.path.insert(0, os.path.join(os.path.dirname(os.path.realpath(__file__)), "..
 import labels  # noqa: E402
 import receipts  # noqa: E402
 
-SETTINGS = [b"\x1b@", b"\x1ba\x01", b"\x1bM\x01", b"\x1d!\x11", b"\x1d!\x77", b"\x1b-\x01", b"\x1b{\x01", b"\x1bV\x01", b"\x1b3\x10", b"\x1dL\x40\x00", b"\t"]
-PAGE = [b"\x1bL", b"\x1bW\x00\x00\x00\x00\x40\x01\x40\x01", b"\x1bT\x01", b"\x1bT\x02", b"\x1bT\x03", b"\x1d$\x40\x00", b"\x0c", b"\x1b\x0c", b"\x18"]
-LABEL = ["^FR", "^FWR", "^POI", "^PMY", "^LRY", "^PQ2", "^CF0,40", "^BY3", "^FO50,60^FB200,3,0,C^FD", "^FT30,200^A0B,30^FD", "^GB100,50,5^FS", "^GE90,60,4^FS", "^FS"]
+SETTINGS = [
+    b"\x1b@", b"\x1ba\x01", b"\x1bM\x01", b"\x1d!\x11", b"\x1d!\x77", b"\x1b-\x01", b"\x1b{\x01",
+    b"\x1bV\x01", b"\x1b3\x10", b"\x1dL\x40\x00", b"\t",
+]
+PAGE = [
+    b"\x1bL", b"\x1bW\x00\x00\x00\x00\x40\x01\x40\x01", b"\x1bT\x01", b"\x1bT\x02", b"\x1bT\x03",
+    b"\x1d$\x40\x00", b"\x0c", b"\x1b\x0c", b"\x18",
+]
+LABEL = [
+    "^FR", "^FWR", "^POI", "^PMY", "^LRY", "^PQ2", "^CF0,40", "^BY3", "^FO50,60^FB200,3,0,C^FD",
+    "^FT30,200^A0B,30^FD", "^GB100,50,5^FS", "^GE90,60,4^FS", "^FS",
+]
 
 
 def receipt(rng):
     """A receipt of some commands."""
-    makers = [receipts.line, receipts.styled, receipts.bars, receipts.square, lambda: rng.choice(SETTINGS), lambda: rng.choice(PAGE), lambda: receipts.CUT]
+    makers = [receipts.line, receipts.styled, receipts.bars, receipts.square]
+    makers += [lambda: rng.choice(SETTINGS), lambda: rng.choice(PAGE), lambda: receipts.CUT]
     pieces = [rng.choice(makers)() for _ in range(rng.randrange(1, 12))]
     if rng.random() < 0.2:
         pieces.insert(rng.randrange(len(pieces)), receipts.logo()[: rng.randrange(8, 4000)])
@@ -31,7 +41,8 @@ def label(rng):
     fields = [f"{it}^FS" for it in rng.sample(whole, rng.randrange(0, 8))]
     fields += [rng.choice(LABEL) for _ in range(rng.randrange(0, 6))]
     rng.shuffle(fields)
-    return f"^XA^PW{rng.randrange(8, 832)}^LL{rng.randrange(1, 600)}{''.join(fields)}{rng.choice(('^XZ', '^XZ', ''))}".encode()
+    size = f"^PW{rng.randrange(8, 832)}^LL{rng.randrange(1, 600)}"
+    return f"^XA{size}{''.join(fields)}{rng.choice(('^XZ', '^XZ', ''))}".encode()
 
 
 def changed(rng, data):

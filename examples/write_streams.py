@@ -1,5 +1,6 @@
 #!/usr/bin/env python3
-"""Writes the streams of the examples beside this file: receipts as a till sends them, labels as a shop's software does."""
+"""Writes the streams of the examples beside this file: receipts as a till sends them, labels as a shop's software
+does."""
 import itertools
 import math
 import os
@@ -77,7 +78,8 @@ def counted(digit, times):
 
 
 def run_length(rows):
-    """The codes of a picture: `,` and `!` for the rest of a row that is white or black, `:` for the row before again."""
+    """The codes of a picture: `,` and `!` for the rest of a row that is white or black, `:` for the row before
+    again."""
     before = None
     for row in rows:
         digits, rest = row.hex().upper(), ''

@@ -29,11 +29,12 @@
  *   - a vp is {0}, or what a call of this library left in it. It isn't copied: pass its address.
  *   - one thread at a time uses a printer. Printers know nothing of each other: a thread may have its own.
  *   - bytes lie where a pointer and a length say, and what a call writes lies apart from all else that it is
- *     given. Where a length is 0 its pointer isn't followed, and may be NULL; no other pointer may.
+ *     given. Where a length is 0 its pointer isn't followed, and may be NULL; no other pointer may. Bytes may
+ *     begin anywhere; structs and numbers are aligned as your compiler aligns them.
  *   - no call comes from a signal handler, or from a forked child of a process with threads.
  *   - malloc, realloc and free are one allocator's, which aligns as C wants it.
  *
- * Link with -lvp, or with libvp.a. */
+ * Link with -lvp, or with libvp.a; under Windows with vp.lib, for vp.dll. */
 #ifndef VP_H
 #define VP_H
 
@@ -44,30 +45,38 @@
 extern "C" {
 #endif
 
+/* The version of this header, as vp_version_number tells that of the library: 10000 for each of its first
+ * number, 100 for each of its second, and its third. */
+#define VP_VERSION 10100
+
 /* A printer's handle. {0} has no printer: calls that need one answer VP_NO_PRINTER. */
 typedef struct vp {
     void *printer;
 } vp;
 
 /* What a stream is written in, and on which paper it is printed. */
-#define VP_RECEIPT 0u    /* ESC/POS, paper of 576 dots */
-#define VP_RECEIPT_58 1u /* ESC/POS, paper of 384 dots */
-#define VP_LABEL 2u      /* ZPL II, labels as wide and as long as they say */
+enum vp_language {
+    VP_RECEIPT = 0,    /* ESC/POS, paper of 576 dots */
+    VP_RECEIPT_58 = 1, /* ESC/POS, paper of 384 dots */
+    VP_LABEL = 2       /* ZPL II, labels as wide and as long as they say */
+};
 
 /* Answers. Of a sheet that is none, which one it is and its first offence. */
-#define VP_OK 0u
-#define VP_NO_MEMORY 1u
-#define VP_NO_LANGUAGE 2u
-#define VP_NO_PRINTER 3u
-#define VP_PENDING 4u     /* paper is still to be put out */
-#define VP_SHEET_A_S1 11u /* S1: not P4 */
-#define VP_SHEET_A_S2 12u /* S2: bad header */
-#define VP_SHEET_A_S3 13u /* S3: wrong size */
-#define VP_SHEET_A_S4 14u /* S4: too short */
-#define VP_SHEET_B_S1 21u
-#define VP_SHEET_B_S2 22u
-#define VP_SHEET_B_S3 23u
-#define VP_SHEET_B_S4 24u
+enum vp_answer {
+    VP_OK = 0,
+    VP_NO_MEMORY = 1,
+    VP_NO_LANGUAGE = 2,
+    VP_NO_PRINTER = 3,
+    VP_PENDING = 4,     /* paper is still to be put out */
+    VP_SHEET_A_S1 = 11, /* S1: not P4 */
+    VP_SHEET_A_S2 = 12, /* S2: bad header */
+    VP_SHEET_A_S3 = 13, /* S3: wrong size */
+    VP_SHEET_A_S4 = 14, /* S4: too short */
+    VP_SHEET_B_S1 = 21,
+    VP_SHEET_B_S2 = 22,
+    VP_SHEET_B_S3 = 23,
+    VP_SHEET_B_S4 = 24
+};
 
 /* Why a stream is wrong: F1 to F9, as the program numbers them. */
 typedef struct vp_fault {
@@ -78,14 +87,16 @@ typedef struct vp_fault {
 } vp_fault;
 
 /* What a step has come to. */
-#define VP_MORE 0u    /* all input is taken, and all its paper is put out */
-#define VP_ROOM 1u    /* the output is full, and there is more paper: call again, with the rest of the input */
-#define VP_STOPPED 2u /* the last byte taken makes the fault, the paper before it is put out; no more comes */
+enum vp_state {
+    VP_MORE = 0,   /* all input is taken, and all its paper is put out */
+    VP_ROOM = 1,   /* the output is full, and there is more paper: call again, with the rest of the input */
+    VP_STOPPED = 2 /* the last byte taken makes the fault, the paper before it is put out; no more comes */
+};
 
 typedef struct vp_progress {
     size_t taken; /* bytes taken from the front of the input */
     size_t put;   /* bytes put to the front of the output */
-    uint32_t state;
+    uint32_t state; /* of vp_state */
     vp_fault fault; /* where the state is VP_STOPPED: F1 to F7, which a byte makes */
 } vp_progress;
 
@@ -98,9 +109,9 @@ typedef struct vp_held_now {
     uint16_t band_rows; /* rows of a label's band: 32 */
 } vp_held_now;
 
-/* Makes a printer, with the bytes of a sheet of font A (12 by 24 dots) and one of font B (9 by 17), which
- * are copied. No sheet is a length of 0: its characters are white. Where the answer isn't VP_OK, *made is
- * {0}. What *made held before isn't freed. */
+/* Makes a printer of a vp_language, with the bytes of a sheet of font A (12 by 24 dots) and one of font B
+ * (9 by 17), which are copied. No sheet is a length of 0: its characters are white. Where the answer isn't
+ * VP_OK, *made is {0}. What *made held before isn't freed. */
 uint32_t vp_new(uint32_t language, const uint8_t *font_a, size_t font_a_length, const uint8_t *font_b,
                 size_t font_b_length, vp *made);
 
@@ -144,8 +155,9 @@ size_t vp_fault_line(const vp_fault *fault, uint64_t after, char *line, size_t r
 /* Writes what an answer of vp_new means, in the same way: "out of memory", "S1 not P4". */
 size_t vp_answer_text(uint32_t answer, char *text, size_t room);
 
-/* Writes the version of the library, in the same way. */
+/* Writes the version of the library, in the same way; or tells it as a number, as VP_VERSION is one. */
 size_t vp_version(char *text, size_t room);
+uint32_t vp_version_number(void);
 
 #ifdef __cplusplus
 }

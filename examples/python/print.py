@@ -1,6 +1,6 @@
 #!/usr/bin/env python3
-"""print.py receipt|label NAME < STREAM: prints a stream as it comes, each strip or label as NAME-1.png, NAME-2.png and so
-on. The package vp has to be installed, or be on the path: PYTHONPATH=python examples/python/print.py .."""
+"""print.py receipt|label NAME < STREAM: prints a stream as it comes, each strip or label as NAME-1.png, NAME-2.png
+and so on. The package vp has to be installed, or be on the path: PYTHONPATH=python examples/python/print.py .."""
 import sys
 
 import vp

@@ -1,10 +1,12 @@
 """Printers: faults, bad input, bounds, what is held, and threads."""
 import gc
 import pathlib
+import signal
 import subprocess
 import sys
 import tempfile
 import threading
+import time
 import unittest
 
 import common
@@ -128,12 +130,16 @@ class Bounds(unittest.TestCase):
         self.assertEqual(len(vp.Receipt(most_rows=5).print(feeds(5))), 5)
         with self.assertRaises(vp.TooMuchPaper) as raised:
             vp.Receipt(most_rows=5).print(feeds(6))
-        self.assertEqual(str(raised.exception), 'vp: more than 5 rows are printed')
+        self.assertEqual(str(raised.exception), 'vp: cut off after 18 bytes: it prints more than 5 rows')
+        self.assertEqual(raised.exception.paper, vp.Receipt().print(feeds(5)))
         size = len(vp.Receipt().print(feeds(5)).pbm())
         self.assertEqual(len(vp.Receipt(most_bytes=size).print(feeds(5))), 5)
         with self.assertRaises(vp.TooMuchPaper) as raised:
             vp.Receipt(most_bytes=size - 1).print(feeds(5))
-        self.assertEqual(str(raised.exception), f'vp: more than {size - 1} bytes are printed')
+        self.assertEqual(str(raised.exception), f'vp: cut off after 15 bytes: it prints more than {size - 1} bytes')
+        with self.assertRaises(vp.TooMuchPaper) as raised:
+            vp.Receipt(most_images=4).print(feeds(5))
+        self.assertEqual(len(raised.exception.paper), 4)
         self.assertEqual(len(vp.Receipt(most_rows=None, most_bytes=None).print(feeds(6))), 6)
         with self.assertRaises(vp.TooMuchPaper):
             vp.list(RECEIPT, 'receipt', most_bytes=10)
@@ -142,6 +148,27 @@ class Bounds(unittest.TestCase):
         for stream in b'^XA^PW1248^LL8000^GB8,8^FS^PQ99999999^XZ', b'^XA^PW8^LL1^GB8,8^FS^PQ99999999^XZ':
             with self.assertRaises(vp.TooMuchPaper):
                 vp.Label().print(stream)
+
+    def test_time(self):
+        # copies of which each takes a tenth of a second, and prints twelve bytes
+        slow = b'^XA^PW1^LL1^PQ99999999^POI^FT0,1^GFA,,99999999,1,F0' + 262000 * b':' + b'^FS^XZ'
+        start = time.monotonic()
+        with self.assertRaises(vp.TooMuchPaper) as raised:
+            vp.Label(most_seconds=.3).print(slow)
+        self.assertLess(time.monotonic() - start, 5)
+        self.assertRegex(str(raised.exception), r'^vp: cut off after 262,\d+ bytes: it takes more than 0.3 s$')
+        self.assertGreater(len(raised.exception.paper), 0)
+        script = 'import signal, sys, vp\nsignal.signal(signal.SIGINT, signal.default_int_handler)\nprint(flush=True)\nvp.Label().print(sys.stdin.buffer.read())'
+        with subprocess.Popen([sys.executable, '-c', script], stdin=subprocess.PIPE, stdout=subprocess.PIPE,
+                              stderr=subprocess.DEVNULL, env=common.ENVIRONMENT) as ran:
+            ran.stdout.readline()
+            ran.stdin.write(slow)
+            ran.stdin.close()
+            time.sleep(.3)
+            start = time.monotonic()
+            ran.send_signal(signal.SIGINT)
+            ran.wait()
+            self.assertLess(time.monotonic() - start, 5)
 
     def test_what_is_fed_at_once(self):
         with vp.Receipt(most_rows=5).start() as printer:

@@ -21,7 +21,8 @@ DONE = [
 NOT_DONE = [
     [], ['join'], ['--version'], ['list'], ['list', '--lang', 'epl'], ['receipt', '--width', '80'], ['receipt', A],
     ['label', '--font-a', '/missing'], ['receipt', '--font-a', '/'], ['receipt', '--font-b', '/dev/stdin'],
-    ['receipt', '--font-a'], ['receipt', '--font-a', A, '--font-a', A], ['label', '--font-b', B], ['label', '--offsets'],
+    ['receipt', '--font-a'], ['receipt', '--font-a', A, '--font-a', A], ['label', '--font-b', B],
+    ['label', '--offsets'],
 ]
 
 
@@ -33,13 +34,16 @@ class InProcess(unittest.TestCase):
             for words in DONE:
                 ran = subprocess.run([PROGRAM, *words], input=stream, stdout=subprocess.PIPE, stderr=subprocess.PIPE)
                 found = in_process.done([PROGRAM, *words], stream)
-                self.assertEqual(found, (ran.stdout, text_of(ran.stderr), ran.returncode), words)
+                self.assertEqual(found and found[:3], (ran.stdout, text_of(ran.stderr), ran.returncode), words)
 
     def test_what_a_process_has_to_tell(self):
         for words in NOT_DONE:
             self.assertIsNone(in_process.done([PROGRAM, *words], b''), words)
         self.assertIsNone(in_process.done([str(ROOT / 'vp'), 'label'], b''), 'another program')
-        self.assertIsNone(in_process.done([PROGRAM, 'label'], b'^XA^GB8,8^FS^PQ99999999^XZ', 1 << 20), 'much')
+        copies, bounds = b'^XA^GB8,8^FS^PQ99999999^XZ', in_process.Bounds()
+        self.assertIsNone(in_process.done([PROGRAM, 'label'], copies, bounds), 'more than is held')
+        made = in_process.done([PROGRAM, 'label'], copies, bounds._replace(images=3))
+        self.assertEqual((made.reached.bound, made.out.count(b'P4\n'), made.status), ('images', 3, 1))
 
     def test_a_sheet_that_changes(self):
         with tempfile.TemporaryDirectory() as folder:

@@ -1,7 +1,12 @@
 """What went wrong: a stream's fault, and what is raised where nothing can be printed."""
 from __future__ import annotations
 
-from typing import NamedTuple
+from typing import TYPE_CHECKING, NamedTuple, Optional
+
+from .bounds import Reached
+
+if TYPE_CHECKING:
+    from .paper import Paper
 
 
 class Fault(NamedTuple):
@@ -32,7 +37,16 @@ class Closed(VpError, ValueError):
 
 
 class TooMuchPaper(VpError):
-    """A stream that prints more than it may: what bounds say in rows and bytes."""
+    """A stream that prints more than it may, or takes longer: which bound was reached, and at which byte. `paper` is
+    what was printed before, None of a listing."""
+
+    def __init__(self, reached: Reached, paper: Optional[Paper] = None) -> None:
+        super().__init__(reached, paper)
+        self.reached, self.paper = reached, paper
+
+    def __str__(self) -> str:
+        after = '' if self.reached.byte is None else f' after {self.reached.byte:,} bytes'
+        return f'vp: cut off{after}: {self.reached.what()}'
 
 
 class NoMemory(VpError, MemoryError):

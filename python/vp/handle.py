@@ -3,14 +3,17 @@ from __future__ import annotations
 
 import ctypes
 import threading
+import time
 import weakref
 from typing import Callable, Optional, Tuple
 
-from .faults import Closed, Fault
-from .library import CFault, CHeld, CPrinter, CProgress, Held, ROOM, STOPPED, check, library, told
+from .bounds import Reached
+from .faults import Closed, Fault, TooMuchPaper
+from .library import MORE, ROOM, STOPPED, CFault, CHeld, CPrinter, CProgress, Held, check, library, told
 
-# How much a step may put out.
-STEP = 1 << 16
+# How much a step may put out, and take, at most; and how much the first one puts out, since a copy of a label may take
+# a tenth of a second, and a step doesn't hear of Ctrl-C. One of so many seconds is long.
+STEP, PIECE, FIRST, LONG = 1 << 16, 1 << 20, 64, .02
 
 
 class Handle:
@@ -39,20 +42,30 @@ class Handle:
         check(library().vp_new_listing(language, offsets, made), ('', ''))
         return cls(made)
 
-    def feed(self, data: bytes, put: Callable[[memoryview], None]) -> None:
-        """Takes bytes and hands on what they print, piece by piece."""
+    def feed(self, data: bytes, put: Callable[[memoryview], None], seconds: Optional[float] = None) -> None:
+        """Takes bytes and hands on what they print, piece by piece; TooMuchPaper where that takes longer."""
         with self._lock:
             self._is_open()
             start = ctypes.cast(ctypes.c_char_p(data), ctypes.c_void_p).value or 0
-            at, done, output = 0, CProgress(state=ROOM), (ctypes.c_ubyte * STEP)()
-            view = memoryview(output)
-            while done.state == ROOM:
-                library().vp_step(self._made, start + at, len(data) - at, output, STEP, done)
+            at, room, done, output = 0, FIRST, CProgress(state=ROOM), (ctypes.c_ubyte * STEP)()
+            view, now = memoryview(output), time.monotonic()
+            end = None if seconds is None else now + seconds
+            while done.state == ROOM or done.state == MORE and at < len(data):
+                library().vp_step(self._made, start + at, min(len(data) - at, PIECE), output, room, done)
                 at += done.taken
                 self._taken += done.taken
                 if done.state == STOPPED:
                     self.fault = told(done.fault, self._taken)
                 put(view[:done.put])
+                last, now = now, time.monotonic()
+                room = min(2 * room, STEP) if now - last < LONG else max(room // 4, FIRST)
+                if end is not None and now > end:
+                    raise TooMuchPaper(Reached('seconds', seconds or 0))
+
+    @property
+    def taken(self) -> int:
+        """How many bytes were taken."""
+        return self._taken
 
     def finish(self) -> Optional[Fault]:
         """The fault that the stream ends in, if it ends here."""

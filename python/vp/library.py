@@ -1,4 +1,4 @@
-"""The library libvp.so: where it is, and its calls, as include/vp.h has them."""
+"""The library, libvp.so or vp.dll: where it is, and its calls, as include/vp.h has them."""
 from __future__ import annotations
 
 import ctypes
@@ -19,6 +19,9 @@ SHEETS = {1: 0, 2: 1}
 # How long a line of the library is at most.
 LINE = 96
 HERE = pathlib.Path(__file__).resolve().parent
+# The library's file in the package, and its file of dist/ in a clone.
+FILE = 'vp.dll' if os.name == 'nt' else 'libvp.so'
+OF_CLONE = FILE if os.name == 'nt' or os.uname().machine != 'aarch64' else 'libvp-aarch64.so'
 
 
 class CPrinter(ctypes.Structure):
@@ -54,9 +57,9 @@ def place() -> str:
     if given:
         return given
     top = HERE.parent.parent
-    of_clone = [top / 'dist/libvp.so'] if (top / 'crates.txt').is_file() else []
-    files = [HERE / 'libvp.so', *of_clone, top.parent / 'libvp.so.1']
-    return next((str(it) for it in files if it.is_file()), 'libvp.so.1')
+    of_clone = [top / 'dist' / OF_CLONE] if (top / 'crates.txt').is_file() else []
+    files = [HERE / FILE, *of_clone, top.parent / 'libvp.so.1']
+    return next((str(it) for it in files if it.is_file()), FILE if os.name == 'nt' else 'libvp.so.1')
 
 
 @functools.lru_cache(None)
@@ -81,7 +84,7 @@ def library() -> ctypes.CDLL:
             call = getattr(found, name)
             call.restype, call.argtypes = answer, arguments
     except (OSError, AttributeError) as error:
-        raise NoLibrary(f'vp: no library {place()}: {error}') from None
+        raise NoLibrary(f'vp: no library {place()}: {error}; LIBVP names one') from None
     return found
 
 

@@ -1,12 +1,14 @@
 """Listings: a line for each command of a stream."""
 from __future__ import annotations
 
+import functools
 from typing import Iterator, List, NamedTuple, Optional, Sequence, Union, overload
 
+from .bounds import HELD, Cutter, Reached
 from .faults import BadArgument, Fault, TooMuchPaper
 from .handle import Handle
 from .library import LABEL, RECEIPT
-from .printers import MOST_BYTES, Stream, bytes_of
+from .printers import Stream, bytes_of
 
 LANGUAGES = {'receipt': RECEIPT, 'label': LABEL}
 
@@ -25,7 +27,11 @@ class Listing(Sequence[Item]):
     """The lines of a stream, and the fault that ended it."""
 
     def __init__(self, data: bytes, offsets: bool, fault: Optional[Fault]) -> None:
-        self._lines, self._offsets, self.fault = data.decode('latin-1').split('\n')[:-1], offsets, fault
+        self._data, self._offsets, self.fault = data, offsets, fault
+
+    @functools.cached_property
+    def _lines(self) -> List[str]:
+        return self.text().split('\n')[:-1]
 
     def __len__(self) -> int:
         return len(self._lines)
@@ -52,28 +58,28 @@ class Listing(Sequence[Item]):
 
     def text(self) -> str:
         """All lines, as `vp list` prints them; a byte above 7F is the character of its number."""
-        return '\n'.join([*self._lines, ''])
+        return self._data.decode('latin-1')
 
     def __repr__(self) -> str:
         lines = '1 line' if len(self) == 1 else f'{len(self)} lines'
         return f'<vp.Listing of {lines}{f", {self.fault}" if self.fault else ""}>'
 
 
-def list_stream(stream: Stream, lang: str, offsets: bool = False, most_bytes: Optional[int] = MOST_BYTES) -> Listing:
+def list_stream(stream: Stream, lang: str, offsets: bool = False, most_bytes: Optional[int] = HELD.bytes) -> Listing:
     """Lists a stream, 'receipt' or 'label', as `vp list` does."""
     if lang not in LANGUAGES:
         raise BadArgument(f'vp: a language is receipt or label, and not {lang}')
-    lines = bytearray()
+    lines, cutter = bytearray(), Cutter(HELD._replace(bytes=most_bytes), is_paper=False)
+    handle = Handle.listing(LANGUAGES[lang], offsets)
 
     def put(part: memoryview) -> None:
         nonlocal lines
-        lines += part
-        if most_bytes is not None and len(lines) > most_bytes:
-            raise TooMuchPaper(f'vp: more than {most_bytes:,} bytes are listed')
+        lines += cutter.add(part)
+        if cutter.reached:
+            raise TooMuchPaper(Reached('bytes', most_bytes or 0, handle.taken))
 
-    handle = Handle.listing(LANGUAGES[lang], offsets)
     try:
-        handle.feed(bytes_of(stream), put)
-        return Listing(bytes(lines), offsets, handle.finish())
+        handle.feed(bytes_of(stream), put, HELD.seconds)
+        return Listing(bytes(lines + cutter.end()), offsets, handle.finish())
     finally:
         handle.close()

@@ -1,39 +1,32 @@
 """Paper: images one after the other, as vp prints them."""
 from __future__ import annotations
 
-import re
-from array import array
-from typing import Iterator, List, NamedTuple, Optional, Sequence, Tuple, Union, overload
+from typing import Iterator, List, Optional, Sequence, Tuple, Union, overload
 
+from . import bounds
+from .bounds import HEAD, NONE, Bounds
 from .faults import Fault, TooMuchPaper
 from .images import Image
-
-# How an image begins.
-HEAD = re.compile(rb'P4\n([1-9]\d{0,8}) ([1-9]\d{0,8})\n')
-
-
-class Bounds(NamedTuple):
-    """How much a stream, or what is fed at once, may print: no bound where it is None."""
-
-    rows: Optional[int]
-    bytes: Optional[int]
 
 
 class Paper(Sequence[Image]):
     """The images of a stream, in turn, and the fault that it ends in."""
 
-    def __init__(self, data: bytes, starts: Sequence[int], fault: Optional[Fault] = None) -> None:
+    def __init__(self, data: bytes, starts: Sequence[int], fault: Optional[Fault] = None,
+                 source: Optional[Tuple[str, bytes]] = None) -> None:
         """The paper of bytes that vp printed, and the places where whole images begin in them."""
         self._data = data
         self._starts = starts
         self.fault = fault
+        # the language and the stream that it was printed of, where it is known
+        self.source = source
 
     @classmethod
     def read(cls, data: bytes) -> Paper:
         """The paper of bytes that vp printed."""
-        cutter = Cutter(Bounds(None, None))
+        cutter = Cutter(NONE)
         cutter.add(data)
-        if cutter.next < len(data):
+        if cutter.unfinished and not HEAD.match(cutter.unfinished):
             raise ValueError('it is not what vp prints')
         return cutter.paper(None)
 
@@ -106,43 +99,33 @@ class Paper(Sequence[Image]):
 class Cutter:
     """Bytes that a printer puts out, as they come, cut into images within bounds."""
 
-    def __init__(self, bounds: Bounds) -> None:
-        self.bounds = bounds
-        self.data = bytearray()
-        self.rows = 0
-        # where each image begins whose head is whole, and where the next one will
-        self.starts = array('Q')
-        self.next = 0
+    def __init__(self, own: Bounds) -> None:
+        self._cutter, self._data = bounds.Cutter(own), bytearray()
+
+    @property
+    def unfinished(self) -> bytes:
+        """What came of an image that isn't whole."""
+        return bytes(self._cutter.held)
 
     def add(self, part: Union[bytes, memoryview]) -> None:
-        self.data += part
-        while True:
-            head = HEAD.match(self.data, self.next)
-            if not head:
-                break
-            width, height = map(int, head.groups())
-            self.rows += height
-            self.starts.append(self.next)
-            self.next = head.end() + (width + 7) // 8 * height
-        if self.bounds.rows is not None and self.rows > self.bounds.rows:
-            raise TooMuchPaper(f'vp: more than {self.bounds.rows:,} rows are printed')
-        if self.bounds.bytes is not None and len(self.data) > self.bounds.bytes:
-            raise TooMuchPaper(f'vp: more than {self.bounds.bytes:,} bytes are printed')
+        self._data += self._cutter.add(part)
+        if self._cutter.reached:
+            self.stop(self._cutter.reached)
 
-    def paper(self, fault: Optional[Fault]) -> Paper:
+    def stop(self, bound: str) -> None:
+        """Raises that a bound is reached; what was printed before goes with it."""
+        most = getattr(self._cutter.bounds, bound)
+        raise TooMuchPaper(bounds.Reached(bound, most), Paper(bytes(self._data), self._cutter.starts))
+
+    def paper(self, fault: Optional[Fault], source: Optional[Tuple[str, bytes]] = None) -> Paper:
         """The paper of a stream that has ended: all that came."""
-        is_cut = self.next > len(self.data)
-        return Paper(bytes(self.data), self.starts[:-1] if is_cut else self.starts, fault)
+        self._data += self._cutter.end()
+        return Paper(bytes(self._data), self._cutter.starts, fault, source)
 
     def images(self) -> List[Image]:
         """Takes out the images that are whole, and begins to count anew."""
-        self.rows = 0
-        is_cut = self.next > len(self.data)
-        end = self.starts[-1] if is_cut else self.next
-        if not end:
-            return []
-        whole = Paper(bytes(self.data[:end]), self.starts[:-1] if is_cut else self.starts)
-        del self.data[:end]
-        self.starts = array('Q', [0] if is_cut else [])
-        self.next -= end
+        whole = Paper(bytes(self._data), self._cutter.starts)
+        held, own = self._cutter.held, self._cutter.bounds
+        self._cutter, self._data = bounds.Cutter(own), bytearray()
+        self._cutter.held = held
         return list(whole)

@@ -4,23 +4,34 @@ from __future__ import annotations
 import threading
 from typing import List, Optional, Tuple, Union
 
-from .faults import BadArgument, Fault
+from .bounds import HELD, Bounds
+from .faults import BadArgument, Fault, TooMuchPaper
 from .handle import Handle
 from .images import Image
 from .library import LABEL, RECEIPT, RECEIPT_58, Held
-from .paper import Bounds, Cutter, Paper
+from .paper import Cutter, Paper
 from .sheets import SHIPPED, Sheet, read
 
 Stream = Union[bytes, bytearray, memoryview]
-# What a stream, or what is fed at once, prints at most where no other bound is given: 125 metres of rows in 8 dots a
-# millimetre, and 64 MiB.
-MOST_ROWS, MOST_BYTES = 1_000_000, 1 << 26
 # Papers by their dots.
 PAPERS = {576: RECEIPT, 384: RECEIPT_58}
 
 
 def bytes_of(stream: Stream) -> bytes:
     return stream if isinstance(stream, bytes) else memoryview(stream).tobytes()
+
+
+def fed(handle: Handle, cutter: Cutter, data: bytes, seconds: Optional[float]) -> None:
+    """Feeds a printer, and has what it prints cut. TooMuchPaper says after how many bytes, and has the paper."""
+    try:
+        try:
+            handle.feed(data, cutter.add, seconds)
+        except TooMuchPaper as much:
+            if much.paper is None:
+                cutter.stop(much.reached.bound)
+            raise
+    except TooMuchPaper as much:
+        raise TooMuchPaper(much.reached._replace(byte=handle.taken), much.paper) from None
 
 
 class _Printers:
@@ -39,10 +50,10 @@ class _Printers:
 
     def print(self, stream: Stream) -> Paper:
         """The paper of a whole stream, by a printer that was just switched on."""
-        handle, cutter = self._handle(), Cutter(self._bounds)
+        handle, cutter, data = self._handle(), Cutter(self._bounds), bytes_of(stream)
         try:
-            handle.feed(bytes_of(stream), cutter.add)
-            return cutter.paper(handle.finish())
+            fed(handle, cutter, data, self._bounds.seconds)
+            return cutter.paper(handle.finish(), ('label' if self._language == LABEL else 'receipt', data))
         finally:
             handle.close()
 
@@ -55,31 +66,36 @@ class Receipt(_Printers):
     """Printers of receipts, ESC/POS, on paper of 576 or 384 dots.
 
     A sheet is a file's name or its bytes, and None is no sheet, whose characters are white; where none is given it is
-    the shipped two. A stream that prints more rows or bytes than it may is TooMuchPaper; None is no bound.
+    the shipped two. A stream, or what is fed at once, that prints more rows, bytes or images than it may, or takes more
+    seconds by the clock, is TooMuchPaper; None is no bound.
     """
 
     def __init__(self, font_a: Sheet = SHIPPED, font_b: Sheet = SHIPPED, width: int = 576,
-                 most_rows: Optional[int] = MOST_ROWS, most_bytes: Optional[int] = MOST_BYTES) -> None:
+                 most_rows: Optional[int] = HELD.rows, most_bytes: Optional[int] = HELD.bytes,
+                 most_images: Optional[int] = HELD.images, most_seconds: Optional[float] = HELD.seconds) -> None:
         if width not in PAPERS:
             raise BadArgument(f'vp: paper is 576 or 384 dots wide, and not {width}')
         if font_a is not SHIPPED or font_b is not SHIPPED:
             font_a, font_b = (None if it is SHIPPED else it for it in (font_a, font_b))
-        super().__init__(PAPERS[width], (read(font_a, 'font_a'), read(font_b, 'font_b')), Bounds(most_rows, most_bytes))
+        super().__init__(PAPERS[width], (read(font_a, 'font_a'), read(font_b, 'font_b')),
+                         Bounds(most_rows, most_bytes, most_images, most_seconds))
 
 
 class Label(_Printers):
     """Printers of labels, ZPL II. All is as with receipts; every font is of font A's sheet."""
 
-    def __init__(self, font_a: Sheet = SHIPPED, most_rows: Optional[int] = MOST_ROWS,
-                 most_bytes: Optional[int] = MOST_BYTES) -> None:
-        super().__init__(LABEL, (read(font_a, 'font_a'), (b'', 'font_b')), Bounds(most_rows, most_bytes))
+    def __init__(self, font_a: Sheet = SHIPPED, most_rows: Optional[int] = HELD.rows,
+                 most_bytes: Optional[int] = HELD.bytes, most_images: Optional[int] = HELD.images,
+                 most_seconds: Optional[float] = HELD.seconds) -> None:
+        super().__init__(LABEL, (read(font_a, 'font_a'), (b'', 'font_b')),
+                         Bounds(most_rows, most_bytes, most_images, most_seconds))
 
 
 class Printer:
     """A printer that is fed as bytes come, and gives each image once it is whole."""
 
     def __init__(self, handle: Handle, bounds: Bounds) -> None:
-        self._handle, self._cutter = handle, Cutter(bounds)
+        self._handle, self._cutter, self._seconds = handle, Cutter(bounds), bounds.seconds
         self._lock = threading.Lock()
 
     def feed(self, data: Stream) -> List[Image]:
@@ -87,7 +103,7 @@ class Printer:
         part = bytes_of(data)
         with self._lock:
             try:
-                self._handle.feed(part, self._cutter.add)
+                fed(self._handle, self._cutter, part, self._seconds)
                 return self._cutter.images()
             except BaseException:
                 self._handle.close()
@@ -118,7 +134,7 @@ class Printer:
     def unfinished(self) -> bytes:
         """What came of an image whose last row isn't printed."""
         with self._lock:
-            return bytes(self._cutter.data)
+            return self._cutter.unfinished
 
     def close(self) -> None:
         """Gives the printer's memory back. It prints no more."""

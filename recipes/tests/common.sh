@@ -14,8 +14,12 @@ root=$PWD
 room=$(mktemp -d)
 server=
 trap '[ -z "$server" ] || kill "$server" 2>/dev/null; rm -rf "$room"' EXIT
-trap 'exit 1' HUP INT TERM
+trap 'exit 1' HUP INT
+# (who hasn't ended in time says what was said last)
+trap 'tail -n 40 "$room/said" >&2 2>/dev/null; exit 1' TERM
 export PYTHONDONTWRITEBYTECODE=1
+# (in a CI nothing is accepted, which the tests of golden ask for by themselves)
+unset CI
 
 fail() {
     echo "$test: $1" >&2
@@ -39,9 +43,5 @@ needs() {
 }
 testing() { python3 "$root/recipes/tests/testing.py" "$@"; }
 
-vp=${VP:-}
-if [ -z "$vp" ]; then
-    vp=$root/crates/program/vp_cli/out/vp_cli
-    [ -x "$vp" ] || vp=$(tools/dist/program)
-fi
+vp=${VP:-$(tools/dist/program)}
 [ -x "$vp" ] || fail "no program $vp"

@@ -11,7 +11,13 @@ for stream in examples/*.bin examples/*.zpl; do
     echo "0 $(($(wc -c <"$stream"))) 0 $(($(wc -c <"$stream"))) same" | cmp - "$room/map"
 done
 python3 "$tests/grammar.py" "$vp"
+python3 "$tests/refused.py" "$vp"
+python3 "$tests/costs.py"
 python3 "$tests/mutated.py" "$vp" "$room/mutated"
+if needs zint; then
+    python3 "$tests/rewritten.py" "$vp"
+    python3 "$tests/boxes.py" "$vp"
+fi
 if needs zint ZXingReader zbarimg dmtxread; then
     mkdir "$room/symbols"
     python3 "$tests/readback.py" "$vp" "$room/symbols"
@@ -35,7 +41,7 @@ printf 'Caf\303\251\n\033\177x' | anew 1 fault.bin --from utf-8
 says '^byte 3: letters are written'
 says '^byte 6: ESC 7f is no command that is known: nothing behind it is printed$'
 "$vp" receipt "$room/new" 2>"$room/line" >"$room/paper" && fail 'no fault'
-grep -q '^vp: F1 after 7 bytes' "$room/line" || fail 'the fault stands elsewhere'
+grep -q '^vp: F1 after 10 bytes' "$room/line" || fail 'the fault stands elsewhere'
 [ "$("$expand" --tell "$room/map" <"$room/line")" = 'vp: F1 after 8 bytes: unknown command 1B 7F' ] ||
     fail "a fault's place isn't told in the old bytes"
 "$vp" list --lang receipt --offsets "$room/new" 2>"$room/line" | "$expand" --tell "$room/map" >"$room/listed"

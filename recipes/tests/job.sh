@@ -85,6 +85,7 @@ says '^000001 printed$'
 cmp anew.bin anew-jobs/000001.bin
 is 1 'the same as it came' "$job" anew-jobs <anew.bin
 is 2 'no folder' "$job"
-is 2 'an option' "$job" --help
-says '^usage: job \[--expand\] FOLDER'
+is 2 'a wrong option' "$job" --wrong
+is 0 'help' "$job" --help
+says '^usage: job \[--expand\].* FOLDER'
 echo 'jobs that cannot be kept: ok'

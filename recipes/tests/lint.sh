@@ -11,7 +11,7 @@ for stream in examples/*.bin examples/*.zpl; do
     [ ! -s "$room/said" ] || fail "lint says something of $stream"
 done
 cd "$room"
-printf 'plain\n' >plain.bin
+printf '\033@plain\n' >plain.bin
 {
     printf '^XA^PW400^LL200^MMT^CI28\r\n^FO10,20^A0N,40^FDCa\177\303\251^FS^FO300,20^BY3^BKN,N,100^FD123^FS'
     printf '^FO9,9^BXN,4^FD1^FS^FO9,9^B7N^FD1^FS^FO350,100^GC50^FS^GD9,9^FS^SN1,1,Y^FS^XFR:A^FS^F0^FN1\r\n'
@@ -128,6 +128,26 @@ is 2 'a list without its name' "$lint" --write-known label.zpl
 is 3 'a list that is none' "$lint" --known none label.zpl
 (ulimit -f 0 && "$lint" --known known --write-known label.zpl >/dev/null 2>&1 | cat) && grep -q '# a comment' known ||
     fail 'a list that cannot be written whole is lost'
+# fields outside a format, and labels of which each is printed once
+printf '^FO9,9^GB9,9,1^FS^XA^PW100^LL100^PQ99999999^FO0,0^GB10,10^FS^XZ^FO1,1^FDlost^FS^XA^XZ' >outside.zpl
+is 1 'fields outside a format' "$lint" outside.zpl
+says '^outside.zpl: byte 6: the field of ^GB stands outside ^XA and ^XZ: it is not printed$'
+says '^outside.zpl: byte 69: the field of ^FD stands outside ^XA and ^XZ: it is not printed$'
+[ "$(wc -l <said)" -eq 2 ] || fail 'more is said of fields outside a format'
+printf '^XA^PW99^LL8000^FO0,0^GB10,10^FS^XZ' >rows.zpl
+is 1 'a bound' "$lint" --most-rows 100 rows.zpl
+says '^rows.zpl: byte [0-9]*: cut off: it prints more than 100 rows; --most-rows raises this$'
+# ESC = has text for a display; what has its length is left out
+printf 'to the paper\n\033=\002TOTAL\033=\001\033(A\002\0000\000\n' >display.bin
+is 1 'text for a display' "$lint" display.bin
+says '^display.bin: byte 13: ESC = 02 chooses whether the printer or a display listens'
+says 'F1 unknown command 1B 28, and left out by recipes/expand: nothing behind it is printed$'
+# what is no stream is named
+printf '%%PDF-1.4\n' >form.pdf
+is 3 'a PDF' "$lint" form.pdf
+says "^lint: form.pdf looks like a PDF: a printer's driver makes a stream of it; --lang takes it for"
+is 0 'its help' "$lint" --help
+says '^    lint parcel.zpl$'
 # of any name, and cut anywhere
 for name in -dash.zpl "quo'te\".zpl" '$(touch pwned).zpl' "$(printf 'a\nb.zpl')" "$(printf 'caf\351.zpl')"; do
     cp -- packed.zpl "$name"
@@ -137,7 +157,9 @@ done
 [ ! -e pwned ] || fail 'a name was run'
 for n in 0 1 20 31 100 250; do
     for stream in receipt.bin parameters.zpl; do
-        head -c "$n" "$stream" | "$lint" >said 2>&1 || [ $? -eq 1 ] || { cat said >&2; fail "$stream cut at $n"; }
+        language=receipt
+        [ "$stream" = receipt.bin ] || language=label
+        head -c "$n" "$stream" | "$lint" --lang "$language" >said 2>&1 || [ $? -eq 1 ] || { cat said >&2; fail "$stream cut at $n"; }
     done
 done
 

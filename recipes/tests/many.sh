@@ -138,7 +138,7 @@ is 3 'a name with a line end' env VP="$vp" recipes/many "$room/names" "$room/nam
 
 # a clone's program is the one that its ./vp runs, wherever that is
 mkdir -p "$room/clone/tools/dist" "$room/clone/examples"
-cp -r recipes vp "$room/clone"
+cp -r recipes python vp "$room/clone"
 cp examples/*.pbm "$room/clone/examples"
 touch "$room/clone/crates.txt"
 printf '#!/bin/sh\necho "$VP_THERE"\n' >"$room/clone/tools/dist/program"

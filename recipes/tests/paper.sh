@@ -68,6 +68,9 @@ echo before >cut.png
 is 1 'an image that is cut' "$paper" cut.png <cut.pbm
 says '^paper: its last image is cut short$'
 printf 'P4\n576 5000000\n' >rows.pbm
+is 1 'rows beyond the bound' "$paper" cut.png <rows.pbm
+says '^paper: cut off: it prints more than 2,500,000 rows; --most-rows raises this$'
+printf 'P4\n576 2000000\n' >rows.pbm
 is 1 'rows that are missing' "$paper" cut.png <rows.pbm
 for head in '-1 8' '8 -1' '0 8' '8 0' '8' '8 8 8' 'x y' ' 8 8' '99999999999 1' '8 99999999999' '999999999 1'; do
     printf 'P4\n%s\n\377' "$head" >wrong.pbm
@@ -101,3 +104,38 @@ is 2 'no number' "$paper" --dpmm none some.png </dev/null
 is 3 'no folder' "$paper" none/some.png <receipt.pbm
 [ "$(wc -l <said)" -eq 1 ] || fail 'a folder that is not there has more than a line'
 echo 'PNGs of each image: ok'
+
+# a PDF has the dots in true size, a page for each width, with --each for each image
+"$paper" receipt.pdf <receipt.pbm
+[ "$(head -c 8 receipt.pdf)" = '%PDF-1.4' ] || fail 'no PDF'
+is 0 'help' "$paper" --help
+says 'FILE is a PNG, or by its name order.pdf a PDF in true size'
+echo before >cut.pdf
+is 1 'a PDF of an image that is cut' "$paper" cut.pdf <cut.pbm
+[ "$(cat cut.pdf)" = before ] || fail 'a PDF of half an image takes the place of one that was'
+"$paper" none.pdf </dev/null
+[ ! -e none.pdf ] && [ -z "$(ls -A | grep '^\.vp')" ] || fail 'a PDF of nothing, or half a one'
+if needs pdftoppm pdfinfo; then
+    pdfinfo receipt.pdf | grep -q '^Page size: *204.094 x 283.46' || fail 'the page of the PDF has another size'
+    pdftoppm -r 203.2 -mono receipt.pdf page
+    python3 - page-1.pbm receipt.pbm <<'END' || fail 'the PDF has other dots'
+import sys
+sys.path.insert(0, sys.argv[0] or '.')
+page, paper = (open(it, 'rb').read() for it in sys.argv[1:])
+head, rows = b'P4\n576 800\n', b''
+assert page.startswith(head), page[:20]
+at = 0
+while at < len(paper):
+    _, size, _ = paper[at:at + 30].split(b'\n', 2)
+    width, height = map(int, size.split())
+    at += len(size) + 4
+    rows, at = rows + paper[at:at + 72 * height], at + 72 * height
+assert page[len(head):] == rows
+END
+    "$paper" labels.pdf <labels.pbm
+    "$paper" --each each.pdf <labels.pbm
+    pages() { pdfinfo "$1" | sed -n 's/^Pages: *//p'; }
+    [ "$(pages each.pdf)" = "$(grep -ao 'P4' labels.pbm | wc -l)" ] || fail 'not a page for each image'
+    [ "$(pages labels.pdf)" -le "$(pages each.pdf)" ] || fail 'too many pages'
+    echo 'PDFs: ok'
+fi

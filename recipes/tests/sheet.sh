@@ -32,6 +32,33 @@ recipes/sheet --table latin1 "$room/font.bdf.gz" 2>/dev/null | cmp - "$room/bdf.
 recipes/sheet --font b --table latin1 "$room/font.bdf" >"$room/b.pbm" 2>/dev/null
 "$vp" receipt --font-b "$room/b.pbm" "$room/a.bin" >"$room/said"
 is 3 'a font that is none' recipes/sheet examples/receipt.bin
+is 0 'help' recipes/sheet --help
+says '^Makes a glyph sheet for vp of a font'
+
+# a font of outlines by FreeType, where it is; a font without a character of the table is none
+python=$(for it in python3 /usr/bin/python3; do ! "$it" -c 'import freetype' 2>/dev/null || { echo "$it" && break; }; done)
+outlines=$(find /usr/share/fonts -name DejaVuSansMono.ttf 2>/dev/null | head -n 1)
+if [ -n "$python" ] && [ -n "$outlines" ]; then
+    for font in a b; do
+        "$python" recipes/sheet --font "$font" --table cp858 "$outlines" 2>"$room/said" >"$room/outlines.pbm"
+        says ', cp858: 221 of 221 characters$'
+        [ "$(grep -c '^cut' "$room/said")" -lt 20 ] || fail 'letters of outlines are cut'
+        "$vp" receipt "--font-$font" "$room/outlines.pbm" "$room/a.bin" >"$room/printed"
+    done
+    cp "$outlines" "$room/outlines.ttf"
+    head -c 3000 "$outlines" >"$room/cut.ttf"
+    is 3 'a font of outlines that is cut' "$python" recipes/sheet "$room/cut.ttf"
+    ! grep -q Traceback "$room/said" || fail 'a traceback of a font that is cut'
+    echo 'a sheet of outlines: ok'
+else
+    left_out python3-freetype
+fi
+printf '\0\1\0\0x' >"$room/x.ttf"
+is 3 'a font of outlines without FreeType, or one that is none' recipes/sheet "$room/x.ttf"
+says '^sheet: .*/x.ttf: \(a font of outlines needs FreeType\|FreeType says\)'
+sed 's/^ENCODING .*/ENCODING 40000/' "$room/font.bdf" >"$room/far.bdf"
+is 3 'a font without a character' recipes/sheet --table latin1 "$room/far.bdf"
+says '^sheet: .*/far.bdf has no character of latin1$'
 
 # what is no table and no font is a line, at once
 for table in utf-8 zlib rot13 idna base64 utf-7 utf-16 hex bz2 punycode undefined klingon '' "$(printf 'a\nb')"; do

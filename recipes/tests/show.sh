@@ -42,7 +42,7 @@ is 0 'another folder' "$show" --to out "$root/examples/ticket.bin"
 [ -e out/ticket.png ] || fail 'no PNG in the folder'
 # no PNG takes another's place
 cp two.zpl order.zpl
-printf 'two\n' >order-2.bin
+printf '\033@two\n' >order-2.bin
 is 0 'names that clash' "$show" --to out order.zpl order-2.bin
 says ' out/order.zpl-1.png to out/order.zpl-2.png$'
 says ' out/order-2.bin.png$'
@@ -56,7 +56,7 @@ is 0 'names that clash with those of another run' "$show" --to out order.bin
 says ' out/order.bin-1.png to out/order.bin-2.png$'
 [ -e out/order-2.png ] || fail 'the PNG of another run is lost'
 echo mine >out/total.png
-printf 'total\n' >total.bin
+printf '\033@total\n' >total.bin
 is 0 'a PNG of others' "$show" --to out total.bin
 says ' out/total.bin.png$'
 echo mine >out/total.bin.png
@@ -90,14 +90,53 @@ is 1 'a picture that is packed' "$show" --as-it-came packed.zpl
 says '^packed.zpl: a picture that begins with :Z64: or :B64: is packed, which recipes/expand reads$'
 is 3 'no file' "$show" none.bin
 says '^show: cannot read none.bin: No such file'
-is 3 'no folder' "$show" --to none "$root/examples/ticket.bin"
+is 0 'a new folder' "$show" --to new/deep "$root/examples/ticket.bin"
+[ -e new/deep/ticket.png ] || fail 'no PNG in the new folder'
+is 3 'no folder' "$show" --to bad.bin/none "$root/examples/ticket.bin"
 [ "$(wc -l <said)" -eq 1 ] || fail 'a folder that is not there has more than a line'
 is 2 'wrong words' "$show" --lang french bad.bin
 VP=$room/none is 2 'no program' "$show" bad.bin
 says '^show: cannot run '
-printf '^XA^FO1,1^GB9,9,9^FS^PQ99999999^XZ' | "$show" >said
-says 'only the first 100 images are shown$'
+printf '^XA^FO1,1^GB9,9,9^FS^PQ99999999^XZ' | "$show" >said || [ $? -eq 1 ] || fail 'copies beyond the bound'
+says ' cut off after 34 bytes: it prints more than 100 images; --most-images raises this$'
 rm stdin*.png
+# the usual head of a driver is nothing, nor is a command that asks for what is so; what was recalled isn't skipped
+{
+    printf 'CT~~CD,~CC^~CT~\r\n^XA~TA000~JSN^LT0^MNW^MTT^PON^PMN^LH0,0^JMA^PR4,4~SD15^JUS^LRN^CI0^XZ\r\n'
+    printf '^XA^DFE:A.ZPL^FS^PW300^LL99^FO9,9^FN1^FS^XZ^XA\r\n^MMT\r\n^LS0^XFE:A.ZPL^FN1^FDHi^FS^PQ1,0,1,Y^XZ\r\n'
+} >driver.zpl
+is 0 'the head of a driver' "$show" driver.zpl
+! grep -q 'skipped\|read past' said || { cat said >&2; fail 'the head of a driver is told'; }
+is 0 'the head of a driver as it came' "$show" --as-it-came driver.zpl
+grep -q 'skipped once: ^XF' said || fail 'what is skipped as it came is not told'
+! grep -q '\^LT\|\^MN\|~JS\|\^JM\|~CC' said || { cat said >&2; fail 'the head of a driver is told'; }
+printf '^XA^FO9,9^GB9,9,9^FS^Q0x^FS^XZ^FO9,9^FDlost^FS' >lost.zpl
+is 0 'a field outside a format' "$show" lost.zpl
+says '^lost.zpl: byte 36: a field of ^FD stands outside ^XA and ^XZ: it is not printed$'
+says '^lost.zpl: skipped once: ^Q0 is no command that is known$'
+# bounds, and what is no stream
+is 1 'a bound of rows' "$show" --most-rows 150 two.zpl
+says '^two.zpl: cut off after [0-9]* bytes: it prints more than 150 rows; --most-rows raises this$'
+rm two-*.png
+python3 -c 'import sys; sys.stdout.buffer.write("^XA^FO9,9^FDx^FS^XZ".encode("utf-16"))' >wide.zpl
+is 3 'UTF-16' "$show" wide.zpl
+says '^show: wide.zpl looks like text in UTF-16: iconv -f UTF-16 -t UTF-8 makes bytes of it that a printer takes; --lang '
+printf 'Dear all,\n' >notes.txt
+is 3 'plain text' "$show" notes.txt
+says '^show: notes.txt looks like plain text: --lang takes it for a receipt or labels all the same$'
+is 0 'plain text, as a receipt' "$show" --lang receipt notes.txt
+is 0 'its help' "$show" --help
+says '^    show order.bin parcel.zpl$'
+python3 "$root/recipes/tests/kinds.py"
+# it ends at a signal, with nothing half written
+printf '^XA^PW1248^LL8000^PQ99999999^FO0,0^GB999,7999^FS^XZ' >copies.zpl
+for signal in TERM HUP INT; do
+    mkdir ended
+    python3 "$root/recipes/tests/signalled.py" "$signal" ended "$show" --to ended --most-images none --most-rows none copies.zpl ||
+        fail "it isn't ended by SIG$signal"
+    [ -z "$(ls -A ended)" ] || fail "something is left by SIG$signal"
+    rmdir ended
+done
 # --open hands each PNG to xdg-open
 mkdir bin
 printf '#!/bin/sh\necho "opened $1"\n' >bin/xdg-open

@@ -20,10 +20,12 @@ recipes/web/page.py dist/vp.wasm | cmp - "$page" || fail 'dist/viewer.html is ma
 [ "$(wc -c <dist/vp.wasm)" -lt 1000000 ] || fail 'the module has a megabyte or more'
 python3 recipes/tests/web/printed.py "$vp" "$count" "$seed" >"$room/streams.json"
 if needs node; then
-    recipes/web/npm.py "$room/package"
+    mkdir "$room/module"
+    cp dist/vp.wasm recipes/web/vp.js "$room/module"
+    echo '{"type": "module"}' >"$room/module/package.json"
     if [ -n "$only" ]; then set --; else set -- "$vp"; fi
-    node recipes/tests/web/in_node.mjs "$room/package" "$room/streams.json" "$@"
-    echo 'the package for npm: ok'
+    node recipes/tests/web/in_node.mjs "$room/module" "$room/streams.json" "$@"
+    echo 'the module in node: ok'
 fi
 # in_browser NAME TOOL..: the page in a browser, where its tools are installed
 in_browser() {

@@ -4,6 +4,8 @@
 // the text breaks the line, and a break is no byte. Read back, \r and \t are bytes too, a backslash that begins none of
 // these is itself, and a character above 7E is its bytes in UTF-8.
 
+/** Bytes as characters, one each. */
+export const latin = new TextDecoder('latin1');
 const encoder = new TextEncoder();
 const HEX = Array.from({ length: 256 }, (_, byte) => byte.toString(16).padStart(2, '0'));
 const ESCAPED = Array.from({ length: 256 }, (_, byte) =>

@@ -1,7 +1,8 @@
 // Comparing: another tab, a file or what a followed file has now, laid over the paper.
 
 import { desk, find, number, setChoices } from './desk.js';
-import { images, paper, say, show } from './looking.js';
+import { images, paper, show } from './looking.js';
+import { say } from './saying.js';
 import { difference, imagesOf, sheetsOf } from './sheets.js';
 import { Tab } from './tabs.js';
 

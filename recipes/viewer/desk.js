@@ -2,6 +2,10 @@
 
 import { Printer } from './served.js';
 
+/**
+ * The element of this id, whichever it is.
+ * @type {(id: string) => any}
+ */
 export const find = id => document.getElementById(id);
 export const number = n => n.toLocaleString('en');
 export const plural = (n, what) => `${number(n)} ${what}${n === 1 ? '' : 's'}`;
@@ -21,6 +25,11 @@ export const desk = {
 export function setChoices(box, choices, value) {
   box.replaceChildren(...choices.map(([it, text]) => new Option(text, it)));
   box.value = value;
+}
+
+/** Checks a box, or not, as a click does. */
+export function setChecked(id, isChecked) {
+  if (find(id).checked !== Boolean(isChecked)) find(id).click();
 }
 
 export function save(data, name) {

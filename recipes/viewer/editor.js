@@ -1,6 +1,7 @@
 // The editor: a text field over a layer that shows its visible lines with colours and marks.
 
 const LINE = 20;
+const LEFT = 8;
 const WIDE = 400;
 
 export class Editor {
@@ -47,6 +48,23 @@ export class Editor {
     this.starts = [0];
     for (let at = text.indexOf('\n'); at >= 0; at = text.indexOf('\n', at + 1)) this.starts.push(at + 1);
     this.draw();
+  }
+
+  // The place of the text under the pointer; -1 where none is.
+  placeAt({ clientX, clientY }) {
+    const { left, top } = this.area.getBoundingClientRect();
+    const line = Math.floor((clientY - top + this.area.scrollTop) / LINE);
+    if (line < 0 || line >= this.starts.length) return -1;
+    const column = Math.floor((clientX - left - LEFT + this.area.scrollLeft) / this.wide);
+    const end = line + 1 < this.starts.length ? this.starts[line + 1] - 1 : this.area.value.length;
+    return column < 0 || this.starts[line] + column > end ? -1 : this.starts[line] + column;
+  }
+
+  // Where a place of the text stands, in pixels from the editor's corner: its left, its top, and below it.
+  placeOf(place) {
+    const line = this.lineOf(place);
+    const top = line * LINE - this.area.scrollTop;
+    return { left: LEFT + (place - this.starts[line]) * this.wide - this.area.scrollLeft, top, below: top + LINE };
   }
 
   lineOf(place) {

@@ -4,6 +4,7 @@ import selectors
 import signal
 import socket
 import time
+from typing import Callable, Dict, Optional, Tuple
 
 # How long a connection may wait before it has shown the secret, with how long a head, and how many may at once: the
 # one that has waited longest makes room for the next.
@@ -14,7 +15,8 @@ REFUSAL = (b'HTTP/1.1 403 Forbidden\r\nContent-Type: text/plain; charset=utf-8\r
 
 
 class Gate:
-    def __init__(self, port, knows, enter):
+    def __init__(self, port: int, knows: Callable[[bytes], bool],
+                 enter: Callable[[socket.socket, bytes], None]) -> None:
         """`knows` says whether the first part of a path is a secret; `enter` takes a connection that has shown it, and
         what was read of it."""
         self.knows, self.enter = knows, enter
@@ -22,12 +24,12 @@ class Gate:
         self.listener.setblocking(False)
         self.port = self.listener.getsockname()[1]
         # each with its time and what it said so far, the oldest first
-        self.waiting = {}
+        self.waiting: Dict[socket.socket, Tuple[float, bytes]] = {}
         self.most = min(MOST_WAITING, resource.getrlimit(resource.RLIMIT_NOFILE)[0] // 2)
         self.ways = selectors.DefaultSelector()
         self.ways.register(self.listener, selectors.EVENT_READ)
 
-    def serve(self):
+    def serve(self) -> None:
         # a signal that comes just before a wait ends the wait too
         woken, waker = socket.socketpair()
         with woken, waker:
@@ -41,26 +43,26 @@ class Gate:
             finally:
                 signal.set_wakeup_fd(-1)
 
-    def turn(self, woken):
+    def turn(self, woken: socket.socket) -> None:
         oldest = next(iter(self.waiting.values()), None)
         for key, _ in self.ways.select(oldest and max(0, oldest[0] - time.monotonic())):
             if key.fileobj is woken:
                 woken.recv(MOST_HEAD)
             elif key.fileobj is self.listener:
                 self.accept()
-            elif key.fileobj in self.waiting:
+            elif isinstance(key.fileobj, socket.socket) and key.fileobj in self.waiting:
                 self.hear(key.fileobj)
         now = time.monotonic()
         while self.waiting and next(iter(self.waiting.values()))[0] <= now:
             self.drop()
 
-    def close(self):
+    def close(self) -> None:
         while self.waiting:
             self.drop()
         self.ways.close()
         self.listener.close()
 
-    def accept(self):
+    def accept(self) -> None:
         for _ in range(self.most):
             try:
                 connection, _ = self.listener.accept()
@@ -80,7 +82,7 @@ class Gate:
             self.ways.register(connection, selectors.EVENT_READ)
             self.hear(connection)
 
-    def hear(self, connection):
+    def hear(self, connection: socket.socket) -> None:
         """Reads on. What shows the secret comes in, what has said all and hasn't is refused."""
         until, head = self.waiting[connection]
         try:
@@ -106,18 +108,18 @@ class Gate:
         else:
             self.waiting[connection] = until, head
 
-    def leave(self, connection):
+    def leave(self, connection: socket.socket) -> None:
         self.ways.unregister(connection)
         del self.waiting[connection]
 
-    def drop(self, connection=None):
+    def drop(self, connection: Optional[socket.socket] = None) -> None:
         """Hangs up, on the one that has waited longest where none is named."""
         connection = connection or next(iter(self.waiting))
         self.leave(connection)
         connection.close()
 
 
-def first_part(line):
+def first_part(line: bytes) -> bytes:
     """The first part of the path that a request's line names."""
     words = line.split(b' ')
     return words[1][1:].split(b'?')[0].split(b'/')[0] if len(words) == 3 else b''

@@ -2,10 +2,13 @@
 
 import { joined } from './bytes.js';
 
-const MOST = 64 << 20;
-// Keys that come so quickly one after the other are taken back together, in milliseconds, up to so many bytes.
+const MOST_KEPT = 64 << 20;
+// Keys that come so quickly one after the other are taken back together, in milliseconds, as far as they write one
+// word, or take so many bytes away.
 const TOGETHER = 1000;
 const MOST_TOGETHER = 40;
+// What a command or an escape begins with.
+const SIGNS_BEFORE = [0x5e, 0x7e, 0x5c, 0x1b, 0x1d];
 
 // The one change from some bytes to others, as {at, old, now}; null where there is none.
 export function changeOf(before, after) {
@@ -20,7 +23,7 @@ export function changeOf(before, after) {
 
 export const changed = (bytes, { at, old, now }) => joined(bytes.subarray(0, at), now, bytes.subarray(at + old.length));
 
-const sizeOf = ({ old, now }) => old.length + now.length;
+const bytesIn = ({ old, now }) => old.length + now.length;
 const inverse = ({ at, old, now }) => ({ at, old: now, now: old });
 
 // Two changes of which each only puts in, or only takes out, and that touch.
@@ -36,6 +39,16 @@ function together(one, next) {
   return null;
 }
 
+const isLetter = byte => byte >= 0x80 || /\w/.test(String.fromCharCode(byte));
+
+// Whether a word or a command begins with what is put in next.
+function beginsWord(one, next) {
+  if (!one.now.length || !next.now.length) return false;
+  const [before, first] = [one.now[one.now.length - 1], next.now[0]];
+  return isLetter(first) ? !isLetter(before) && !SIGNS_BEFORE.includes(before)
+    : before === 0x0a || SIGNS_BEFORE.includes(first);
+}
+
 export class History {
   constructor() {
     Object.assign(this, { done: [], undone: [], size: 0 });
@@ -45,12 +58,13 @@ export class History {
   keep(change, typed) {
     const time = typed ? performance.now() : -Infinity;
     const last = this.done[this.done.length - 1];
-    const whole = last && time - last.time < TOGETHER && sizeOf(last) < MOST_TOGETHER ? together(last, change) : null;
+    const isOne = last && time - last.time < TOGETHER && bytesIn(last) < MOST_TOGETHER && !beginsWord(last, change);
+    const whole = isOne ? together(last, change) : null;
     if (whole) this.done.pop();
     this.done.push({ ...(whole ?? change), time });
-    this.size += sizeOf(change) - this.undone.reduce((sum, it) => sum + sizeOf(it), 0);
+    this.size += bytesIn(change) - this.undone.reduce((sum, it) => sum + bytesIn(it), 0);
     this.undone = [];
-    while (this.size > MOST && this.done.length > 1) this.size -= sizeOf(this.done.shift());
+    while (this.size > MOST_KEPT && this.done.length > 1) this.size -= bytesIn(this.done.shift());
   }
 
   // The change that takes the last one back, or does again what was taken back; null where there is none.

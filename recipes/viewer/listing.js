@@ -1,10 +1,11 @@
 // The listing: the lines that vp lists, of which only the visible ones are in the page.
 
-const LINE = 20;
+const ROW = 20;
 
 export class Listing {
-  // `named` tells a row's {code, words}, `choose` hears of a row that is chosen.
-  constructor(box, named, choose) {
+  // `named` tells a row's {code, words}, `choose` hears of a row that is chosen, `over` of one under the pointer, or
+  // null.
+  constructor(box, named, choose, over) {
     this.box = box;
     this.inside = box.querySelector('.inside');
     this.rows = [];
@@ -13,12 +14,12 @@ export class Listing {
     this.choose = choose;
     box.addEventListener('scroll', () => this.draw());
     new ResizeObserver(() => this.draw()).observe(box);
-    box.addEventListener('click', event => {
-      const row = Math.floor((event.clientY - box.getBoundingClientRect().top + box.scrollTop) / LINE);
-      if (row < this.rows.length) this.pick(row);
-    });
+    const under = event => Math.floor((event.clientY - box.getBoundingClientRect().top + box.scrollTop) / ROW);
+    box.addEventListener('click', event => { if (under(event) < this.rows.length) this.pick(under(event)); });
+    box.addEventListener('pointermove', event => over(this.rows[under(event)] ?? null));
+    box.addEventListener('pointerleave', () => over(null));
     box.addEventListener('keydown', event => {
-      const page = Math.max(1, Math.floor(box.clientHeight / LINE) - 1);
+      const page = Math.max(1, Math.floor(box.clientHeight / ROW) - 1);
       const steps = { ArrowDown: 1, ArrowUp: -1, PageDown: page, PageUp: -page, Home: -this.rows.length,
         End: this.rows.length, Enter: 0 };
       if (!(event.key in steps) || !this.rows.length) return;
@@ -31,7 +32,7 @@ export class Listing {
   set(rows) {
     this.rows = rows;
     this.current = Math.min(this.current, rows.length - 1);
-    this.inside.style.height = `${rows.length * LINE}px`;
+    this.inside.style.height = `${rows.length * ROW}px`;
     this.draw();
   }
 
@@ -42,8 +43,8 @@ export class Listing {
 
   mark(row) {
     this.current = row;
-    const top = row * LINE;
-    if (row >= 0 && (top < this.box.scrollTop || top + LINE > this.box.scrollTop + this.box.clientHeight)) {
+    const top = row * ROW;
+    if (row >= 0 && (top < this.box.scrollTop || top + ROW > this.box.scrollTop + this.box.clientHeight)) {
       this.box.scrollTop = top - this.box.clientHeight / 3;
     }
     this.draw();
@@ -58,8 +59,8 @@ export class Listing {
   }
 
   paint() {
-    const first = Math.floor(this.box.scrollTop / LINE);
-    const last = Math.min(this.rows.length, Math.ceil((this.box.scrollTop + this.box.clientHeight) / LINE) + 1);
+    const first = Math.floor(this.box.scrollTop / ROW);
+    const last = Math.min(this.rows.length, Math.ceil((this.box.scrollTop + this.box.clientHeight) / ROW) + 1);
     this.inside.replaceChildren(...this.rows.slice(first, last).map((row, n) => this.line(row, first + n)));
     if (this.current >= first && this.current < last) {
       this.box.setAttribute('aria-activedescendant', `row-${this.current}`);
@@ -76,7 +77,7 @@ export class Listing {
     line.setAttribute('aria-setsize', this.rows.length);
     line.setAttribute('aria-selected', n === this.current);
     line.className = `row ${row.kind}${row.said ? ` said ${row.said.kind}` : ''}`;
-    line.style.top = `${n * LINE}px`;
+    line.style.top = `${n * ROW}px`;
     const { code, words } = this.named(row);
     const put = (name, text) => {
       const part = document.createElement('span');

@@ -3,48 +3,47 @@
 import { joined } from './bytes.js';
 import { compareAgain } from './comparing.js';
 import { desk, find, number, plural } from './desk.js';
+import { Edges } from './edges.js';
 import { Listing } from './listing.js';
 import { named } from './names.js';
-import { Origins } from './origins.js';
+import { explained } from './mending.js';
 import { Paper } from './paper.js';
+import { askNoMore, caretMoved, chooseDot, dotsOf, hoverByte, hoverDot, tellDot } from './pointing.js';
+import { lacking, outside, remarksOf } from './remarks.js';
 import { Rows, rowAt } from './rows.js';
-import { Images, MOST_IMAGES, MOST_PAPER, isBlack, rowOf, sheetsOf } from './sheets.js';
-import { editor, goTo, mark, caretByte } from './writing.js';
+import { messages, say } from './saying.js';
+import { Images, MOST_IMAGES, MOST_PAPER, sheetsOf } from './sheets.js';
+import { goTo, mark } from './writing.js';
 
 // A stream that takes so many milliseconds is printed when typing stops, so much later.
 const SLOW = 150;
 const PAUSE = 250;
-// The cursor's dots are looked for once it has stood so long, in streams and papers of up to so many bytes.
-const STANDS = 120;
-const SMALL = { stream: 1 << 18, paper: 4 << 20 };
+// Of so many bytes of a stream it is said what isn't drawn.
+const REMARKED = 1 << 18;
 export const ENDED = 'the viewer was ended: save what you wrote, and start it again';
 const FAULT = /^vp: (F\d) after (\d+) bytes?: (.*)$/;
 
-export const listing = new Listing(find('listing'), row => named(row, desk.tab.language), choose);
-export const paper = new Paper(find('paper'), tellDot, chooseDot);
-const origins = new Origins(async (stream, it) => {
-  const images = new Images(Infinity, 2 * MOST_PAPER);
-  await desk.printer.print(stream, it.words, piece => images.take(piece), dotsAsked.signal);
-  return images.shown();
-});
-
-let asked = new AbortController();
-let dotsAsked = new AbortController();
+export const listing = new Listing(find('listing'), row => named(row, desk.tab.language, desk.tab.bytes), chooseRow,
+  row => hoverByte(row && row.kind !== 'fault' ? row.from : null));
+export const paper = new Paper(find('paper'), { told: tellDot, chosen: chooseDot, over: hoverDot });
+let printing = new AbortController();
 let timer = 0;
-let caretTimer = 0;
 let typed = 0;
+// what is known of sheets, and of fields that were printed alone
+const known = new Map();
+const boxes = new Map();
 
 // For those who measure: when the last key came and when its dots were drawn, and what is drawn where.
 export const measured = { took: [] };
 
 export function print(now = false) {
   clearTimeout(timer);
-  asked.abort();
-  dotsAsked.abort();
-  asked = new AbortController();
+  printing.abort();
+  askNoMore();
+  printing = new AbortController();
   const one = desk.tab;
   if (!now) typed = performance.now();
-  timer = setTimeout(() => printed(one, asked.signal), !now && one.last > SLOW ? PAUSE : 0);
+  timer = setTimeout(() => printed(one, printing.signal), !now && one.last > SLOW ? PAUSE : 0);
 }
 
 // The stream that is printed of a tab, and how many bytes stand in it before the tab's own.
@@ -62,9 +61,11 @@ export async function images(one, signal) {
   const { bytes, images } = read.shown();
   const [, name, place, text] = FAULT.exec(told.line ?? '') ?? [];
   const fault = name ? { number: name, place: Math.max(0, Number(place) - before), text } : null;
-  const said = { images, fault, count: read.count, isAll: !told.stopped && !told.late, ms: performance.now() - start,
+  const isAll = !told.stopped && !told.late && !told.reached;
+  const said = { images, fault, count: read.count, isAll, ms: performance.now() - start,
     guess: told.guess ?? one.language, error: !fault && told.line || null, ended: '' };
   if (told.status < 0 && !told.late) said.ended = `vp ended by signal ${-told.status}`;
+  if (told.reached) said.ended = `it was cut off: ${told.reached}`;
   if (told.late) said.ended = `printing was ended after ${told.late} seconds`;
   if (images.length < said.count || told.stopped) said.ended = beyond(one, said);
   return { said, bytes, sheets: sheetsOf(images, bytes, one.language === 'receipt') };
@@ -116,6 +117,7 @@ export function show() {
     ? `${said.isAll ? '' : 'more than '}${number(said.count)}` : '';
   paper.show(tab.sheets, { others: desk.other?.sheets ?? null, ghosts, total });
   tab.fault = said?.fault ? placed(tab, said.fault) : null;
+  tab.explained = tab.fault && explained(tab, tab.fault);
   if (said) {
     const count = said.images.length;
     const what = tab.language === 'label' ? plural(said.count, 'image') : plural(count, 'strip');
@@ -137,84 +139,6 @@ function placed(tab, { number: name, place, text }) {
   return { number: name, text, place, from: Math.max(0, from), to: Math.max(place, 0) };
 }
 
-// What is said below the editor: faults in a line each, all remarks in one that opens.
-
-function messages() {
-  const { tab } = desk;
-  const { said, fault } = tab;
-  const made = [];
-  const put = (kind, text, act, name) => {
-    const line = document.createElement('div');
-    line.className = `message ${kind}`;
-    const words = document.createElement('span');
-    words.textContent = text;
-    line.append(words);
-    if (act) {
-      const button = document.createElement('button');
-      button.textContent = name;
-      button.onclick = act;
-      line.append(button);
-    }
-    made.push(line);
-  };
-  if (tab.fileError) put('fault', tab.fileError);
-  if (tab.error) put('fault', tab.error);
-  if (said?.error) put('fault', withNames(said.error));
-  if (fault) {
-    put('fault', `${fault.number} after ${plural(fault.place, 'byte')}: ${fault.text}`,
-      () => goTo(fault.from, fault.to, true), 'Go there');
-  }
-  if (said?.ended) put('remark', said.ended);
-  if (said && tab.bytes.length && said.guess !== tab.language) {
-    const isLabel = said.guess === 'label';
-    const [is, as] = isLabel ? ['a label, in ZPL II', 'a receipt'] : ['a receipt, in ESC/POS', 'a label'];
-    put('remark', `This looks like ${is}; it is read as ${as}.`, () => readAs(said.guess),
-      `Read it as ${isLabel ? 'a label' : 'a receipt'}`);
-  }
-  find('messages').replaceChildren(...made);
-  remarks(tab.remarks);
-}
-
-function remarks(found) {
-  const box = find('remarks');
-  box.hidden = !found.length;
-  box.querySelector('summary span').textContent = summed(found);
-  box.querySelector('ul').replaceChildren(...found.map(it => {
-    const line = document.createElement('li');
-    const words = document.createElement(it.place === null ? 'span' : 'button');
-    words.textContent = it.place === null ? it.text : `byte ${number(it.place)}: ${it.text}`;
-    if (it.place !== null) words.onclick = () => goTo(it.from, it.to, true);
-    line.append(words);
-    return line;
-  }));
-}
-
-// All remarks in one line, by what they are about.
-function summed(found) {
-  const kinds = [
-    [/has no character|characters are white/, n => `${plural(n, 'byte')} without a character`],
-    [/ edge/, n => `${plural(n, 'field')} past an edge`],
-    [/on a printer/, n => `${plural(n, 'command')} otherwise on a printer`],
-    [/read past|no command/, n => `${plural(n, 'command')} read past`],
-    [/(?:)/, n => plural(n, 'remark')],
-  ];
-  const counts = kinds.map(() => 0);
-  for (const { text } of found) counts[kinds.findIndex(([it]) => it.test(text))]++;
-  return kinds.map(([, says], n) => (counts[n] ? says(counts[n]) : '')).filter(Boolean).join(', ');
-}
-
-export function say(text) {
-  if (!desk.tab) return;
-  desk.tab.error = text;
-  messages();
-}
-
-// A sheet that the page gave is known to vp by another name.
-function withNames(text) {
-  for (const [id, name] of desk.sheetNames) text = text.replace(new RegExp(`\\S*${id}`), name);
-  return text;
-}
-
 // What vp lists
 
 export async function list(signal) {
@@ -233,14 +157,54 @@ export async function list(signal) {
   listing.set(one.rows);
   find('listing-foot').textContent = one.cut;
   caretMoved();
-  const found = await desk.printer.remarks(stream, one.words, signal);
+  if (desk.printer.remarks) {
+    const found = await desk.printer.remarks(stream, one.words, signal);
+    const own = found.filter(([place]) => place === null || place >= before)
+      .map(([place, text]) => [place === null ? null : place - before, text]);
+    tell(one, edits, one.language === 'label' ? [...own, ...outside(one.rows)] : own);
+  } else {
+    await ownRemarks(one, edits, signal);
+  }
+  one.told = one.edits === edits ? edits : one.told;
+}
+
+// Shows remarks of an edition, where that is still the one.
+function tell(one, edits, found) {
   if (one !== desk.tab || one.edits !== edits) return;
+  const known = new Set();
+  const isNew = it => !known.has(it.join()) && known.add(it.join());
   // the fault is said already
-  one.remarks = found.filter(([place, text]) => !/^F\d /.test(text) && !(place < before && place !== null))
-    .map(([place, text]) => remark(one, place === null ? null : place - before, text));
-  one.told = edits;
+  one.remarks = found.filter(it => !/^F\d /.test(it[1]) && isNew(it)).map(([place, text]) => remark(one, place, text));
   listing.draw();
   show();
+}
+
+// Remarks of the page itself: those of the listing at once, those of single fields when typing has stopped.
+async function ownRemarks(one, edits, signal) {
+  const bytes = one.bytes.subarray(0, REMARKED);
+  const rows = one.rows.filter(it => it.kind !== 'fault' && it.to <= bytes.length);
+  const found = remarksOf({ bytes, rows, language: one.language, lacks: await lacksOf(one) });
+  if (bytes.length < one.bytes.length) found.unshift([null, `remarks are on the first ${number(bytes.length)} bytes`]);
+  tell(one, edits, found);
+  if (one.language !== 'label') return;
+  await new Promise(done => { setTimeout(done, PAUSE); });
+  if (signal.aborted) return;
+  const edges = new Edges((stream, take) => desk.printer.print(stream, one.words, take, signal), boxes);
+  const off = await edges.remarks({ rows, bytes, lead: one.lead });
+  const place = it => it[0] ?? -1;
+  tell(one, edits, [...found, ...off].sort((a, b) => place(a) - place(b)));
+}
+
+// What the sheets in use have no character for, by the font's letter.
+async function lacksOf({ language, words }) {
+  const lacks = {};
+  for (const [letter, size] of [['a', [12, 24]], ['b', [9, 17]]].slice(0, language === 'receipt' ? 2 : 1)) {
+    const sheet = await desk.printer.sheet(letter, words[letter]);
+    if (!sheet) continue;
+    if (!known.has(sheet)) known.set(sheet, lacking(sheet, size));
+    lacks[letter] = known.get(sheet);
+  }
+  return lacks;
 }
 
 // A remark is on the item that its first byte begins, or stands in.
@@ -260,89 +224,11 @@ function withFault(one) {
   else one.rows.push({ ...fault, text, kind: 'fault', count: 0, name: 0 });
 }
 
-function choose(n, enter) {
+function chooseRow(n, enter) {
   const row = desk.tab.rows[n];
   desk.tab.chosen = row;
   goTo(row.from, row.to, enter);
   dotsOf(row.from);
-}
-
-// The paper and the bytes that draw it
-
-function looked() {
-  const { bytes, rows, sheets, language, lead, words, edits } = desk.tab;
-  return { bytes, rows: rows.filter(it => it.kind !== 'fault'), sheets, language, lead, words,
-    edition: JSON.stringify([desk.tab.id, edits, lead, words]) };
-}
-
-const isKnown = tab => tab.drawn === tab.edits && tab.listed === tab.edits;
-
-// The cursor shows its dots, once it stands still.
-export function caretMoved() {
-  clearTimeout(caretTimer);
-  if (document.activeElement !== editor.area) return;
-  const { bytes, paper: printed } = desk.tab;
-  if (bytes.length <= SMALL.stream && printed.length <= SMALL.paper) {
-    caretTimer = setTimeout(() => dotsOf(caretByte()), STANDS);
-  }
-}
-
-export function caretLeft() {
-  clearTimeout(caretTimer);
-  dotsAsked.abort();
-  paper.setMark(null);
-}
-
-async function dotsOf(byte) {
-  const { tab } = desk;
-  if (!isKnown(tab) || desk.other) return;
-  dotsAsked.abort();
-  dotsAsked = new AbortController();
-  const { signal } = dotsAsked;
-  const { edits } = tab;
-  const mark = await quietly(() => origins.draws(looked(), byte));
-  if (!signal.aborted && tab === desk.tab && edits === tab.edits) paper.setMark(mark ?? null);
-}
-
-// A click on the paper goes to what drew it.
-async function chooseDot(dot) {
-  const { tab } = desk;
-  const sheet = tab.sheets[dot.sheet];
-  if (!isKnown(tab) || !sheet || rowOf(sheet, dot.y) < 0) return;
-  dotsAsked.abort();
-  dotsAsked = new AbortController();
-  const { signal } = dotsAsked;
-  const { edits } = tab;
-  find('dot').textContent = 'looking for what drew it…';
-  const drew = await quietly(() => origins.drew(looked(), dot));
-  if (tab === desk.tab) tellDot(dot);
-  if (!drew || signal.aborted || tab !== desk.tab || edits !== tab.edits) return;
-  tab.chosen = drew;
-  goTo(drew.from, drew.to, true);
-  dotsOf(drew.from);
-}
-
-// What can't be found out isn't marked.
-async function quietly(find) {
-  try {
-    return await find();
-  } catch (error) {
-    if (error.name !== 'AbortError' && !(error instanceof TypeError)) say(error.message);
-    return null;
-  }
-}
-
-function tellDot(dot) {
-  if (!dot) {
-    find('dot').textContent = '';
-    return;
-  }
-  const sheet = desk.tab.sheets[dot.sheet];
-  const missing = !sheet || dot.x >= sheet.width || dot.y >= sheet.height || rowOf(sheet, dot.y) < 0;
-  const which = paper.placed.length > 1 ? `image ${dot.sheet + 1}: ` : '';
-  const mm = value => (value / desk.dpmm).toFixed(1);
-  const colour = missing ? 'no paper' : isBlack(sheet, dot.x, dot.y) ? 'black' : 'white';
-  find('dot').textContent = `${which}x ${dot.x}, y ${dot.y}: ${colour} (${mm(dot.x)}, ${mm(dot.y)} mm)`;
 }
 
 // The tab's stream in another language.
@@ -350,8 +236,8 @@ export function readAs(language) {
   const { tab } = desk;
   Object.assign(tab, { language, remarks: [], rows: [] });
   tab.printAnew();
-  act.languageChanged();
+  lookActs.languageChanged();
   print(true);
 }
 
-export const act = { languageChanged() {} };
+export const lookActs = { readAs, languageChanged() {} };

@@ -3,8 +3,9 @@
 import { pasted, toBytes } from './bytes.js';
 import { compareWith } from './comparing.js';
 import { desk, find } from './desk.js';
-import { ENDED, say, show } from './looking.js';
-import { act, drawTabs, nameFor, same, Tab } from './tabs.js';
+import { ENDED, show } from './looking.js';
+import { say } from './saying.js';
+import { tabActs, drawTabs, nameFor, same, Tab } from './tabs.js';
 import { editor, replace } from './writing.js';
 
 export const STARTS = {
@@ -15,14 +16,18 @@ export const STARTS = {
 
 const tooLong = name => say(`${name}: a stream has at most ${desk.state.most >> 20} MB`);
 
-export async function open(name, bytes, language, more) {
+/**
+ * Opens a stream in a tab. `kept` are the bytes that its file has, `more` what else the tab is.
+ */
+export async function open(name, bytes, language, { more = {}, ...files } = {}) {
   if (bytes.length > desk.state.most) {
     tooLong(name);
     return;
   }
-  const tab = new Tab(nameFor(name), bytes, language ?? await desk.printer.guess(bytes), more);
+  const tab = new Tab(nameFor(name), bytes, language ?? await desk.printer.guess(bytes), files);
+  Object.assign(tab, more);
   desk.tabs.push(tab);
-  act.choose(tab);
+  tabActs.choose(tab);
 }
 
 export async function openExample(n) {
@@ -106,7 +111,7 @@ async function pickFiles() {
   const isFirst = !files.length;
   let tab = null;
   for (const it of await desk.printer.pick()) tab = await openOne(files.push(it) - 1);
-  if (tab) act.choose(tab);
+  if (tab) tabActs.choose(tab);
   if (tab && isFirst) follow();
 }
 

@@ -7,6 +7,7 @@
 // Bytes are {from, to}; dots are {sheet, x, y, width, height}, and of a label also `bits` in rows of `stride` bytes.
 
 import { joined } from './bytes.js';
+import { CONTENT } from './remarks.js';
 import { MOST_PAPER, isBlack, rowOf, sheetsOf, stripOf } from './sheets.js';
 import { rowAt } from './rows.js';
 
@@ -14,7 +15,6 @@ const SETTINGS = ['^PW', '^LL', '^LH', '^LR', '^PO', '^PM', '^CF', '^FW', '^BY']
 const AT_FIRST = '^PW832^LL1218^LH0,0^LRN^PON^PMN^CF0,9,5^FWN^BY2,3.0,10';
 // What counts as it stands at the format's end, not where a field is closed.
 const AT_END = ['^PW', '^LL', '^PO', '^PM'];
-const CONTENT = ['^FD', '^GB', '^GF'];
 const MOST_COPIES = 99_999_999;
 // So far from a dot the next one is looked for, so many fronts are printed at once, and so much paper for one click.
 const NEAR = 12;
@@ -55,10 +55,11 @@ function formatsOf(rows) {
 }
 
 export class Origins {
-  // `print` gives the paper of a stream as {bytes, images}. What is looked at is {bytes, rows, sheets, language, lead,
+  // `print` gives the paper of a stream as {bytes, images}, `count` how many rows fronts of it print, `fronts` of which
+  // are asked for at once. What is looked at is {bytes, rows, sheets, language, lead,
   // edition}: `lead` is what is set before it, and the edition another one where anything is.
-  constructor(print) {
-    this.print = print;
+  constructor(print, count, fronts) {
+    Object.assign(this, { print, count, fronts });
     this.forget(null);
   }
 
@@ -133,7 +134,7 @@ export class Origins {
     const each = Math.max(1, Math.floor(MOST_PAPER / 2 / size));
     for (let at = 0; at < missing.length; at += each) {
       const some = missing.slice(at, at + each);
-      const { bytes, images } = await this.print(joined(...some.flatMap(field => alone(it, format, field))), it);
+      const { bytes, images } = await this.print(joined(...some.flatMap(field => aloneTwice(it, format, field))), it);
       some.forEach((field, n) => {
         const over = images[2 * n + 1] && [images[2 * n], images[2 * n + 1]];
         this.inks.set(field, over ? inkOf(bytes, ...over) : null);
@@ -144,23 +145,37 @@ export class Origins {
 
   // Receipts
 
-  // How many rows a front of the stream prints.
-  async rows(it, count) {
-    if (count <= 0) return 0;
-    if (!this.rowsOf.has(count)) {
-      const { images } = await this.print(it.bytes.subarray(0, count), it);
-      this.rowsOf.set(count, images.reduce((sum, image) => sum + image[3], 0));
+  // How many rows fronts of the stream print, each of so many bytes.
+  async rows(it, counts) {
+    const asked = [...new Set(counts)].filter(at => at > 0 && !this.rowsOf.has(at)).sort((one, other) => one - other);
+    if (asked.length) {
+      const found = await this.count(it.bytes, asked, it);
+      asked.forEach((at, n) => this.rowsOf.set(at, found[n]));
     }
-    return this.rowsOf.get(count);
+    return counts.map(at => (at > 0 ? this.rowsOf.get(at) : 0));
   }
 
-  // The shortest front between two that has what is asked for.
-  async shortest(low, high, has) {
+  // The shortest front that prints so many rows: among those that end with a line of the listing, then within it.
+  async front(it, rows) {
+    const ends = it.rows.map(row => row.to);
+    const known = [...this.rowsOf].sort(([one], [other]) => one - other);
+    const less = known.findLast(([, found]) => found < rows)?.[0] ?? 0;
+    const more = known.find(([, found]) => found >= rows)?.[0] ?? it.bytes.length;
+    const has = async tried => (await this.rows(it, tried)).map(found => found >= rows);
+    const first = ends.findIndex(end => end > less);
+    const last = ends.findIndex(end => end >= more);
+    const n = first < 0 ? ends.length : await this.shortest(first, last < 0 ? ends.length : last,
+      tried => has(tried.map(at => ends[at])));
+    return this.shortest(Math.max(less + 1, n > 0 ? ends[n - 1] : 0), Math.min(more, ends[n] ?? more), has);
+  }
+
+  // The shortest front between two that has what is asked for: `have` tells of so many fronts whether they have it.
+  async shortest(low, high, have, most = this.fronts) {
     while (low < high) {
-      const step = Math.max(1, Math.floor((high - low) / (FRONTS + 1)));
+      const step = Math.max(1, Math.floor((high - low) / (most + 1)));
       const tried = [];
-      for (let at = low; at < high && tried.length < FRONTS; at += step) tried.push(at);
-      const found = await Promise.all(tried.map(has));
+      for (let at = low; at < high && tried.length < most; at += step) tried.push(at);
+      const found = await have(tried);
       const first = found.indexOf(true);
       if (first >= 0) high = tried[first];
       low = first === 0 ? tried[0] : tried[(first < 0 ? tried.length : first) - 1] + 1;
@@ -171,10 +186,8 @@ export class Origins {
   async line(it, dot) {
     const sheet = it.sheets[dot.sheet];
     const strip = stripOf(sheet, dot.y);
-    const whole = it.bytes.length;
-    const [before, behind] = await Promise.all([
-      strip.y === 0 ? 0 : this.shortest(0, whole, async at => await this.rows(it, at) >= strip.y),
-      this.shortest(0, whole, async at => await this.rows(it, at) >= strip.y + strip.rows)]);
+    const behind = await this.front(it, strip.y + strip.rows);
+    const before = strip.y === 0 ? 0 : await this.front(it, strip.y);
     const last = it.rows[rowAt(it.rows, behind - 1)];
     if (!last) return null;
     const from = before < behind ? before : last.from;
@@ -186,10 +199,11 @@ export class Origins {
   async onPage(it, dot, strip, from, to) {
     const near = nearest(it.sheets[dot.sheet], dot);
     if (!near) return null;
-    const at = await this.shortest(from, to, async count => {
+    const has = async count => {
       const sheet = await this.page(it, count);
       return !!sheet && isBlack(sheet, near.x, near.y - strip.y);
-    });
+    };
+    const at = await this.shortest(from, to, tried => Promise.all(tried.map(has)), FRONTS);
     const n = rowAt(it.rows, at - 1);
     return it.rows[n].text === 'char' ? { from: at - 1, to: at } : unitOf(it.rows, n);
   }
@@ -199,7 +213,7 @@ export class Origins {
     const n = rowAt(it.rows, front - 1);
     const unit = n < 0 || it.rows[n].text === 'char' ? null : unitOf(it.rows, n);
     const count = unit && unit.to > front ? unit.from : front;
-    const before = await this.rows(it, count);
+    const [before] = await this.rows(it, [count]);
     const { bytes, images } = await this.print(joined(it.bytes.subarray(0, count), Uint8Array.of(FORM_FEED)), it);
     let rows = 0;
     const page = images.filter(image => (rows += image[3]) > before);
@@ -209,12 +223,12 @@ export class Origins {
   async lineDots(it, row, n) {
     const sheet = it.sheets?.[0];
     if (!sheet) return null;
-    const [top, end] = await Promise.all([this.rows(it, row.from), this.rows(it, row.to)]);
+    const [top, end] = await this.rows(it, [row.from, row.to]);
     if (top >= sheet.height) return null;
     if (isPage(it.rows, n)) {
       const { from, to } = unitOf(it.rows, n);
       const pages = await Promise.all([this.page(it, from), this.page(it, to)]);
-      const ink = pages[1] && changeOf(...pages);
+      const ink = pages[1] && pageChange(...pages);
       if (ink) return { sheet: 0, ...ink, y: ink.y + top };
     }
     const strip = stripOf(sheet, top);
@@ -241,7 +255,7 @@ function unitOf(rows, n) {
 }
 
 // Two labels of a field alone: over white, and over black.
-function alone({ bytes, lead }, format, field) {
+function aloneTwice({ bytes, lead }, format, field) {
   const raw = row => bytes.subarray(row.from, row.to);
   const set = [...field.set.values()].map(raw);
   const end = AT_END.filter(name => format.end.has(name)).map(name => raw(format.end.get(name)));
@@ -260,7 +274,7 @@ function inkOf(bytes, [width, height, white, rows], [, , black]) {
 }
 
 // What one page has and another hasn't.
-function changeOf(before, after) {
+function pageChange(before, after) {
   const { stride } = after;
   const byte = (sheet, x, y) => {
     const row = sheet ? rowOf(sheet, y) : -1;

@@ -1,20 +1,26 @@
 // The viewer's page: its tabs and the choices in its bars. Writing, looking, comparing, opening have their own parts.
 
+import { endsOf, toBytes, toEscapes, toText } from './bytes.js';
 import { compareWith, drawChoices } from './comparing.js';
-import { desk, find, save, setChoices } from './desk.js';
-import { pdf, png } from './files.js';
-import { act as looks, list, listing, measured, paper, print, readAs, say, show } from './looking.js';
+import { desk, find, setChoices } from './desk.js';
+import { bringBack } from './keeping.js';
+import { learn } from './known.js';
+import { list, listing, lookActs, measured, paper, print, readAs, show } from './looking.js';
+import { say } from './saying.js';
+import { named } from './names.js';
 import { STARTS, ask, follow, open, openExample, openFollowed } from './opening.js';
-import { rowOf } from './sheets.js';
-import { act, drawTabs, fileName, saveStream } from './tabs.js';
+import './saving.js';
+import { openLink } from './sharing.js';
+import { tabActs, drawTabs, saveStream } from './tabs.js';
 import { editor, fill } from './writing.js';
 
-window.viewer = Object.assign(measured, { paper, desk, tab: () => desk.tab,
+// For those who test the page.
+window.viewer = Object.assign(measured, { paper, desk, tab: () => desk.tab, toBytes, toEscapes, toText, endsOf, named,
   fits: () => desk.tab && desk.tab.drawn === desk.tab.edits });
 
 // Tabs
 
-function choose(chosen) {
+function chooseTab(chosen) {
   if (desk.tab) Object.assign(desk.tab, { place: editor.area.selectionStart, scrolled: editor.area.scrollTop });
   desk.tab = chosen;
   drawSettings();
@@ -52,11 +58,11 @@ function remove(it) {
   const at = tabs.indexOf(it);
   tabs.splice(at, 1);
   if (desk.other?.stream === it) compareWith('');
-  if (it === desk.tab) choose(tabs[Math.max(0, at - 1)]);
+  if (it === desk.tab) chooseTab(tabs[Math.max(0, at - 1)]);
   else drawTabs();
 }
 
-Object.assign(act, { choose, close, drawn: drawChoices });
+Object.assign(tabActs, { choose: chooseTab, close, drawn: drawChoices });
 
 // A dialog is closed here: Firefox 115 takes its form for one that is sent, which the page may not.
 for (const form of document.querySelectorAll('dialog form')) {
@@ -78,7 +84,7 @@ function drawSettings() {
   find('high').value = tab.high || '';
 }
 
-looks.languageChanged = () => {
+lookActs.languageChanged = () => {
   drawSettings();
   fill(0);
 };
@@ -127,6 +133,10 @@ find('anew').onchange = event => {
   for (const it of desk.tabs) it.printAnew();
   print(true);
 };
+find('unit').onchange = event => {
+  paper.unit = event.target.value;
+  paper.draw();
+};
 find('dpmm').onchange = event => {
   desk.dpmm = paper.dpmm = Number(event.target.value);
   paper.draw();
@@ -136,24 +146,11 @@ find('dpmm').onchange = event => {
   }
 };
 
-find('save-stream').onclick = () => saveStream(desk.tab);
-const stem = () => fileName(desk.tab).replace(/\.[^.]*$/, '') || 'stream';
-find('save-pbm').onclick = () => save(desk.tab.paper, `${stem()}.pbm`);
-for (const [end, made] of [['png', png], ['pdf', pdf]]) {
-  find(`save-${end}`).onclick = async () => {
-    const { sheets } = desk.tab;
-    const n = Math.min(paper.current(), sheets.length - 1);
-    const sheet = sheets[n];
-    if (!sheet) return;
-    const blank = new Uint8Array(sheet.stride);
-    const row = y => {
-      const at = rowOf(sheet, y);
-      return at < 0 ? blank : sheet.bytes.subarray(at, at + sheet.stride);
-    };
-    const name = sheets.length > 1 ? `${stem()}-${n + 1}` : stem();
-    save(await made(sheet.width, sheet.height, desk.dpmm, row), `${name}.${end}`);
-  };
-}
+find('told').onclick = () => {
+  find('remarks').open = true;
+  find('remarks').scrollIntoView({ block: 'center' });
+  find('remarks').querySelector('summary').focus();
+};
 
 // Glyph sheets
 
@@ -202,19 +199,25 @@ find('sheet-file').onchange = async event => {
 async function start() {
   desk.state = await desk.printer.state();
   const { anew, examples } = desk.state;
+  learn(desk.state.known);
   desk.anew = find('anew').checked = Boolean(anew);
   find('anew').closest('label').hidden = anew === null;
   setChoices(find('examples'), [['', 'Examples'], ...examples.map((it, n) => [n, it])], '');
   find('examples').hidden = !examples.length;
   await openFollowed();
-  if (desk.tabs.length) {
-    choose(desk.tabs[0]);
-    follow();
+  const followed = desk.tabs.length;
+  const last = bringBack();
+  const isLinked = await openLink();
+  if (isLinked) {
+    // what the link has is chosen already
+  } else if (desk.tabs.length) {
+    chooseTab(last ?? desk.tabs[0]);
   } else {
     const n = examples.indexOf('shipping.zpl');
     if (n >= 0) await openExample(n);
     else await open('new.zpl', new TextEncoder().encode(STARTS.label), 'label');
   }
+  if (followed) follow();
 }
 
 start().catch(error => { find('messages').textContent = error.message; });

@@ -2,6 +2,7 @@
 
 import { rowOf } from './sheets.js';
 import { isInk } from './origins.js';
+import { gridOf, shortly, sizeOf, ticksOf } from './units.js';
 
 const RULER = { left: 44, top: 22 };
 const MARGIN = 20;
@@ -18,8 +19,9 @@ const DIM = { black: rgb(150, 154, 160), white: rgb(226, 229, 233) };
 const MARKED = { black: rgb(0, 90, 220), white: rgb(205, 224, 255) };
 
 export class Paper {
-  // `told` hears of the dot under the pointer, `chosen` of the one that is clicked.
-  constructor(root, told, chosen) {
+  // `told` hears of the dot under the pointer or in the frame, `over` of the pointer's alone, `chosen` of the one that
+  // is clicked.
+  constructor(root, { told, over, chosen }) {
     this.canvas = root.querySelector('canvas');
     this.scroll = root.querySelector('.scroll');
     this.space = root.querySelector('.space');
@@ -29,18 +31,22 @@ export class Paper {
     this.others = null;
     this.ghosts = null;
     this.mark = null;
+    this.hover = null;
     this.dpmm = 8;
+    this.unit = 'mm';
     this.total = '';
     this.placed = [];
     this.zoom = 'fit';
-    this.grid = true;
+    this.grid = false;
     this.cursor = null;
-    this.told = told;
-    this.chosen = chosen;
+    Object.assign(this, { told, over, chosen });
     this.drawn = () => {};
     this.scroll.addEventListener('scroll', () => this.draw());
     this.scroll.addEventListener('pointermove', event => this.point(event));
-    this.scroll.addEventListener('pointerleave', () => this.told(null));
+    this.scroll.addEventListener('pointerleave', () => {
+      this.told(null);
+      this.over(null);
+    });
     this.scroll.addEventListener('click', event => {
       const box = this.scroll.getBoundingClientRect();
       const dot = this.at(event.clientX - box.left, event.clientY - box.top);
@@ -55,7 +61,7 @@ export class Paper {
   // total says how many there are, where not all are shown.
   show(sheets, { others = null, ghosts = null, total = '' } = {}) {
     if (this.sheets === sheets && this.others === others && this.ghosts === ghosts && this.total === total) return;
-    Object.assign(this, { sheets, others, ghosts, total, mark: null });
+    Object.assign(this, { sheets, others, ghosts, total, mark: null, hover: null });
     this.lay();
   }
 
@@ -63,6 +69,13 @@ export class Paper {
   setMark(mark) {
     if (this.mark === mark) return;
     this.mark = mark;
+    this.draw();
+  }
+
+  // Shows the box of what the pointer is over, here or in the stream.
+  setHover(box) {
+    if (this.hover === box) return;
+    this.hover = box;
     this.draw();
   }
 
@@ -122,7 +135,9 @@ export class Paper {
 
   point(event) {
     const box = this.scroll.getBoundingClientRect();
-    this.told(this.at(event.clientX - box.left, event.clientY - box.top));
+    const dot = this.at(event.clientX - box.left, event.clientY - box.top);
+    this.told(dot);
+    this.over(dot);
   }
 
   key(event) {
@@ -218,7 +233,7 @@ export class Paper {
     context.fillRect(x - ratio, y - ratio, Math.round(place.wide * dot) + 2 * ratio,
       Math.round(place.high * dot) + 2 * ratio);
     this.dots(n, x, y, [x0, x1, y0, y1], colour);
-    if (this.grid && dot >= 4 * ratio) this.lines(x, y, [x0, x1, y0, y1], colour);
+    if (this.grid) this.lines(x, y, [x0, x1, y0, y1], colour);
     this.frames(n, x, y, colour);
   }
 
@@ -228,10 +243,13 @@ export class Paper {
     context.font = `${12 * ratio}px system-ui, sans-serif`;
     context.textBaseline = 'alphabetic';
     context.textAlign = 'left';
-    const mm = value => (value / this.dpmm).toFixed(1);
     const name = this.placed.length > 1 ? `${n + 1} of ${this.total || this.placed.length}  ` : '';
-    const size = `${name}${place.wide} × ${place.high} dots, ${mm(place.wide)} × ${mm(place.high)} mm`;
-    context.fillText(size, Math.max(x, RULER.left * ratio + 6), y - 8 * ratio);
+    const dots = `${name}${place.wide} × ${place.high} dots`;
+    const room = text => this.canvas.width - context.measureText(text).width - 6;
+    const whole = `${dots}, ${sizeOf(place.wide, place.high, this.dpmm)}`;
+    const text = [whole, whole.replace(/, [^,]*$/, ''), dots].find(it => room(it) > RULER.left * ratio) ?? dots;
+    const most = room(text);
+    context.fillText(text, Math.max(RULER.left * ratio + 6, Math.min(x, most)), y - 8 * ratio);
   }
 
   dots(n, x, y, [x0, x1, y0, y1], colour) {
@@ -253,15 +271,19 @@ export class Paper {
     context.drawImage(this.piece, 0, 0, wide, high, x + x0 * dot, y + y0 * dot, wide * step * dot, high * step * dot);
   }
 
+  // A line each so many millimetres, or parts of an inch, as there is room; each dot where dots are large.
   lines(x, y, [x0, x1, y0, y1], colour) {
     const { context, dot, ratio } = this;
-    for (const [each, name] of dot >= 8 * ratio ? [[1, '--fine'], [8, '--grid']] : [[8, '--grid']]) {
+    const steps = gridOf(this.unit, this.dpmm * dot, ratio).map(it => it * this.dpmm);
+    const all = dot >= 8 * ratio ? [[1, '--fine'], [steps[0], '--grid'], [steps[1], '--grid']]
+      : [[steps[0], '--fine'], [steps[1], '--grid']];
+    for (const [each, name] of all) {
       context.fillStyle = colour(name);
-      for (let at = Math.ceil(x0 / each) * each; at <= x1; at += each) {
-        context.fillRect(x + at * dot, y + y0 * dot, ratio, (y1 - y0) * dot);
+      for (let n = Math.ceil(x0 / each); n * each <= x1; n++) {
+        context.fillRect(Math.round(x + n * each * dot), y + y0 * dot, ratio, (y1 - y0) * dot);
       }
-      for (let at = Math.ceil(y0 / each) * each; at <= y1; at += each) {
-        context.fillRect(x + x0 * dot, y + at * dot, (x1 - x0) * dot, ratio);
+      for (let n = Math.ceil(y0 / each); n * each <= y1; n++) {
+        context.fillRect(x + x0 * dot, Math.round(y + n * each * dot), (x1 - x0) * dot, ratio);
       }
     }
   }
@@ -275,6 +297,15 @@ export class Paper {
       context.lineWidth = 1.5 * ratio;
       context.strokeRect(x + mark.x * dot - gap, y + mark.y * dot - gap, mark.width * dot + 2 * gap,
         mark.height * dot + 2 * gap);
+    }
+    const { hover } = this;
+    if (hover?.sheet === n) {
+      context.strokeStyle = colour('--mark');
+      context.lineWidth = 1.5 * ratio;
+      context.setLineDash([5 * ratio, 3 * ratio]);
+      context.strokeRect(x + hover.x * dot - ratio, y + hover.y * dot - ratio, hover.width * dot + 2 * ratio,
+        hover.height * dot + 2 * ratio);
+      context.setLineDash([]);
     }
     if (cursor?.sheet === n) {
       context.strokeStyle = colour('--mark');
@@ -393,20 +424,19 @@ export class Paper {
     context.fillRect(0, 0, left - ratio, top - ratio);
     context.fillStyle = colour('--quiet');
     context.textAlign = 'center';
-    context.fillText('mm', left / 2, top - 7 * ratio);
+    context.fillText(this.unit, left / 2, top - 7 * ratio);
   }
 
-  // The ticks of a ruler: where each stands, how long it is, and its millimetres where they are written.
+  // The ticks of a ruler: where each stands, how long it is, and its number where that is written.
   ticks(from, length, start, end, tick) {
     const { dot, ratio } = this;
-    const mm = this.dpmm * dot;
-    const step = [1, 2, 5, 10, 20, 50, 100, 200, 500, 1000].find(it => it * mm >= 48 * ratio) ?? 2000;
-    const minor = [step / 10, step / 5, step / 2, step].find(it => it * mm >= 5 * ratio && it % 1 === 0) ?? step;
-    for (let n = Math.max(0, Math.ceil((start - from) / mm / minor)); n * minor * mm <= length * dot + 0.5; n++) {
-      const at = from + n * minor * mm;
+    const { step, minor, long } = ticksOf(this.unit, this.dpmm * dot, ratio);
+    for (let n = Math.max(0, Math.ceil((start - from) / minor)); n * minor <= length * dot + 0.5; n++) {
+      const at = from + n * minor;
       if (at > end) break;
-      const isWritten = n * minor % step === 0;
-      tick(Math.round(at), (isWritten ? 9 : 4) * ratio, isWritten ? n * minor : null);
+      const whole = n * minor / step;
+      const isWritten = Math.abs(whole - Math.round(whole)) < 1e-6;
+      tick(Math.round(at), (isWritten ? 9 : 4) * ratio, isWritten ? shortly(Math.round(whole) * long) : null);
     }
   }
 

@@ -10,9 +10,10 @@ const MOST_ROWS = 200_000;
 const SHOWN = 48;
 const RUNS = ['char', 'byte', 'column'];
 const decoder = new TextDecoder('latin1');
+const LEAD_BYTES = { esc: 0x1b, gs: 0x1d, fs: 0x1c, dle: 0x10 };
 const isDigit = byte => byte >= 0x30 && byte <= 0x39;
 const hexAt = (data, at) => parseInt(String.fromCharCode(data[at], data[at + 1]), 16);
-const isSign = byte => byte === 0x5e || byte === 0x7e;
+const isSignByte = byte => byte === 0x5e || byte === 0x7e;
 
 export class Rows {
   // `bytes` are the stream; of what was listed, `lead` bytes stand before it. With `each`, runs have a row for each.
@@ -82,14 +83,19 @@ export class Rows {
     const { bytes, language } = this;
     const last = run ? run.last : /^byte /.test(text) ? parseInt(text.slice(5), 16) : -1;
     let to = place;
-    if (language === 'label' && isSign(bytes[place - 1]) && last !== bytes[place - 1]) to = place - 1;
+    if (language === 'label' && isSignByte(bytes[place - 1]) && last !== bytes[place - 1]) to = place - 1;
     if (place !== this.last) this.from = this.end;
     const skipped = text.endsWith(' skipped');
     let from = this.from;
     if (language === 'label' && !run && /^[\^~]/.test(text)) {
-      for (let at = to - 1; at >= from; at--) if (isSign(bytes[at])) { from = at; break; }
-      if (skipped) while (to < bytes.length && !isSign(bytes[to])) to++;
+      for (let at = to - 1; at >= from; at--) if (isSignByte(bytes[at])) { from = at; break; }
+      if (skipped) while (to < bytes.length && !isSignByte(bytes[to])) to++;
     }
+    // a receipt's data that aren't listed stand before the next command
+    const [lead, ...behind] = text.split(' ');
+    const own = place - 1 - behind.length;
+    const isOwn = language === 'receipt' && !run && bytes[own] === LEAD_BYTES[lead];
+    if (isOwn && lead in LEAD_BYTES) from = Math.max(from, own);
     const kind = run || /^(char|byte|column) /.test(text) ? 'data' : skipped ? 'skip'
       : text.startsWith('^FX') ? 'comment' : /^(ctl|CR|LF$)/.test(text) ? 'ctl' : 'cmd';
     this.rows.push({ place, text, kind, count: run?.count ?? 0, values: run?.values ?? null, from,

@@ -1,12 +1,17 @@
 // The printer that the viewer's server is: it prints, lists and remarks on streams by vp, on this machine.
 //
 // The page knows a printer by these calls alone, so that the one within the page (within.js) can stand in its place:
-//   state()                               what it offers: sheets, examples, files to follow, the longest stream,
-//                                         whether streams are written anew at first, null where they never are
+//   state()                               what it offers: sheets, examples, files to follow, the longest stream, what
+//                                         is known of commands, whether streams are written anew at first, null where
+//                                         they never are
 //   print(stream, words, take, signal)    gives the paper's bytes to `take` as they come, while that answers true
+//   rows(stream, words, signal)           how many rows of paper each front of a receipt prints: words.ends are their
+//                                         lengths, from the shortest on; of `fronts` at once it is quick
 //   list(stream, words, take, signal)     gives the listing's bytes so
 //                                         both then tell {line, status, late}, or {stopped}; print the guess, too
-//   remarks(stream, words, signal)        what a printer would print besides: places, each with its words
+//   remarks(stream, words, signal)        what a printer would print besides: places, each with its words; a printer
+//                                         that can't tell has none, and
+//   sheet(letter, name)                   the bytes of a sheet in its place, null where there is none
 //   guess(stream)                         its language
 //   keepSheet(bytes)                      keeps a glyph sheet; the name that it answers stands in words
 //   example(n), file(n)                   their bytes
@@ -61,11 +66,15 @@ async function tail(reader, first) {
 }
 
 export class Printer {
+  fronts = 8;
+
   state() { return ask('state'); }
 
   async print(stream, words, take, signal) {
     return pieces(await ask(`print?${query(words)}`, { body: stream, signal, form: 'stream' }), take);
   }
+
+  rows(stream, words, signal) { return ask(`rows?${query(words)}`, { body: stream, signal }); }
 
   async list(stream, words, take, signal) {
     return pieces(await ask(`list?${query(words)}`, { body: stream, signal, form: 'stream' }), take);

@@ -14,11 +14,13 @@ import time
 import urllib.parse
 
 sys.path.insert(0, os.path.dirname(os.path.dirname(os.path.realpath(__file__))))
+from vp_recipes import bounds  # noqa: E402
 from vp_recipes.expand.places import told  # noqa: E402
 from vp_recipes.program import shown  # noqa: E402
 from vp_recipes.streams import guess  # noqa: E402
 from gate import Gate  # noqa: E402
-from printing import MOST_STREAM, SECONDS, Gone  # noqa: E402
+from known import known  # noqa: E402
+from printing import MOST_FRONTS, MOST_STREAM, SECONDS, Gone, fronts_of  # noqa: E402
 
 HERE = os.path.dirname(os.path.realpath(__file__))
 KINDS = {'html': 'text/html', 'css': 'text/css', 'js': 'text/javascript'}
@@ -32,6 +34,8 @@ HEADERS = {
 # How long a question for changes waits, how often the files are looked at, how long a quiet connection stays, and how
 # many that have shown the secret may at once.
 WAIT, LOOK, QUIET, MOST_INSIDE = 20, 0.1, 120, 64
+# How much one answer may come to.
+BOUNDS = bounds.DEFAULT._replace(seconds=SECONDS)
 
 
 class Followed:
@@ -152,8 +156,8 @@ class Answer(http.server.BaseHTTPRequestHandler):
         self.answer({'state': self.state, 'changes': self.changes, 'file': self.file, 'example': self.example})
 
     def do_POST(self):
-        self.answer({'print': self.print, 'list': self.list, 'remarks': self.remarks, 'sheet': self.sheet,
-                     'guess': self.guess})
+        self.answer({'print': self.print, 'list': self.list, 'rows': self.rows, 'remarks': self.remarks,
+                     'sheet': self.sheet, 'guess': self.guess})
 
     def answer(self, ways):
         try:
@@ -225,13 +229,13 @@ class Answer(http.server.BaseHTTPRequestHandler):
         self.head(status, kind, {'Content-Length': str(len(data))})
         self.wfile.write(data)
 
-    def pass_on(self, words, more, anew=None):
+    def pass_on(self, words, more, anew=None, is_paper=True):
         """Runs words on the stream and gives what they put out, as it comes: pieces with their lengths before them,
-        behind an empty one how it ended, in JSON. A stream that is written anew has its places told in its own bytes."""
+        behind an empty one how it ended, in JSON. A stream that is written anew has places told in its own bytes."""
         self.connection.settimeout(SECONDS)
         stream = self.stream() if anew is None else anew.data
         with contextlib.closing(self.server.program.run(words, stream, self.connection)) as pieces:
-            for n, piece in enumerate(pieces):
+            for n, piece in enumerate(cut(pieces, is_paper)):
                 if n == 0:
                     self.head(200, 'application/octet-stream', {'Transfer-Encoding': 'chunked'})
                 if isinstance(piece, dict) and anew is not None:
@@ -276,7 +280,7 @@ class Answer(http.server.BaseHTTPRequestHandler):
         return {
             'files': [{'name': it.name, 'path': it.path, 'version': it.version()} for it in page.files],
             'examples': [it.name for it in page.examples], 'width': page.width, 'language': page.language,
-            'most': MOST_STREAM, 'anew': page.anew,
+            'most': MOST_STREAM, 'anew': page.anew, 'known': known(),
             'fonts': {letter: os.path.basename(name) for letter, name in page.fonts['receipt'].items()},
         }
 
@@ -323,20 +327,49 @@ class Answer(http.server.BaseHTTPRequestHandler):
         words = self.server.program.print_words(language, self.choose('width', ('576', '384')), self.fonts(language))
         anew = None
         if self.choose('anew', ('0', '1')) == '1':
-            anew = self.server.program.anew(language, self.fonts(language), self.stream())
+            anew = self.server.program.anew(language, self.fonts(language), self.stream(), self.connection)
         self.pass_on(words, {'guess': guess(self.body)}, anew)
 
     def list(self):
-        self.pass_on(self.server.program.list_words(self.choose('lang', ('label', 'receipt'))), {})
+        words = self.server.program.list_words(self.choose('lang', ('label', 'receipt')))
+        self.pass_on(words, {}, is_paper=False)
+
+    def rows(self):
+        """How many rows of paper each front of a receipt prints, of the lengths that are asked for."""
+        ends = self.asked.get('ends', '').split(',')
+        if len(ends) > MOST_FRONTS or not all(it.isascii() and it.isdigit() and len(it) < 8 for it in ends):
+            raise Refused(400, 'ends: no such lengths')
+        fonts, stream = self.fonts('receipt'), self.stream()
+        words = self.server.program.print_words('receipt', self.choose('width', ('576', '384')), fonts)
+        found = None
+        if self.choose('anew', ('0', '1')) == '1':
+            found = self.server.program.anew('receipt', fonts, stream, self.connection)
+        fronts = fronts_of(found, stream, [int(it) for it in ends])
+        return self.server.program.rows(words, fronts, self.connection)
 
     def remarks(self):
         language = self.choose('lang', ('label', 'receipt'))
         fonts, stream = self.fonts(language), self.stream()
         found = self.server.program.remarks(language, fonts, stream, self.connection)
         if self.choose('anew', ('0', '1')) == '1':
-            anew = self.server.program.anew(language, fonts, stream)
+            anew = self.server.program.anew(language, fonts, stream, self.connection)
             found += [[it.place, it.text] for it in (anew.remarks if anew else ())]
         return found
+
+
+def cut(pieces, is_paper):
+    """What is put out, within the bounds of all recipes, and at last how it ended, or which bound was reached."""
+    cutter = bounds.Cutter(BOUNDS, is_paper)
+    for piece in pieces:
+        some = cutter.end() if isinstance(piece, dict) else cutter.add(piece)
+        if some:
+            yield some
+        if cutter.reached:
+            what = bounds.Reached(cutter.reached, getattr(BOUNDS, cutter.reached)).what()
+            yield {'line': '', 'status': 0, 'late': False, 'reached': what}
+            return
+        if isinstance(piece, dict):
+            yield piece
 
 
 def leading(address):

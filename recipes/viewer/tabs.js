@@ -1,14 +1,16 @@
 // Tabs: streams, each with what is known of it.
 
 import { History } from './history.js';
+import { isKept, keepNow, keepSoon } from './keeping.js';
 import { desk, find, save } from './desk.js';
 
-let count = 0;
+let tabsMade = 0;
 
 export class Tab {
   // `kept` are the bytes that its file has, or null where it has none; a followed file is named by its number and path.
   constructor(name, bytes, language, { kept = bytes, followed = null, path = name } = {}) {
-    Object.assign(this, { id: count++, name, bytes, language, kept, followed, path, width: String(desk.state.width) });
+    Object.assign(this, { id: tabsMade++, name, bytes, language, kept, followed, path });
+    this.width = String(desk.state.width);
     // a label's size in millimetres, where it isn't the stream's own
     Object.assign(this, { wide: 0, high: 0, history: new History(), asBytes: false });
     // what the file has now, where that changed under what was written here; what was saved last
@@ -77,23 +79,24 @@ export function saveStream(tab) {
 }
 
 // What is to be done when a tab is chosen or closed is the page's.
-export const act = { choose() {}, close() {}, drawn() {} };
+export const tabActs = { choose() {}, close() {}, drawn() {} };
 
 let drawn = '';
 
 export function drawTabs() {
   const { tabs, tab } = desk;
-  act.drawn();
+  keepSoon();
+  tabActs.drawn();
   const now = JSON.stringify([tabs.indexOf(tab), tabs.map(it => [it.id, it.name, it.isUnsaved, !!it.onDisk])]);
   if (now === drawn) return;
   drawn = now;
   const hadFocus = find('tabs').contains(document.activeElement);
-  find('tabs').replaceChildren(...tabs.map(boxOf));
+  find('tabs').replaceChildren(...tabs.map(tabBox));
   find('tabs').querySelector('[data-on]')?.scrollIntoView({ block: 'nearest', inline: 'nearest' });
   if (hadFocus) find('tabs').querySelector('[aria-selected="true"]')?.focus();
 }
 
-function boxOf(it, n) {
+function tabBox(it, n) {
   const { tabs, tab } = desk;
   const box = document.createElement('div');
   box.className = 'tab';
@@ -111,11 +114,11 @@ function boxOf(it, n) {
   name.title = [it.path, isFollowed && 'followed on disk', unsaved && 'not saved', it.onDisk && 'changed on disk']
     .filter(Boolean).join(', ');
   name.setAttribute('aria-label', unsaved ? `${it.name}, not saved` : it.name);
-  name.onclick = () => act.choose(it);
+  name.onclick = () => tabActs.choose(it);
   name.onkeydown = event => {
     const step = { ArrowRight: 1, ArrowLeft: -1 }[event.key];
-    if (step) act.choose(tabs[(n + step + tabs.length) % tabs.length]);
-    else if (event.key === 'Delete' && !isFollowed) act.close(it);
+    if (step) tabActs.choose(tabs[(n + step + tabs.length) % tabs.length]);
+    else if (event.key === 'Delete' && !isFollowed) tabActs.close(it);
   };
   box.append(name);
   if (!isFollowed && tabs.length > 1) {
@@ -123,14 +126,15 @@ function boxOf(it, n) {
     shut.className = 'close';
     shut.textContent = '×';
     shut.setAttribute('aria-label', `Close ${it.name}`);
-    shut.onclick = () => act.close(it);
+    shut.onclick = () => tabActs.close(it);
     box.append(shut);
   }
   return box;
 }
 
 addEventListener('beforeunload', event => {
-  if (!desk.tabs.some(it => it.isUnsaved)) return;
+  keepNow();
+  if (isKept() || !desk.tabs.some(it => it.isUnsaved)) return;
   event.preventDefault();
   event.returnValue = '';
 });

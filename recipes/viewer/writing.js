@@ -2,10 +2,15 @@
 
 import { endsOf, pasted, placeOf, toBytes, toEscapes, toText } from './bytes.js';
 import { desk, find, number, plural } from './desk.js';
+import { Completion } from './completing.js';
 import { Editor } from './editor.js';
+import { openFind } from './finding.js';
+import { helpAt } from './helping.js';
 import { changed, changeOf } from './history.js';
-import { caretLeft, caretMoved, listing, print } from './looking.js';
+import { listing, print } from './looking.js';
+import { caretLeft, caretMoved, hoverByte } from './pointing.js';
 import { rowAt } from './rows.js';
+import { tellOnce } from './saying.js';
 import { drawTabs } from './tabs.js';
 
 // So many bytes of a stream are in the editor at a time.
@@ -77,6 +82,7 @@ function edited() {
   }
   editor.measure();
   mark();
+  completion.look();
 }
 
 // Puts bytes in place of a tab's, as one change.
@@ -118,12 +124,46 @@ editor.area.addEventListener('beforeinput', event => {
     insert('\\n\n');
   }
 });
+// Writes a text in place of what was typed before the cursor.
+const completion = new Completion(find('choices'), editor, (text, typed) => {
+  const { area } = editor;
+  area.setSelectionRange(area.selectionStart - typed.length, area.selectionStart);
+  insert(text);
+  completion.close();
+});
+
+// A comment begins so, and has other signs in place of a command's.
+const COMMENT = '^FX ';
+const SIGN_AS = { '^': '‸', '~': '∼', '‸': '^', '∼': '~' };
+
+// Makes comments of the lines that are chosen, or commands again.
+function comment() {
+  if (desk.tab.language !== 'label') {
+    tellOnce('ESC/POS has no comments.');
+    return;
+  }
+  const { area, starts } = editor;
+  const first = editor.lineOf(area.selectionStart);
+  const last = editor.lineOf(Math.max(area.selectionStart, area.selectionEnd - 1));
+  const [from, to] = [starts[first], last + 1 < starts.length ? starts[last + 1] - 1 : editor.text.length];
+  const lines = editor.text.slice(from, to).split('\n');
+  const isComment = lines.every(it => it.startsWith(COMMENT) || !it.trim());
+  const swap = (text, signs) => text.replace(signs, it => SIGN_AS[it]);
+  const turned = it => (isComment ? swap(it.replace(COMMENT, ''), /[‸∼]/g) : COMMENT + swap(it, /[\^~]/g));
+  const text = lines.map(it => (it.trim() ? turned(it) : it)).join('\n');
+  area.setSelectionRange(from, to);
+  insert(text);
+  area.setSelectionRange(from, from + text.length);
+}
+
+const KEYS = { z: event => (event.shiftKey ? redo() : undo()), y: redo, f: () => openFind(), '/': comment };
+
 editor.area.addEventListener('keydown', event => {
   if (!(event.ctrlKey || event.metaKey) || event.altKey) return;
-  const key = event.key.toLowerCase();
-  if (key !== 'z' && key !== 'y') return;
+  const act = KEYS[event.key.toLowerCase()];
+  if (!act) return;
   event.preventDefault();
-  if (key === 'y' || event.shiftKey) redo(); else undo();
+  act(event);
 });
 editor.area.addEventListener('paste', event => {
   const text = event.clipboardData.getData('text');
@@ -135,12 +175,18 @@ editor.area.addEventListener('paste', event => {
 document.addEventListener('selectionchange', () => {
   if (document.activeElement !== editor.area || !desk.tab) return;
   caret();
+  helpAt(desk.tab, caretByte());
   const row = rowAt(desk.tab.rows, caretByte());
   if (row >= 0 && row !== listing.current) listing.mark(row);
   caretMoved();
 });
 
 editor.area.addEventListener('blur', caretLeft);
+editor.area.addEventListener('pointermove', event => {
+  const place = event.buttons || !desk.tab ? -1 : editor.placeAt(event);
+  hoverByte(place < 0 ? null : desk.tab.from + (desk.tab.before[place] ?? 0));
+});
+editor.area.addEventListener('pointerleave', () => hoverByte(null));
 
 export const caretByte = () => desk.tab.from + (desk.tab.before[editor.area.selectionStart] ?? 0);
 
@@ -161,7 +207,10 @@ function kinds(from, to) {
     while (row >= 0 && row < rows.length && rows[row].to <= byte) row++;
     const it = row >= 0 && row < rows.length && rows[row].from <= byte ? rows[row] : null;
     let kind = it ? it.kind : '';
-    if (it && kind === 'cmd') kind = byte < it.from + it.name ? 'name' : '';
+    if (it && kind === 'cmd') {
+      kind = byte < it.from + it.name ? (byte === it.from && end !== null ? 'name sign' : 'name')
+        : editor.text[at] === ',' && end !== null ? 'comma' : 'parameter';
+    }
     if (end === null && (before[at + 1] === before[at] || (at && before[at - 1] === before[at]))) {
       kind = kind === 'data' ? kind : `${kind} escape`.trim();
     }
@@ -184,12 +233,21 @@ export function mark() {
     if (text) notes.push({ place: start + skip, kind, text });
   };
   for (const it of tab.remarks) if (it.place !== null) put(it.from, it.to, 'remark', it.text);
-  if (tab.fault) put(tab.fault.from, tab.fault.to, 'fault', `${tab.fault.number} ${tab.fault.text}`);
+  if (tab.fault) {
+    put(tab.fault.from, tab.fault.to, 'fault', `${tab.fault.number} ${tab.fault.text}`);
+    const { at } = tab.explained;
+    if (at >= 0 && at < tab.bytes.length) put(at, at + 1, 'wrong');
+  }
   if (tab.chosen) put(tab.chosen.from, tab.chosen.to, 'chosen');
   editor.show(marks, notes);
   caret();
+  if (tab.before.length > editor.area.selectionStart) helpAt(tab, caretByte());
 }
 
+/**
+ * Shows bytes in the editor.
+ * @param {boolean | 'selected'} focus  whether the cursor goes there, or the bytes are selected
+ */
 export function goTo(from, to, focus) {
   const { tab } = desk;
   if (from < tab.from || from > tab.to || (from === tab.to && to > from)) fill(from);
@@ -198,7 +256,8 @@ export function goTo(from, to, focus) {
   editor.reveal(place + skip);
   mark();
   if (focus) {
+    const end = focus === 'selected' ? placeOf(tab.before, to - tab.from) : place + skip;
     editor.area.focus();
-    editor.area.setSelectionRange(place + skip, place + skip);
+    editor.area.setSelectionRange(place + skip, Math.max(end, place + skip));
   }
 }

@@ -1,32 +1,37 @@
 """Prints a stream that is written anew first, by vp or by another command: the fault is told in the bytes that came."""
 import argparse
-import os
-import subprocess
-import sys
+import tempfile
+from typing import Any, List, Sequence
 
-from .expand import Options, expanded
-from .expand.places import told
-from .program import cannot_run, direct, find_vp, given_input
+from . import bounds
+from .expand import Expanded, Options, expanded
+from .expand.places import old_place, told
+from .papers import passed_on
+from .program import direct, find_vp, read
 from .sheets import sheet_words, shipped
 from .streams import LANGUAGES, guess
 
 
-def anew(words):
+def written(data: bytes, command: Sequence[str], **options: Any) -> Expanded:
+    """A stream as recipes/expand writes it for words that run vp, or that name its language and sheets."""
+    language = next((it for it in LANGUAGES if it in command), None) or guess(data)
+    sheets = [it for letter, name in sheet_words(command).items() for it in (f'--font-{letter}', name)]
+    return expanded(data, language, Options(sheet=tuple(sheets), **options))
+
+
+def anew(words: List[str]) -> int:
     """Does what these words ask, and gives the status of what printed."""
-    parser = argparse.ArgumentParser(prog='print --expand')
-    parser.add_argument('--table', default='cp858')
-    parser.add_argument('--from', dest='encoding')
-    parser.add_argument('command', nargs=argparse.REMAINDER)
-    given, data = parser.parse_args(words), given_input().read()
+    parser = argparse.ArgumentParser(prog='print --expand', allow_abbrev=False)
+    parser.add_argument('--table', default='cp858', metavar='CODEC', help='the table that the sheet shows; cp858')
+    parser.add_argument('--from', dest='encoding', metavar='CODEC', help="what a receipt's text is in, as utf-8")
+    parser.add_argument('command', nargs=argparse.REMAINDER, help='what prints, in place of vp')
+    bounds.add_words(parser)
+    given, data = parser.parse_args(words), read('-')
     language = next((it for it in LANGUAGES if it in given.command), None) or guess(data)
     command = direct(given.command or [*find_vp(), language, *shipped(language)])
-    sheets = [it for letter, name in sheet_words(command).items() for it in (f'--font-{letter}', name)]
-    found = expanded(data, language, Options(given.table, given.encoding, sheet=tuple(sheets)))
-    try:
-        ran = subprocess.run(command, input=found.data, stderr=subprocess.PIPE)
-    except (OSError, ValueError) as error:
-        raise cannot_run(command, error) from None
-    sys.stderr.write(told(ran.stderr.decode('utf-8', 'surrogateescape'), found.pieces))
-    if ran.returncode < 0:
-        os.kill(os.getpid(), -ran.returncode)
-    return ran.returncode
+    found = written(data, command, table=given.table, encoding=given.encoding)
+    with tempfile.TemporaryFile() as stream:
+        stream.write(found.data)
+        stream.seek(0)
+        return passed_on(command, stream, bounds.of(given), lambda text: str(told(text, found.pieces)),
+                         lambda byte: int(old_place(found.pieces, byte)))

@@ -2,6 +2,7 @@
 import math
 import re
 import unicodedata
+from typing import Callable, Dict, List, Optional, Tuple
 
 from .sheets import framed, sheet_of
 from .strokes import ABOVE, ALIKE, ALONE, BELOW, MADE, OTHERS, PLAIN
@@ -10,29 +11,35 @@ from .tables import shown, spaces
 # Of a cell's size: where the grid begins, how far its columns and rows lie apart, how wide the pen is.
 GRIDS = {(12, 24): (2.0, 4.0, 2.0, 2.0, 1.8), (9, 17): (1.5, 2.5, 1.5, 1.5, 1.1)}
 # Of a cell's size: how thick the lines of boxes are, and where single and double ones lie from its left, from its top.
-BOXES = {(12, 24): (2, {-1: 3, 0: 5, 1: 7}, {-1: 9, 0: 11, 1: 13}), (9, 17): (1, {-1: 3, 0: 4, 1: 5}, {-1: 7, 0: 8, 1: 9})}
+BOXES = {(12, 24): (2, {-1: 3, 0: 5, 1: 7}, {-1: 9, 0: 11, 1: 13}),
+         (9, 17): (1, {-1: 3, 0: 4, 1: 5}, {-1: 7, 0: 8, 1: 9})}
 # A capital with a mark is drawn from this row on, so that the mark has room.
 LOWERED = 1.6
 TALL = set('bdfhklt')
 
 
-def points(text):
+Point = Tuple[float, float]
+Lines = List[List[Point]]
+Size = Tuple[int, int]
+
+
+def points(text: str) -> Lines:
     """The strokes of a text: lists of points."""
     found = re.compile(r'(-?[\d.]+),(-?[\d.]+)|(-?\d)(\d(?:\.\d+)?)')
-    return [[(float(m[1] or m[3]), float(m[2] or m[4])) for m in map(found.fullmatch, stroke.split())]
+    return [[(float(m[1] or m[3]), float(m[2] or m[4])) for m in map(found.fullmatch, stroke.split()) if m]
             for stroke in text.split('; ')]
 
 
-def moved(strokes, across, down, right, below):
+def moved(strokes: Lines, across: float, down: float, right: float, below: float) -> Lines:
     return [[(x * across + right, y * down + below) for x, y in stroke] for stroke in strokes]
 
 
-def strokes(char):
+def strokes(char: str) -> Optional[Lines]:
     """The strokes of a character, or None."""
     if char in PLAIN or char in OTHERS:
         return points(PLAIN.get(char) or OTHERS[char])
     if char in MADE:
-        return [it for part, *place in MADE[char] for it in moved(strokes(part), *place)]
+        return [it for part, *place in MADE[char] for it in moved(strokes(part) or [], *place)]
     if char in ALONE:
         mark = ALONE[char]
         return points(BELOW[mark]) if mark in BELOW else moved(points(ABOVE[mark]), 1, 1, 0, 1.4)
@@ -41,7 +48,7 @@ def strokes(char):
     parts = unicodedata.normalize('NFD', char)
     if len(parts) != 2:
         return None
-    base, mark = parts
+    base, mark = parts[0], parts[1]
     letter = strokes({'i': 'ı', 'і': 'ı'}.get(base, base) if mark in ABOVE else base)
     if letter is None or mark not in ABOVE and mark not in BELOW:
         return None
@@ -56,17 +63,17 @@ def strokes(char):
     return letter + moved(points(ABOVE[mark]), 1, 1, 0, .8)
 
 
-def distance(px, py, a, b):
+def distance(px: float, py: float, a: Point, b: Point) -> float:
     dx, dy = b[0] - a[0], b[1] - a[1]
     length = dx * dx + dy * dy
     t = 0 if length == 0 else max(0, min(1, ((px - a[0]) * dx + (py - a[1]) * dy) / length))
     return math.hypot(px - a[0] - t * dx, py - a[1] - t * dy)
 
 
-def inked(lines, size):
+def inked(lines: Lines, size: Size) -> List[int]:
     """The rows of a cell with strokes: a dot is black where it lies within half a pen's width of one."""
     left, top, across, down, pen = GRIDS[size]
-    segments = []
+    segments: List[Tuple[Point, Point]] = []
     for line in lines:
         places = [(left + across * x, top + down * y) for x, y in line]
         segments += list(zip(places, places[1:] or places))
@@ -76,7 +83,7 @@ def inked(lines, size):
     return [sum(black << width - 1 - x for x, black in enumerate(row)) for row in is_black]
 
 
-def arms(char):
+def arms(char: str) -> Optional[Dict[str, int]]:
     """Of a line of boxes how many lines go left, right, up and down: none, one or two."""
     name = unicodedata.name(char, '')
     if not name.startswith('BOX DRAWINGS '):
@@ -92,9 +99,9 @@ def arms(char):
     return found
 
 
-def ends(count, sides, has_opposite):
-    """The lines of an arm: on which side of the middle each lies, and how far it goes, -1 to its near, 1 to the far line
-    of the ones across. `sides` are the counts across it, on its first and its second side."""
+def ends(count: int, sides: Tuple[int, int], has_opposite: bool) -> List[Tuple[int, int]]:
+    """The lines of an arm: on which side of the middle each lies, and how far it goes, -1 to its near, 1 to the far
+    line of the ones across. `sides` are the counts across it, on its first and its second side."""
     if count == 1:
         return [(0, 0 if has_opposite or 2 not in sides else -1 if sides == (2, 2) else 1)]
     found = []
@@ -103,7 +110,7 @@ def ends(count, sides, has_opposite):
     return found if count else []
 
 
-def box(char, size):
+def box(char: str, size: Size) -> Optional[List[int]]:
     """The rows of a line of boxes, which joins that of the next cell."""
     found = arms(char)
     if not found:
@@ -112,7 +119,7 @@ def box(char, size):
     width, height = size
     black = [[False] * width for _ in range(height)]
 
-    def fill(left, top, right, bottom):
+    def fill(left: int, top: int, right: int, bottom: int) -> None:
         for y in range(top, bottom):
             for x in range(left, right):
                 black[y][x] = True
@@ -134,22 +141,23 @@ def box(char, size):
     return [sum(it << width - 1 - x for x, it in enumerate(row)) for row in black]
 
 
-def block(char, size):
+def block(char: str, size: Size) -> Optional[List[int]]:
     """The rows of a block or a shade."""
     width, height = size
-    is_black = {
+    ways: Dict[str, Callable[[int, int], bool]] = {
         '█': lambda x, y: True, '▀': lambda x, y: y < height // 2, '▄': lambda x, y: y >= height // 2,
         '▌': lambda x, y: x < width // 2, '▐': lambda x, y: x >= width // 2,
         '░': lambda x, y: (x + 2 * (y % 2)) % 4 == 0, '▒': lambda x, y: (x + y) % 2 == 0,
         '▓': lambda x, y: (x + 2 * (y % 2)) % 4 != 0,
         '■': lambda x, y: width // 6 <= x < width - width // 6 and height // 3 <= y < height - height // 4,
-    }.get(char)
+    }
+    is_black = ways.get(char)
     if not is_black:
         return None
     return [sum(is_black(x, y) << width - 1 - x for x in range(width)) for y in range(height)]
 
 
-def glyph(char, size):
+def glyph(char: str, size: Size) -> Optional[List[int]]:
     """The rows of a character's cell, the leftmost dot highest; None where it isn't drawn."""
     rows = box(char, size) or block(char, size)
     if rows:
@@ -158,9 +166,10 @@ def glyph(char, size):
     return inked(lines, size) if lines else None
 
 
-def sheet(table, size):
+def sheet(table: str, size: Size) -> bytes:
     """A sheet of a table's characters. Its other bytes show their digits, but for spaces."""
-    cells = {byte: glyph(char, size) for byte, char in shown(table).items()}
-    for byte in set(range(256)).difference(spaces(table)):
-        cells[byte] = cells.get(byte) or framed(byte, size)
+    drawn = {byte: glyph(char, size) for byte, char in shown(table).items()}
+    cells = {byte: rows for byte, rows in drawn.items() if rows}
+    for byte in set(range(256)).difference(spaces(table), cells):
+        cells[byte] = framed(byte, size)
     return sheet_of(cells, size)

@@ -1,28 +1,46 @@
-"""Images as vp writes them, raw PBM, and PNGs of them."""
+"""Images as vp writes them, raw PBM, and pictures of them."""
 import contextlib
 import io
 import os
-import re
-import struct
-import zlib
+from typing import IO, Callable, Iterable, Iterator, List, Optional, Sequence, Tuple
 
-from .files import Made, beside, is_other
-from .program import Fault, shown
+from .bounds import Bounds, Cutter, Reached
+from .faults import Fault, shown
+from .files import Made, created, is_other, path_beside
+from .vp.bounds import HEAD
+from .vp.png import Png
 
+__all__ = ['Cut', 'Files', 'Pieces', 'Png', 'Taken', 'images', 'within', 'write']
 # A line of an image's head, which is short; the widest image that is taken.
-HEAD, SIZE, MOST_WIDE = 64, re.compile(rb'([1-9]\d{0,8}) ([1-9]\d{0,8})\n'), 1 << 16
+LINE, MOST_WIDE = 64, 1 << 16
 
 
-def images(file):
+class Pieces(io.RawIOBase):
+    """A file to be read, of the pieces that something gives."""
+
+    def __init__(self, pieces: Iterable[bytes]) -> None:
+        self.pieces, self.left = iter(pieces), b''
+
+    def readable(self) -> bool:
+        return True
+
+    def readinto(self, room: 'bytearray | memoryview') -> int:  # type: ignore[override]
+        self.left = self.left or next(self.pieces, b'')
+        part, self.left = self.left[:len(room)], self.left[len(room):]
+        room[:len(part)] = part
+        return len(part)
+
+
+def images(file: IO[bytes]) -> Iterator[Tuple[int, int, Iterator[bytes]]]:
     """Gives each image of raw PBM as vp writes it: its width, its height, and its rows of bytes in turn."""
     while True:
-        magic = file.readline(HEAD)
+        magic = file.readline(LINE)
         if not magic:
             return
-        numbers = SIZE.fullmatch(file.readline(HEAD))
-        if magic != b'P4\n' or not numbers or int(numbers[1]) > MOST_WIDE:
+        head = HEAD.fullmatch(magic + file.readline(LINE))
+        if not head or int(head[1]) > MOST_WIDE:
             raise ValueError('it is not what vp prints')
-        width, height = map(int, numbers.groups())
+        width, height = map(int, head.groups())
         rows = rows_of(file, (width + 7) // 8, height)
         yield width, height, rows
         for _ in rows:
@@ -33,7 +51,7 @@ class Cut(ValueError):
     """An image that ends before its last row."""
 
 
-def rows_of(file, size, count):
+def rows_of(file: IO[bytes], size: int, count: int) -> Iterator[bytes]:
     for _ in range(count):
         row = file.read(size)
         if len(row) < size:
@@ -41,90 +59,66 @@ def rows_of(file, size, count):
         yield row
 
 
-def chunk(kind, data):
-    return struct.pack('>I', len(data)) + kind + data + struct.pack('>I', zlib.crc32(kind + data))
-
-
-class Png:
-    """A PNG that is written row by row. Its head, with the height, is written again at the end, where the file can go
-    back; else the PNG is held and written then. With dots a millimetre it says its true size."""
-
-    def __init__(self, file, width, depth=1, palette=((255, 255, 255), (0, 0, 0)), dpmm=None):
-        self.out, self.file = file, file if file.seekable() else io.BytesIO()
-        self.width, self.depth, self.height = width, depth, 0
-        self.packer = zlib.compressobj(6)
-        self.head()
-        if dpmm:
-            self.file.write(chunk(b'pHYs', struct.pack('>IIB', *[round(1000 * dpmm)] * 2, 1)))
-        self.file.write(chunk(b'PLTE', bytes(sum(palette, ()))))
-
-    def head(self):
-        size = struct.pack('>IIBBBBB', self.width, self.height, self.depth, 3, 0, 0, 0)
-        self.file.write(b'\x89PNG\r\n\x1a\n' + chunk(b'IHDR', size))
-
-    def row(self, data):
-        self.height += 1
-        packed = self.packer.compress(b'\0' + data)
-        if packed:
-            self.file.write(chunk(b'IDAT', packed))
-
-    def close(self):
-        self.file.write(chunk(b'IDAT', self.packer.flush()) + chunk(b'IEND', b''))
-        self.file.seek(0)
-        self.head()
-        if self.file is not self.out:
-            self.out.write(self.file.getvalue())
-        self.out.close()
-
-
 class Taken(Fault):
-    """A name that a PNG would have is another file's."""
+    """A name that a picture would have is another file's."""
 
-    def __init__(self, name):
+    def __init__(self, name: object) -> None:
         super().__init__(f'{shown(name)} is there already, and was made of something else')
 
 
 class Files:
-    """PNGs that are written beside their names, and take them once all are whole: NAME.png where there is one, else
+    """Pictures that are written beside their names, and take them once all are whole: NAME.png where there is one, else
     NAME.png, NAME-2.png and so on, or with `each` NAME-1.png, NAME-2.png. What an earlier run made of the same and this
     one doesn't is taken away; a file that was made of something else, or that nobody here made, stays, and is a Fault.
-    Without `of`, what the PNGs are made of, the user named NAME.png, and it may be written over. Where `is_new` none
-    can be of an earlier run, and no list is kept."""
+    Without `of`, what the pictures are made of, the user named NAME.png, and it may be written over. Where `is_new`
+    none can be of an earlier run, and no list is kept."""
 
-    def __init__(self, name, each=False, of=None, is_new=False):
+    def __init__(self, name: str, each: bool = False, of: Optional[str] = None, is_new: bool = False) -> None:
         self.name, self.each, self.of, self.is_new = name, each, of, is_new
-        self.is_file, self.parts = name != '-' and not is_other(name), []
+        self.is_file = name != '-' and not is_other(name)
+        self.parts: List[Tuple[IO[bytes], str]] = []
 
-    def __enter__(self):
+    def __enter__(self) -> 'Files':
         return self
 
-    def __exit__(self, kind, error, trace):
+    def __exit__(self, kind: object, error: object, trace: object) -> None:
         if isinstance(error, OSError) and not error.filename:
             error.filename = self.name
         for file, path in self.parts:
-            for put_away in file.close, lambda path=path: os.unlink(path):
-                with contextlib.suppress(OSError):
-                    put_away()
+            with contextlib.suppress(OSError):
+                file.close()
+            with contextlib.suppress(OSError):
+                os.unlink(path)
 
-    def next(self):
-        """The file of the next PNG."""
+    def next(self) -> IO[bytes]:
+        """The file of the next picture."""
         if self.is_file:
-            self.parts.append(beside(self.name))
+            # (its name is known before it is there, so that a signal leaves none)
+            path = path_beside(self.name)
+            self.parts.append((io.BytesIO(), path))
+            self.parts[-1] = created(path, self.name), path
             return self.parts[-1][0]
         if self.parts:
             raise ValueError('several images to be one PNG, and no file to number')
         self.parts.append((os.fdopen(os.dup(1), 'wb') if self.name == '-' else open(self.name, 'wb'), ''))
         return self.parts[0][0]
 
-    def names(self, name):
-        """The names of the PNGs, by that of one."""
+    def drop(self) -> None:
+        """Lets go of the last picture, of which there is nothing."""
+        file, path = self.parts.pop()
+        file.close()
+        with contextlib.suppress(OSError):
+            os.unlink(path)
+
+    def names(self, name: str) -> List[str]:
+        """The names of the pictures, by that of one."""
         stem, end = os.path.splitext(name)
         count = len(self.parts)
         first = [] if self.each and count > 1 or not count else [name]
         return first + [f'{stem}-{n}{end}' for n in range(1 if self.each else 2, count + 1) if count > 1]
 
-    def settle(self, name=None):
-        """Gives the PNGs their names, by this one, and says them."""
+    def settle(self, name: Optional[str] = None) -> List[str]:
+        """Gives the pictures their names, by this one, and says them."""
         if not self.is_file:
             return [self.name]
         name = self.name if name is None else name
@@ -144,8 +138,8 @@ class Files:
                         os.unlink(name)
         return [os.path.join(folder, it) for it in names]
 
-    def take(self, folder, names, is_free):
-        """Has the PNGs take these names, where each is free or may be written over."""
+    def take(self, folder: str, names: Sequence[str], is_free: Callable[[str], bool]) -> None:
+        """Has the pictures take these names, where each is free or may be written over."""
         paths = [os.path.join(folder, it) for it in names]
         for it, path in zip(names, paths):
             if os.path.lexists(path) and not is_free(it):
@@ -155,11 +149,12 @@ class Files:
             del self.parts[0]
 
 
-def write(file, files, dpmm=None, most=None):
+def write(file: IO[bytes], files: Files, dpmm: Optional[float] = None, most: Optional[int] = None) -> bool:
     """Writes PNGs of the images that a file has, at most so many images. Says whether that was all."""
-    png, count = None, 0
+    png, count, is_all = None, 0, True
     for width, _, rows in images(file):
         if count == most:
+            is_all = False
             break
         count += 1
         if not png or files.each or png.width != width:
@@ -168,8 +163,19 @@ def write(file, files, dpmm=None, most=None):
             png = Png(files.next(), width, dpmm=dpmm)
         for row in rows:
             png.row(row)
-    else:
-        most = None
     if png:
         png.close()
-    return count != most
+    return is_all
+
+
+def within(file: IO[bytes], own: Bounds, cut: List[Reached]) -> IO[bytes]:
+    """A file's paper within bounds of rows, bytes and images; where one is reached it ends, and stands in the list."""
+    def pieces() -> Iterator[bytes]:
+        cutter = Cutter(own)
+        for part in iter(lambda: file.read(1 << 16), b''):
+            yield cutter.add(part)
+            if cutter.reached:
+                cut.append(Reached(cutter.reached, getattr(own, cutter.reached)))
+                return
+        yield cutter.end()
+    return io.BufferedReader(Pieces(it for it in pieces() if it))

@@ -1,16 +1,21 @@
-"""Prints a stream past what ends it: past [WORD..] < STREAM > IMAGES
+"""Prints a stream past what ends it: past [--most-rows N ..] [WORD..] < STREAM > IMAGES
 
 Each lead and byte that begin no known command (F1) are cut out, and so is each command of a symbol that is refused (F2,
 F3, F4), at most 100 of these; each is said with its place, and the rest is printed. WORD.. run vp; without them vp
-receipt with the shipped sheets. Status 1 where anything was cut out, or another fault is left.
+receipt with the shipped sheets. Status 1 where anything was cut out, or another fault is left. --most-rows,
+--most-bytes, --most-images and --most-seconds say where a print ends that goes on and on, N or none.
 """
+import os
 import re
 import shutil
-import subprocess
 import sys
 import tempfile
+import time
+from typing import IO, Iterator, List, Optional, Sequence, Tuple
 
-from .program import Fault, cannot_run, direct, find_vp, read, text_of, told
+from . import bounds
+from .faults import Fault, text_of, told
+from .program import direct, find_vp, read
 from .sheets import shipped
 from .streams import named
 
@@ -22,10 +27,10 @@ MOST_SYMBOLS = 100
 class Stream:
     """A stream with parts cut out, each known by its place before anything was."""
 
-    def __init__(self, data):
+    def __init__(self, data: bytes) -> None:
         self.data, self.left = data, [(0, len(data))]
 
-    def cut(self, start, end):
+    def cut(self, start: int, end: int) -> Optional[int]:
         """Cuts out what stands there now, and says where it stood."""
         place, left, at = None, [], 0
         for first, last in self.left:
@@ -38,19 +43,30 @@ class Stream:
         return place
 
 
-def ran(words, file, at, output):
-    """What words say of a file from a place on: their line and status."""
-    file.seek(at)
-    try:
-        it = subprocess.run(words, stdin=file, stdout=output, stderr=subprocess.PIPE)
-    except (OSError, ValueError) as error:
-        raise cannot_run(words, error) from None
-    return told(words, it.returncode, text_of(it.stderr)), it.returncode
+class Looks:
+    """Runs of vp on parts of a stream, all of them within one time."""
+
+    def __init__(self, own: bounds.Bounds) -> None:
+        self.bounds, self.end = own, None if own.seconds is None else time.monotonic() + own.seconds
+
+    def run(self, words: Sequence[str], file: IO[bytes], is_paper: bool = True) -> bounds.Run:
+        """A run of words on a file from where it stands, in the time that is left."""
+        os.lseek(file.fileno(), file.tell(), os.SEEK_SET)
+        left = None if self.end is None else max(.01, self.end - time.monotonic())
+        return bounds.Run(words, file, self.bounds._replace(seconds=left), is_paper)
+
+    def line(self, run: bounds.Run, words: Sequence[str]) -> str:
+        """What a run said that has ended. One that reached a bound is a Fault."""
+        if run.reached:
+            whole = self.bounds.seconds if run.reached.bound == 'seconds' else run.reached.most
+            raise Fault(str(run.reached._replace(most=whole or 0, byte=None)), 1)
+        return told(words, run.status, text_of(run.said))
 
 
-def unknown(data, vp):
+def unknown(data: bytes, vp: Sequence[str], looks: Looks) -> Iterator[int]:
     """The places of the bytes that begin no known command, by reading on behind each. Behind one the reader stands as
     at the start, so two bytes that are known to be none are none there too."""
+    words = [*vp, 'list', '--lang', 'receipt']
     with tempfile.TemporaryFile() as file:
         file.write(data)
         at, none = 0, set()
@@ -58,51 +74,60 @@ def unknown(data, vp):
             while data[at:at + 2] in none:
                 yield at
                 at += 2
-            line, _ = ran([*vp, 'list', '--lang', 'receipt'], file, at, subprocess.DEVNULL)
-            fault = UNKNOWN.fullmatch(line)
+            file.seek(at)
+            with looks.run(words, file, is_paper=False) as run:
+                for _ in run:
+                    pass
+            fault = UNKNOWN.fullmatch(looks.line(run, words))
             if not fault:
                 return
             code = bytes.fromhex(fault[2] + fault[3])
             at = data.rfind(code, at, at + int(fault[1]))
             if at < 0:
-                raise Fault(f'vp names a command that does not stand there: {line}')
+                raise Fault(f'vp names a command that does not stand there: {fault[0]}')
             yield at
             none.add(code)
             at += 2
 
 
-def symbol(data, end, vp):
-    """The command whose last byte stands before this place: where it begins, and its name."""
-    out = subprocess.run([*vp, 'list', '--lang', 'receipt', '--offsets'], input=data[:end], stdout=subprocess.PIPE,
-                         stderr=subprocess.DEVNULL).stdout.decode('latin-1').splitlines()[-2:]
-    place, _, text = out[-1].partition(' ') if out else ('', '', '')
+def symbol(file: IO[bytes], end: int, vp: Sequence[str], looks: Looks) -> Optional[Tuple[int, str]]:
+    """The command whose last byte stands before this place in a stream: where it begins, and its name."""
+    last: List[str] = []
+    file.seek(0)
+    with looks.run([*vp, 'list', '--lang', 'receipt', '--offsets'], file, is_paper=False) as run:
+        for piece in run:
+            for line in piece.decode('latin-1').splitlines():
+                if int(line.partition(' ')[0]) > end:
+                    break
+                last = [*last[-1:], line]
+    place, _, text = last[-1].partition(' ') if last else ('', '', '')
     if place != str(end) or not text.startswith(('gs 6b', 'gs 28 6b')):
         return None
     name = 'gs 6b' if text.startswith('gs 6b') else 'gs 28 6b'
-    start = int(out[0].partition(' ')[0]) if len(out) > 1 else 0
+    start = int(last[0].partition(' ')[0]) if len(last) > 1 else 0
     return start, named(name, text if name == 'gs 28 6b' else text[:len('gs 6b 00')])
 
 
-def main():
-    words = sys.argv[1:] or [*find_vp(), 'receipt', *shipped('receipt')]
-    if words[0] in ('-h', '--help'):
-        print(__doc__.strip())
-        return 0
-    words, vp, data = direct(words), direct(find_vp()), read('-')
-    places = list(unknown(data, vp))
+def past(words: Sequence[str], vp: Sequence[str], data: bytes, looks: Looks) -> int:
+    """Prints a stream past what ends it, and says what was cut out."""
+    places = list(unknown(data, vp, looks))
     for at in places:
         print(f'cut out at byte {at}: {data[at]:02X} {data[at + 1]:02X}', file=sys.stderr)
     stream = Stream(data)
     edges = [0, *(it for at in places for it in (at, at + 2)), len(data)]
     stream.left = [it for it in zip(edges[::2], edges[1::2]) if it[0] < it[1]]
-    stream.data = b''.join(data[first:last] for first, last in stream.left)
+    stream.data = b''.join(memoryview(data)[first:last] for first, last in stream.left)
     for cut in range(MOST_SYMBOLS + 1):
         with tempfile.TemporaryFile() as file, tempfile.TemporaryFile() as printed:
             file.write(stream.data)
-            line, status = ran(words, file, 0, printed)
+            file.seek(0)
+            with looks.run(words, file) as run:
+                for piece in run:
+                    printed.write(piece)
+            line = str(run.reached) if run.reached else looks.line(run, words)
             fault = SYMBOL.fullmatch(line) if cut < MOST_SYMBOLS else None
-            found = symbol(stream.data, int(fault[2]), vp) if fault else None
-            if found:
+            found = symbol(file, int(fault[2]), vp, looks) if fault else None
+            if fault and found:
                 place = stream.cut(found[0], int(fault[2]))
                 print(f'cut out at byte {place}: {found[1]}: {fault[1]} {fault[3]}', file=sys.stderr)
                 continue
@@ -111,4 +136,14 @@ def main():
             sys.stdout.flush()
         if line:
             print(line, file=sys.stderr)
-        return status or (1 if places or cut else 0)
+        return 1 if run.reached else run.status or (1 if places or cut else 0)
+    return 1
+
+
+def main() -> int:
+    if sys.argv[1:2] in (['-h'], ['--help']):
+        print((__doc__ or '').strip())
+        return 0
+    own, words = bounds.taken(sys.argv[1:])
+    words = words or [*find_vp(), 'receipt', *shipped('receipt')]
+    return past(direct(words), direct(find_vp()), read('-'), Looks(own))

@@ -1,24 +1,32 @@
-"""Prints a stream by vp in the language that it is in, with the shipped sheets: print < STREAM > IMAGES
+"""Prints a stream by vp in its language, with the shipped sheets: print [--most-rows N ..] < STREAM > IMAGES
+
+--most-rows, --most-bytes, --most-images and --most-seconds say where a print ends that goes on and on (N, or none);
+what was printed before is kept, a line says which was reached, and the status is 1. Else the status is vp's.
 
 print --guess < STREAM says the language, and prints nothing; print --words LANGUAGE says the words that run vp, one a
 line; print --languages < NAMES says the language of each file, before its name, a line each. print --expand
 [--table CODEC] [--from CODEC] [COMMAND..] < STREAM writes the stream anew first (recipes/expand) and prints it by
-COMMAND, in place of vp; a fault is told in the bytes that came. `many` asks by print --in-process COMMAND.. whether one
-process does as well for all streams, and then has it print them by print --batch [SUMS] COMMAND.. -- STREAMS OUT NAME..
-"""
-import os
-import shutil
-import sys
-import tempfile
+COMMAND, in place of vp; a fault is told in the bytes that came.
 
-from . import in_process
+`many` has a folder printed by print --batch [--sums] [--expand] [--most-rows N ..] COMMAND.. -- STREAMS OUT NAME.. and
+asks by print --in-process COMMAND.. whether one process does as well for all of its streams.
+"""
+import sys
+from typing import IO, Iterable, List
+
+from . import bounds, in_process
 from .batch import batch
-from .program import Fault, find_vp, given_input, shown
+from .faults import Fault, shown, why
+from .papers import passed_on
+from .program import find_vp, given_input, opened
 from .sheets import shipped
 from .streams import GUESSED, LANGUAGES, guess
 
+USAGE = ('print [--most-rows N ..] [--guess] < STREAM; print --expand [COMMAND..] < STREAM; '
+         f'print --words {"|".join(LANGUAGES)}; print --languages < NAMES; print --help')
 
-def languages(names):
+
+def languages(names: Iterable[bytes]) -> int:
     """Says the language of each of the files whose names are given."""
     for line in names:
         name = line.rstrip(b'\n')
@@ -26,45 +34,52 @@ def languages(names):
             with open(name, 'rb') as file:
                 language = guess(file.read(GUESSED))
         except OSError as error:
-            raise Fault(f'cannot read {shown(os.fsdecode(name))}: {error.strerror}') from None
+            raise Fault(f'cannot read {shown(name.decode("utf-8", "surrogateescape"))}: {why(error)}') from None
         sys.stdout.buffer.write(language.encode() + b' ' + line)
     return 0
 
 
-def main():
-    if sys.argv[1:2] == ['--in-process']:
-        return 0 if in_process.package(sys.argv[2:]) else 1
-    if sys.argv[1:2] == ['--batch']:
-        end = sys.argv.index('--')
-        streams, out, *names = sys.argv[end + 1:]
-        return batch(sys.argv[3:end], streams, out, sys.argv[2] != '', names)
-    if sys.argv[1:2] == ['--expand']:
+def many(words: List[str]) -> int:
+    """Prints streams of a folder, as `many` asks for it."""
+    flags = [it for it in ('--sums', '--expand') if it in words[:2]]
+    own, words = bounds.taken(words[len(flags):])
+    end = words.index('--')
+    streams, out, *names = words[end + 1:]
+    return batch(words[:end], streams, out, names, own, '--sums' in flags, '--expand' in flags)
+
+
+def prints(stream: IO[bytes], own: bounds.Bounds) -> int:
+    """Prints a stream in its language."""
+    start = stream.tell()
+    language = guess(stream.read(GUESSED))
+    stream.seek(start)
+    return passed_on([*find_vp(), language, *shipped(language)], stream, own)
+
+
+def main() -> int:
+    words = sys.argv[1:]
+    if words[:1] in (['-h'], ['--help']):
+        print((__doc__ or '').strip())
+        return 0
+    if words[:1] == ['--in-process']:
+        return 0 if in_process.package(words[1:]) else 1
+    if words[:1] == ['--batch']:
+        return many(words[1:])
+    if words[:1] == ['--expand']:
         # (loaded only here: it takes longer than to print some hundred receipts)
         from .anew import anew
-        return anew(sys.argv[2:])
-    if sys.argv[1:2] == ['--words'] and len(sys.argv) == 3 and sys.argv[2] in LANGUAGES:
-        print('\n'.join([*find_vp(), sys.argv[2], *shipped(sys.argv[2])]))
+        return anew(words[1:])
+    if words[:1] == ['--words'] and len(words) == 2 and words[1] in LANGUAGES:
+        print('\n'.join([*find_vp(), words[1], *shipped(words[1])]))
         return 0
-    if sys.argv[1:] == ['--languages']:
+    if words == ['--languages']:
         return languages(given_input())
-    if sys.argv[1:] not in ([], ['--guess']):
-        print(f'usage: print [--guess] < STREAM; print --expand [COMMAND..] < STREAM; print --words {"|".join(LANGUAGES)}; print --languages < NAMES',
-              file=sys.stderr)
+    own, words = bounds.taken(words)
+    if words not in ([], ['--guess']):
+        print(f'usage: {USAGE}', file=sys.stderr)
         return 2
-    if given_input().seekable():
-        stream, start = sys.stdin.buffer, sys.stdin.buffer.tell()
-    else:
-        stream, start = tempfile.TemporaryFile(), 0
-        shutil.copyfileobj(sys.stdin.buffer, stream)
-        stream.seek(0)
-    language = guess(stream.read(GUESSED))
-    if sys.argv[1:]:
-        print(language)
+    if words:
+        print(guess(given_input().read(GUESSED)))
         return 0
-    os.lseek(stream.fileno(), start, os.SEEK_SET)
-    os.dup2(stream.fileno(), 0)
-    words = [*find_vp(), language, *shipped(language)]
-    try:
-        os.execvp(words[0], words)
-    except OSError as error:
-        raise Fault(f'cannot run {words[0]}: {error.strerror}', 2) from None
+    with opened('-', own.bytes) as stream:
+        return prints(stream, own)

@@ -1,31 +1,29 @@
-"""The program vp, and how a command ends: where vp is, what it does with a stream, what a user is told."""
+"""The program vp, and how a command ends: where vp is, what it does with a stream, what is read, what a signal does."""
+import contextlib
 import functools
+import io
 import os
 import pathlib
-import re
 import signal
 import subprocess
 import sys
+import tempfile
+from typing import IO, Callable, Iterator, List, Optional, Sequence, Tuple
 
 from . import in_process
+from .bounds import Run, end_all
+from .faults import NOT_OF_VP, VP_STATUSES, Fault, cannot_run, shown, text_of, times, told, why
+from .vp.bounds import HELD, Bounds
 
+__all__ = ['HERE', 'NOT_OF_VP', 'VP_STATUSES', 'Fault', 'begins', 'cannot_run', 'direct', 'ended', 'find_vp',
+           'given_input', 'opened', 'ran', 'read', 'run', 'shown', 'text_of', 'times', 'told']
 # The folder of the commands.
 HERE = pathlib.Path(__file__).resolve().parent.parent
-# The statuses of vp beside 0 and 1, whose line says why; and what a command ends with that ran something which was
-# killed, or which ended as vp doesn't.
-VP_STATUSES, NOT_OF_VP = (2, 3, 4, 125), 5
+# A stream that is held in memory has so many bytes at most.
+MOST_STREAM = 1 << 26
 
 
-class Fault(Exception):
-    """What a user is told in one line. The status is 2 for wrong words, 3 for files, 4 for memory, 5 for a program
-    that was killed or didn't end as vp does."""
-
-    def __init__(self, line, status=3):
-        super().__init__(line)
-        self.status = status
-
-
-def find_vp():
+def find_vp() -> List[str]:
     """The words that run vp: VP of the environment, the prefix's, the repository's, the path's."""
     if os.environ.get('VP'):
         return [os.environ['VP']]
@@ -37,49 +35,62 @@ def find_vp():
     return ['vp']
 
 
-def given_input():
+def given_input() -> IO[bytes]:
     """Standard input."""
     if not sys.stdin:
         raise Fault('standard input is closed')
     return sys.stdin.buffer
 
 
-def read(name):
+def read(name: str, most: int = MOST_STREAM) -> bytes:
     """The bytes of a file, or of standard input for `-`."""
     try:
         if name == '-':
-            return given_input().read()
-        with open(name, 'rb') as file:
-            return file.read()
+            data = given_input().read(most + 1)
+        else:
+            with open(name, 'rb') as file:
+                data = file.read(most + 1)
     except (OSError, ValueError) as error:
-        raise Fault(f'cannot read {shown(name)}: {getattr(error, "strerror", None) or error}') from None
+        raise Fault(f'cannot read {shown(name)}: {why(error)}') from None
+    if len(data) > most:
+        raise Fault(f'{shown(name)} has more than {most:,} bytes, and is read no further')
+    return data
 
 
-def shown(name):
-    """A name as it stands in a line: a line end and other control characters by their numbers."""
-    return re.sub('[\0-\x1f\x7f]', lambda it: f'\\x{ord(it[0]):02x}', str(name))
+@contextlib.contextmanager
+def opened(name: str, most: Optional[int]) -> Iterator[IO[bytes]]:
+    """A stream's file, which goes back: standard input for `-`, what comes of it kept aside where it can't, at most
+    so many bytes."""
+    try:
+        with contextlib.ExitStack() as ends:
+            file = given_input() if name == '-' else ends.enter_context(open(name, 'rb'))
+            if not file.seekable():
+                file = spooled(file, ends.enter_context(tempfile.TemporaryFile()), most)
+            elif name == '-':
+                # (what others read of it before isn't this stream's)
+                os.lseek(file.fileno(), file.tell(), os.SEEK_SET)
+            yield file
+    except (OSError, ValueError) as error:
+        if isinstance(error, OSError) and error.filename != name:
+            raise
+        raise Fault(f'cannot read {shown(name)}: {why(error)}') from None
 
 
-def told(words, status, line):
-    """What the words that ran vp say, in one line, where they ended with 0 or 1. Else it is a Fault."""
-    line = '; '.join(line.split('\n'))
-    if status == 0 or status == 1 and line:
-        return line
-    program = shown(words[0])
-    if status < 0:
-        names = {it.value: it.name for it in signal.Signals}
-        raise Fault(f'{program} was ended by {names.get(-status, f"signal {-status}")}', NOT_OF_VP)
-    said = f'{program} ended with status {status}' + (f': {line}' if line else ' and said nothing')
-    raise Fault(line or said if status in VP_STATUSES else said, status if status in VP_STATUSES else NOT_OF_VP)
-
-
-def text_of(said):
-    """What a program said on standard error."""
-    return said.decode('utf-8', 'surrogateescape').strip()
+def spooled(file: IO[bytes], room: IO[bytes], most: Optional[int]) -> IO[bytes]:
+    """What comes of a file, kept in another one."""
+    left = most
+    while left is None or left >= 0:
+        part = file.read(1 << 16)
+        if not part:
+            room.seek(0)
+            return room
+        room.write(part)
+        left = None if left is None else left - len(part)
+    raise Fault(f'cut off: the stream has more than {most:,} bytes; --most-bytes raises this', 1)
 
 
 @functools.lru_cache(None)
-def program_of(script):
+def program_of(script: str) -> str:
     """The program that a clone's ./vp runs: its own way to it looks at the sources at each call."""
     ran = subprocess.run([script], stdout=subprocess.PIPE)
     if ran.returncode:
@@ -87,53 +98,51 @@ def program_of(script):
     return os.fsdecode(ran.stdout.rstrip(b'\n'))
 
 
-def direct(words):
+def direct(words: Sequence[str]) -> List[str]:
     """Words that run vp, by the program itself where they name a clone's ./vp."""
     script = os.path.join(os.path.dirname(os.path.realpath(words[0])), 'tools/dist/program')
     is_clone = os.sep in words[0] and os.path.basename(words[0]) == 'vp' and os.path.isfile(script)
     return [program_of(script), *words[1:]] if is_clone else list(words)
 
 
-def ran(words, data, output=subprocess.PIPE):
-    """What words that run vp, as `direct` has them, do with a stream: its output, where that isn't to go elsewhere, what
-    is said, its status."""
-    found = in_process.done(words, data) if output == subprocess.PIPE else None
+def ran(words: Sequence[str], data: bytes, own: Bounds = HELD, keeps: bool = True) -> in_process.Done:
+    """What words that run vp, as `direct` has them, do with a stream within bounds. Without `keeps` what they print is
+    counted, and let go."""
+    found = in_process.done(words, data, own) if keeps else None
     if found:
         return found
-    try:
-        it = subprocess.run(words, input=data, stdout=output, stderr=subprocess.PIPE)
-    except (OSError, ValueError) as error:
-        raise cannot_run(words, error) from None
-    return it.stdout, text_of(it.stderr), it.returncode
+    with tempfile.TemporaryFile() as stream:
+        stream.write(data)
+        stream.seek(0)
+        with Run(words, stream, own, words[1:2] != ['list']) as it:
+            kept = [piece for piece in it if keeps]
+    return in_process.Done(b''.join(kept), text_of(it.said), it.status, it.reached)
 
 
-def run(words, data, vp=None, output=subprocess.PIPE):
-    """What vp does with a stream: its output, where that isn't to go elsewhere, its line, its status. Wrong words and the
-    like are a Fault."""
+def run(words: Sequence[str], data: bytes, vp: Optional[Sequence[str]] = None, output: int = subprocess.PIPE
+        ) -> Tuple[bytes, str, int]:
+    """What vp does with a stream: its output, where that isn't to go to subprocess.DEVNULL, its line, its status;
+    where a bound is reached, that is the line, with 1. Wrong words and the like are a Fault."""
     words = direct([*(vp or find_vp()), *words])
-    out, said, status = ran(words, data, output)
-    return out, told(words, status, said), status
+    made = ran(words, data, HELD, output == subprocess.PIPE)
+    if made.reached:
+        return made.out, str(made.reached), 1
+    return made.out, told(words, made.status, made.line), made.status
 
 
-def cannot_run(words, error):
-    return Fault(f'cannot run {shown(words[0])}: {getattr(error, "strerror", None) or error}', 2)
-
-
-def times(count):
-    return 'once' if count == 1 else f'{count:,} times'
-
-
-def begins():
+def begins() -> None:
     """Has names of any bytes written as they are, and a script that is ended put away what is half done."""
-    for stream in filter(None, (sys.stdout, sys.stderr)):
-        stream.reconfigure(encoding='utf-8', errors='surrogateescape')
+    for stream in sys.stdout, sys.stderr:
+        if isinstance(stream, io.TextIOWrapper):
+            stream.reconfigure(encoding='utf-8', errors='surrogateescape')
     for number in signal.SIGTERM, signal.SIGHUP:
         if signal.getsignal(number) is signal.SIG_DFL:
             signal.signal(number, lambda got, _: sys.exit(128 + got))
 
 
-def ended(main):
-    """The status of a script. What is told to a user is a line; a closed output and Ctrl-C leave no traceback."""
+def ended(main: Callable[[], int]) -> int:
+    """The status of a script. What is told to a user is a line; a closed output and Ctrl-C leave no traceback. Where a
+    signal ends it, it waits for no thread."""
     name = pathlib.Path(sys.argv[0]).name
     begins()
     try:
@@ -153,4 +162,10 @@ def ended(main):
         print(f'{name}: out of memory', file=sys.stderr)
         return 4
     except KeyboardInterrupt:
-        return 130
+        end_all()
+        os._exit(128 + signal.SIGINT)
+    except SystemExit as it:
+        if isinstance(it.code, int) and it.code > 128:
+            end_all()
+            os._exit(it.code)
+        raise

@@ -1,17 +1,21 @@
 """What a printer prints and vp doesn't, or not so."""
 import re
-import subprocess
+from typing import Dict, Iterator, List, Optional, Sequence, Tuple
 
-from .labels import off_edges
-from .program import run, times
+from .bounds import HELD, Bounds
+from .expand.labels import commands
+from .faults import times, told
+from .labels import Edges, off_edges, outside
+from .program import direct, find_vp, ran
 from .sheets import drawn, sheet_words, without_cell
-from .streams import becomes, code_of, first_byte, listing, named, raw, skipped, table
+from .streams import Items, becomes, code_of, first_byte, listing, named, raw, skipped, table
 from .values import BITS, FIGURES, is_start, unread
 
 # The bytes that ESC R draws as characters of a country.
 COUNTRY = b'#$@[\\]^`{|}~'
 # What recipes/expand does of a command, by what the table of commands says.
-BY_EXPAND = {'expanded': ', and written anew by recipes/expand', 'said': '', 'left out': ', and left out by recipes/expand'}
+BY_EXPAND = {'expanded': ', and written anew by recipes/expand', 'said': '',
+             'left out': ', and left out by recipes/expand'}
 # Commands of labels whose parameters it looks at.
 LOOKED_AT = '^FO', '^FT', '^GB', '^FB', '^CF', '^A'
 LEADS = {'10': 'dle', '1B': 'esc', '1C': 'fs', '1D': 'gs'}
@@ -19,7 +23,7 @@ LEADS = {'10': 'dle', '1B': 'esc', '1C': 'fs', '1D': 'gs'}
 PACKED = re.compile(rb':[ZB]64:', re.IGNORECASE)
 
 
-def is_shown(command, raw, later):
+def is_shown(command: str, raw: Optional[bytes], later: Sequence[int]) -> bool:
     """Whether the paper would show what a command sets, where these bytes are drawn behind it."""
     if raw is not None and is_start(command, raw):
         return False
@@ -32,7 +36,7 @@ def is_shown(command, raw, later):
     return True
 
 
-def passed(data, items, language):
+def passed(data: bytes, items: Items, language: str) -> Iterator[Tuple[int, str, Optional[bytes]]]:
     """What is read past and the paper of a printer would show: the number of the item, the command, its bytes."""
     known, last = table(), {byte: n for n, byte, _ in drawn(items, language)}
     for n, command in skipped(items, language):
@@ -44,9 +48,9 @@ def passed(data, items, language):
                 yield n, command, code
 
 
-def off_reading(items):
+def off_reading(items: Items) -> Iterator[Tuple[int, str]]:
     """Parameters that a printer looks at and vp doesn't: the number of the item and a line, each said once."""
-    found = {}
+    found: Dict[Tuple[str, str], List[int]] = {}
     for n, (_, text) in enumerate(items):
         what = unread(text)
         if what:
@@ -56,55 +60,96 @@ def off_reading(items):
         yield n, f'{text} {what}{by_expand}' + (f': {times(count)}' if count > 1 else '')
 
 
-def packed(number, data):
+def packed(number: str, data: bytes) -> Optional[str]:
     """Why a fault of a picture is one, where some picture of the stream is packed."""
     if number == 'F7' and PACKED.search(data.translate(None, b'\r\n')):
         return 'a picture that begins with :Z64: or :B64: is packed, which recipes/expand reads'
     return None
 
 
-def fault_line(number, text, data):
+def fault_line(number: str, text: str, data: bytes) -> str:
     """What a fault means for what stands behind it."""
     why = packed(number, data)
     text += f': {why}' if why else ''
     if number == 'F1':
         lead, byte = text.split(' ')[-2:]
-        text += BY_EXPAND.get(becomes().get(('receipt', f'{LEADS.get(lead)} {byte.lower()}')), '')
+        text += BY_EXPAND.get(by_expand(f'{LEADS.get(lead)} {byte.lower()}'), '')
     if number == 'F2' and text.endswith('unsupported'):
         text += ', and perhaps written anew by recipes/expand'
     return f'{number} {text}: nothing behind it is printed'
 
 
-def remarks(data, language, sheet, vp=None):
-    """What a printer prints and vp doesn't, or not so, as (place, line): `sheet` are the words that name the sheets."""
-    items, _ = listing(data, language, vp, dots=False)
+def by_expand(command: str) -> str:
+    """What recipes/expand does of a command of receipts, or of the first that is known of a family."""
+    known = becomes()
+    return next((word for (language, it), word in known.items()
+                 if language == 'receipt' and (it == command or it.startswith(f'{command} '))), '')
+
+
+def without_copies(data: bytes, language: str) -> bytes:
+    """A stream of labels of which each is printed once, of as many bytes: copies are alike."""
+    if language != 'label' or b'PQ' not in data.upper():
+        return data
+    found = bytearray(data)
+    for it in commands(data):
+        front, comma, rest = it.rest.partition(b',')
+        if it.name == 'PQ' and it.sign == '^' and it.is_plain and len(front) > 1:
+            at = it.end - len(it.rest)
+            found[at:at + len(front)] = b'1'.ljust(len(front))
+    return bytes(found)
+
+
+def read_past(data: bytes, items: Items, language: str) -> Iterator[Tuple[int, str]]:
+    """Commands that a printer's paper would show: the number of the item, and a line."""
     known = table()
-    found = []
     for n, command, _ in passed(data, items, language):
         what = known.get((language, command), (True, ''))[1]
         name = named(command, items[n][1])
-        by_expand = BY_EXPAND.get(becomes().get((language, command)), '')
-        found.append((n, f'{name} {what}: it is read past{by_expand}' if what else f'{name} is no command that is known'))
+        done = BY_EXPAND.get(becomes().get((language, command), ''), '')
+        yield n, f'{name} {what}: it is read past{done}' if what else f'{name} is no command that is known'
+
+
+def not_drawn(items: Items, language: str, sheet: Sequence[str]) -> Iterator[Tuple[int, str]]:
+    """Bytes whose cell is white, or shows the byte: the number of the first's item, and a line."""
     given = sheet_words(sheet)
-    white = {}
+    white: Dict[str, List[int]] = {}
     for (font, byte), (count, n) in without_cell(items, language, sheet).items():
         if font in given or 'a' in given:
             whose = (font if font in given else 'a').upper()
-            found.append((n, f'byte {byte:02X} has no character in the sheet of font {whose}: {times(count)}'))
+            yield n, f'byte {byte:02X} has no character in the sheet of font {whose}: {times(count)}'
         else:
             white.setdefault(font, [0, n])[0] += count
     for font, (count, n) in white.items():
-        found.append((n, f'no sheet of font {font.upper()} is named: its characters are white, {times(count)}'))
-    if language == 'label':
-        found += off_reading(items)
-        found += off_edges(items, sheet, vp)
-    found = [(first_byte(data, *items[n]), line) for n, line in sorted(found)]
+        yield n, f'no sheet of font {font.upper()} is named: its characters are white, {times(count)}'
+
+
+def ending(data: bytes, language: str, sheet: Sequence[str], vp: Optional[Sequence[str]], own: Bounds
+           ) -> List[Tuple[Optional[int], str]]:
+    """The fault that a stream ends in, or the bound that it reaches, as (place, line)."""
+    words = direct([*(vp or find_vp()), language, *sheet])
     # paper of any length is of no use here
-    _, line, _ = run([language, *sheet], data, vp, subprocess.DEVNULL)
-    fault = re.match(r'vp: (F\d+) after (\d+) bytes: (.*)', line)
-    if fault:
-        place, text = int(fault[2]), fault[3]
-        if fault[1] == 'F1':
-            place = max(0, data.rfind(bytes.fromhex(text[-5:]), 0, place))
-        found.append((place, fault_line(fault[1], text, data)))
-    return sorted(found, key=lambda it: it[0]) if all(place is not None for place, _ in found) else found
+    made = ran(words, without_copies(data, language), own, False)
+    if made.reached:
+        return [(made.reached.byte, str(made.reached._replace(byte=None)))]
+    fault = re.match(r'vp: (F\d+) after (\d+) bytes: (.*)', told(words, made.status, made.line))
+    if not fault:
+        return []
+    place, text = int(fault[2]), fault[3]
+    if fault[1] == 'F1':
+        place = max(0, data.rfind(bytes.fromhex(text[-5:]), 0, place))
+    return [(place, fault_line(fault[1], text, data))]
+
+
+def remarks(data: bytes, language: str, sheet: Sequence[str], vp: Optional[Sequence[str]] = None, own: Bounds = HELD
+            ) -> List[Tuple[Optional[int], str]]:
+    """What a printer prints and vp doesn't, or not so, as (place, line): `sheet` are the words that name the sheets."""
+    items, _ = listing(data, language, vp, dots=False)
+    found = [*read_past(data, items, language), *not_drawn(items, language, sheet)]
+    if language == 'label':
+        found += [(n, f'the field of {name} stands outside ^XA and ^XZ: it is not printed')
+                  for n, name in outside(items)]
+        found += off_reading(items)
+        found += off_edges(items, Edges(sheet, vp, own.seconds))
+    lines = [(first_byte(data, *items[n]), line) for n, line in sorted(found)]
+    lines += ending(data, language, sheet, vp, own)
+    return sorted(lines, key=lambda it: it[0] or 0) if all(place is not None for place, _ in lines) else lines

@@ -1,12 +1,17 @@
 """Glyph sheets: the shipped ones, the characters that one lacks, and which bytes of a stream are drawn."""
+import functools
 import pathlib
 import re
 import shutil
 
-from .labels import labels
-from .program import HERE, Fault, find_vp, read
+from typing import Dict, Iterator, List, Optional, Sequence, Set, Tuple
 
-CELLS = {'a': (12, 24), 'b': (9, 17)}
+from .faults import Fault
+from .labels import labels
+from .program import HERE, find_vp, read
+
+Size = Tuple[int, int]
+CELLS: Dict[str, Size] = {'a': (12, 24), 'b': (9, 17)}
 # The bytes that are a space in some table: a white cell of theirs hides nothing.
 BLANKS = 0x20, 0xA0, 0xFF
 # Hex digits of 3 by 5 dots, each row a number of three bits; where the two of a byte stand in a cell, how high a row
@@ -17,7 +22,7 @@ FRAMES = {(12, 24): (((2, 6), (6, 6)), 2, (0, 10, 2, 19)), (9, 17): (((3, 3), (3
 GAP = rb'(?:\s|#[^\n]*\n)+'
 
 
-def shipped(language):
+def shipped(language: str) -> List[str]:
     """The words that name the shipped sheets, none where they aren't found."""
     program = shutil.which(find_vp()[0])
     folders = [it / end for it in HERE.parents for end in ('examples', 'share/vp')]
@@ -30,19 +35,19 @@ def shipped(language):
     return []
 
 
-def chosen(language, font_a=None, font_b=None):
+def chosen(language: str, font_a: Optional[str] = None, font_b: Optional[str] = None) -> List[str]:
     """The words that name the sheets that a user gave, the shipped ones where none were given."""
     files = {'--font-a': font_a, '--font-b': font_b if language == 'receipt' else None}
     return [it for word, name in files.items() if name for it in (word, name)] or shipped(language)
 
 
-def framed(byte, size):
+def framed(byte: int, size: Size) -> List[int]:
     """The rows of a cell that has no character: the byte's two hex digits in a frame."""
     width, height = size
     places, tall, (left, right, top, bottom) = FRAMES[size]
     rows = [0] * height
     for y in range(top, bottom + 1):
-        edge = range(left, right + 1) if y in (top, bottom) else (left, right)
+        edge = list(range(left, right + 1)) if y in (top, bottom) else [left, right]
         rows[y] = sum(1 << width - 1 - x for x in edge)
     for digit, (x, y) in zip(f'{byte:02X}', places):
         for n in range(5 * tall):
@@ -50,10 +55,10 @@ def framed(byte, size):
     return rows
 
 
-def lacking(name, size):
+@functools.lru_cache(8)
+def lacks_of(data: bytes, name: str, size: Size) -> Set[int]:
     """The bytes that a sheet has no character for: its cell is white, or shows the byte in a frame."""
     width, height = size
-    data = read(name)
     head = re.match(rb'P4%s(\d+)%s(\d+)\s' % (GAP, GAP), data)
     if not head:
         raise Fault(f'{name}: not a glyph sheet')
@@ -70,7 +75,12 @@ def lacking(name, size):
     return lacks
 
 
-def sheet_of(cells, size):
+def lacking(name: str, size: Size) -> Set[int]:
+    """The bytes that the sheet of a file has no character for."""
+    return lacks_of(read(name), name, size)
+
+
+def sheet_of(cells: Dict[int, List[int]], size: Size) -> bytes:
     """A sheet of the cells of bytes, each its rows; the others are white."""
     width, height = size
     out = b'P4\n%d %d\n' % (16 * width, 16 * height)
@@ -83,7 +93,7 @@ def sheet_of(cells, size):
     return out
 
 
-def sheet_words(words):
+def sheet_words(words: Sequence[str]) -> Dict[str, str]:
     """The sheets that words name: a dictionary from the letter of the font to the file."""
     found = {}
     for n, word in enumerate(words):
@@ -95,7 +105,7 @@ def sheet_words(words):
     return found
 
 
-def drawn(items, language):
+def drawn(items: Sequence[Tuple[Optional[int], str]], language: str) -> Iterator[Tuple[int, int, str]]:
     """Each byte that is drawn as a character: the number of its item, the byte, the letter of its font."""
     if language == 'label':
         for _, closed in labels(items):
@@ -114,9 +124,11 @@ def drawn(items, language):
             font = 'ab'[int(rest[1], 16) & 1]
 
 
-def without_cell(items, language, sheet):
+def without_cell(items: Sequence[Tuple[Optional[int], str]], language: str, sheet: Sequence[str]
+                 ) -> Dict[Tuple[str, int], List[int]]:
     """The bytes that are drawn and have no character: {(font, byte): [how often, the number of the first's item]}."""
-    given, found = sheet_words(sheet), {}
+    given = sheet_words(sheet)
+    found: Dict[Tuple[str, int], List[int]] = {}
     lacks = {letter: lacking(name, CELLS[letter]) for letter, name in given.items()}
     lacks.setdefault('a', set(range(256)).difference(BLANKS))
     lacks.setdefault('b', lacks['a'])

@@ -1,13 +1,14 @@
 """Tables of one byte as Python names them: which character each byte is, and which tables are none."""
 import codecs
 import unicodedata
+from typing import Dict, Set
 
-from .program import Fault
+from .faults import Fault
 
 
-def characters(table):
+def characters(table: str) -> Dict[int, str]:
     """The character of each byte from 20 on that a table has. It has the digits and letters of ASCII, or is none."""
-    found = {}
+    found: Dict[int, str] = {}
     try:
         coder = codecs.lookup(table)
         for byte in range(0x20, 0x100):
@@ -27,14 +28,15 @@ def characters(table):
     return found
 
 
-def is_space(char):
+def is_space(char: str) -> bool:
     return unicodedata.category(char) == 'Zs'
 
 
-def shown(table):
+def shown(table: str) -> Dict[int, str]:
     """The bytes of a table that are drawn, and the character of each."""
-    return {byte: char for byte, char in characters(table).items() if not is_space(char) and unicodedata.category(char) != 'Cc'}
+    return {byte: char for byte, char in characters(table).items() if not is_space(char)
+            and unicodedata.category(char) != 'Cc'}
 
 
-def spaces(table):
+def spaces(table: str) -> Set[int]:
     return {byte for byte, char in characters(table).items() if is_space(char)}

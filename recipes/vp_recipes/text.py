@@ -6,20 +6,25 @@ receipts, utf-8 that of labels.
 """
 import argparse
 import codecs
+import os
 import re
 import sys
+from typing import IO, Callable, Iterable, Iterator, Optional, Sequence, Tuple, cast
 
+from . import bounds
+from .faults import Fault, shown, text_of, told
 from .labels import labels
-from .program import Fault, read, shown
-from .streams import LANGUAGES, guess, listing
+from .program import direct, find_vp, opened
+from .streams import GUESSED, LANGUAGES, guess
 
 # What puts what follows at another height: anywhere, in standard mode, on a page.
 ANYWHERE = re.compile(r'LF|esc (4a|64)|gs 6b|gs 28 6b 03 00 31 51 30|gs 76 30 [03][0-3] (?!00 00).. .. (?!00 00)')
 STANDARD = re.compile('esc (69|6d)|gs 56')
 PAGE = re.compile('FF|CAN|esc (0c|53|54|57)|gs (24|5c)')
+Items = Iterable[Tuple[Optional[int], str]]
 
 
-def receipt(items):
+def receipt(items: Items) -> Iterator[bytes]:
     """The lines of a receipt's characters. A tab is one; a line that is open at the end counts, one that ESC @ drops
     doesn't."""
     line, on_page = bytearray(), False
@@ -39,9 +44,10 @@ def receipt(items):
         yield bytes(line)
 
 
-def label(items):
+def label(items: Items) -> Iterator[bytes]:
     """The data of the fields of labels, a line each, and an empty line between two labels."""
-    for n, (_, closed) in enumerate(labels(items)):
+    # (labels goes through the items once, as they come)
+    for n, (_, closed) in enumerate(labels(cast(Sequence[Tuple[Optional[int], str]], items))):
         if n:
             yield b''
         for field in closed:
@@ -49,9 +55,9 @@ def label(items):
                 yield bytes(byte for _, byte in field['bytes'])
 
 
-def decoder(table):
+def decoder(table: str) -> Callable[[bytes], str]:
     """What makes a text of bytes, by a table of letters."""
-    def decoded(line):
+    def decoded(line: bytes) -> str:
         # what is no table of letters raises whatever its module does
         try:
             text = codecs.lookup(table).decode(line, 'replace')[0]
@@ -62,23 +68,45 @@ def decoder(table):
     return decoded
 
 
-def main():
+def items_as_they_come(run: bounds.Run) -> Iterator[Tuple[None, str]]:
+    """The items that are listed, without those of pictures' dots."""
+    is_picture = False
+    for piece in run:
+        for text in piece.decode('latin-1').splitlines():
+            is_dots = text.startswith(('byte ', 'column '))
+            is_picture = is_picture if is_dots else text.startswith(('^GF', 'gs ', 'esc '))
+            if not is_dots or not is_picture:
+                yield None, text
+
+
+def say(stream: IO[bytes], language: str, decoded: Callable[[bytes], str], own: bounds.Bounds) -> str:
+    """Says the text of a stream, and gives the line of its fault, or of the bound that is reached."""
+    command = direct([*find_vp(), 'list', '--lang', language])
+    os.lseek(stream.fileno(), stream.tell(), os.SEEK_SET)
+    with bounds.Run(command, stream, own, is_paper=False) as run:
+        for line in {'receipt': receipt, 'label': label}[language](items_as_they_come(run)):
+            print(decoded(line))
+    return str(run.reached) if run.reached else told(command, run.status, text_of(run.said))
+
+
+def main() -> int:
     words = argparse.ArgumentParser(description=__doc__, formatter_class=argparse.RawDescriptionHelpFormatter)
     words.add_argument('files', metavar='FILE', nargs='*', default=['-'], help='a stream; without one, standard input')
     words.add_argument('--lang', choices=LANGUAGES, help='the language, not guessed')
     words.add_argument('--table', metavar='CODEC', help='which character a byte is')
+    bounds.add_words(words)
     given = words.parse_args()
-    last, own = 0, given.table and decoder(given.table)
+    last, chosen = 0, given.table and decoder(given.table)
     for file in given.files:
         try:
-            data = read(file)
-            language = given.lang or guess(data)
-            items, fault = listing(data, language, dots=False)
-            decoded = own or decoder({'receipt': 'cp437', 'label': 'utf-8'}[language])
-            for line in {'receipt': receipt, 'label': label}[language](items):
-                print(decoded(line))
-            if fault:
-                print(fault, file=sys.stderr)
+            with opened(file, bounds.of(given).bytes) as stream:
+                start = stream.tell()
+                language = given.lang or guess(stream.read(GUESSED))
+                stream.seek(start)
+                decoded = chosen or decoder({'receipt': 'cp437', 'label': 'utf-8'}[language])
+                line = say(stream, language, decoded, bounds.of(given))
+            if line:
+                print(line, file=sys.stderr)
                 last = max(last, 1)
         except Fault as fault:
             print(f'text: {fault}', file=sys.stderr)

@@ -1,10 +1,5 @@
-// A printer of receipts (ESC/POS) or labels (ZPL II) in a browser, in node or in deno: bytes go in, paper comes out.
-//
-//   import { Printer, load } from './vp.js';
-//   await load();                                         // vp.wasm beside this file; or where it is, or its bytes
-//   const { images, fault } = new Printer('label', { fontA }).print(stream);
-//   if (fault) console.log(String(fault));                // vp: F7 after 20 bytes: bad graphic
-//   canvas.getContext('2d').putImageData(images[0].toImageData(), 0, 0);
+// The module, dist/vp.wasm, in JavaScript: a printer of receipts (ESC/POS) or labels (ZPL II) takes bytes, and gives
+// those that vp prints; a listing gives those that vp lists. The page prints by it, and the package of javascript/.
 //
 // Each printer has a memory of its own, takes all that it needs when it is made, and goes when nothing names it.
 
@@ -23,23 +18,11 @@ let compiled = null;
 // An instance that is ready: in a page's own thread Chromium before 115 makes none at once.
 let ready = null;
 
-async function bytesOf(source) {
-  if (source instanceof ArrayBuffer || ArrayBuffer.isView(source)) return source;
-  const address = new URL(source);
-  if (address.protocol === 'file:' && globalThis.process?.versions?.node) {
-    const { readFile } = await import('node:fs/promises');
-    return readFile(address);
-  }
-  const answer = await fetch(address);
-  if (!answer.ok) throw new Error(`${address}: ${answer.status} ${answer.statusText}`);
-  return answer.arrayBuffer();
-}
-
-// Takes the module, once, before the first printer is made: from an address, as bytes, or compiled. Called again
-// without a source it makes the next instance ready.
-export async function load(source = compiled ?? new URL('vp.wasm', import.meta.url)) {
-  const isModule = source instanceof WebAssembly.Module;
-  compiled = isModule ? source : await WebAssembly.compile(await bytesOf(source));
+// Takes the module, once, before the first printer is made: its bytes, or compiled. Called again without it, it makes
+// the next instance ready.
+export async function load(source = compiled) {
+  if (!source) throw new Error('the module comes first');
+  compiled = source instanceof WebAssembly.Module ? source : await WebAssembly.compile(source);
   ready = await WebAssembly.instantiate(compiled, {});
   return compiled;
 }
@@ -106,13 +89,13 @@ class Machine {
     return new Fault(this.#text(calls.vp_fault_line(at, BigInt(this.taken), this.#at + LINE, BigInt(MOST_LINE))));
   }
 
-  // Takes what it can of the input's front, and gives how much that is, the bytes that come out (at most 65,536), and
-  // whether more come without further input.
-  step(input) {
+  // Takes what it can of the input's front, and gives how much that is, the bytes that come out (at most `room`, and
+  // 65,536), and whether more come without further input.
+  step(input, room = PIECE) {
     const some = input.subarray(0, PIECE);
     this.#bytes(this.#input, some.length).set(some);
     const done = this.#at + PROGRESS;
-    this.#calls.vp_step(this.#at, this.#input, BigInt(some.length), this.#output, BigInt(PIECE), done);
+    this.#calls.vp_step(this.#at, this.#input, BigInt(some.length), this.#output, BigInt(room), done);
     const view = new DataView(this.#calls.memory.buffer);
     const [taken, put] = [view.getUint32(done, true), view.getUint32(done + 8, true)];
     const state = view.getUint32(done + 16, true);
@@ -128,7 +111,7 @@ class Machine {
       const { taken, out, isFull } = this.step(rest);
       rest = rest.subarray(taken);
       if (out.length) pieces.push(out);
-      if (!isFull && (this.fault || !rest.length)) return joined(pieces);
+      if (!isFull && (this.fault || !rest.length)) return gathered(pieces);
     }
   }
 
@@ -156,12 +139,6 @@ export class Printer extends Machine {
     super([fontA, fontB], (calls, [a, lengthA, b, lengthB], made) =>
       calls.vp_new(known(language, width), a, lengthA, b, lengthB, made));
   }
-
-  // Prints a whole stream: its images, and its fault or null.
-  print(stream) {
-    const paper = this.feed(stream);
-    return { images: images(paper), fault: this.end() };
-  }
 }
 
 // Lists a stream's commands, a line of text each; with offsets, behind its place.
@@ -171,59 +148,44 @@ export class Listing extends Machine {
   }
 }
 
+// How many rows of paper each front of a stream prints, of lengths that rise: in one pass, of which nothing is kept.
+export function rowsOfFronts(printer, stream, ends) {
+  let [taken, rows, left, stride, head] = [0, 0, 0, 1, ''];
+  const count = out => {
+    for (let at = 0; at < out.length;) {
+      if (left > 0) {
+        const some = Math.min(left, out.length - at);
+        left -= some;
+        at += some;
+        continue;
+      }
+      head += String.fromCharCode(out[at++]);
+      const found = /^P4\n(\d+) (\d+)\n$/.exec(head);
+      if (!found) continue;
+      rows += Number(found[2]);
+      stride = (Number(found[1]) + 7) >> 3;
+      left = stride * Number(found[2]);
+      head = '';
+    }
+  };
+  return ends.map(end => {
+    for (let isFull = true; isFull || taken < end && !printer.fault;) {
+      const step = printer.step(stream.subarray(taken, end));
+      taken += step.taken;
+      isFull = step.isFull;
+      count(step.out);
+    }
+    return rows - Math.ceil(left / stride);
+  });
+}
+
 function known(language, width) {
   const found = LANGUAGES[language]?.[width];
   if (found === undefined) throw new Error(`there is no ${language} of ${width} dots`);
   return found;
 }
 
-// An image: black and white dots. A row is whole bytes, the first dot the highest bit, 1 is black.
-export class Picture {
-  constructor(width, height, rows) {
-    Object.assign(this, { width, height, rows });
-  }
-
-  isBlack(x, y) { return (this.rows[y * Math.ceil(this.width / 8) + (x >> 3)] >> (7 - (x & 7)) & 1) === 1; }
-
-  toPBM() { return joined([new TextEncoder().encode(`P4\n${this.width} ${this.height}\n`), this.rows]); }
-
-  // Four bytes a dot, as a canvas takes them.
-  toRGBA() {
-    const dots = new Uint32Array(this.width * this.height).fill(0xffffffff);
-    for (let y = 0, at = 0; y < this.height; y++) {
-      for (let x = 0; x < this.width; x++, at++) if (this.isBlack(x, y)) dots[at] = BLACK;
-    }
-    return new Uint8ClampedArray(dots.buffer);
-  }
-
-  toImageData() { return new ImageData(this.toRGBA(), this.width, this.height); }
-}
-
-const BLACK = new Uint32Array(new Uint8Array([0, 0, 0, 255]).buffer)[0];
-
-// The images that paper holds: of one that is broken off, the rows that came.
-export function images(paper) {
-  const found = [];
-  for (let at = 0; at < paper.length;) {
-    const head = /^P4\n(\d+) (\d+)\n/.exec(String.fromCharCode(...paper.subarray(at, at + 24)));
-    if (!head) break;
-    const [width, height] = [Number(head[1]), Number(head[2])];
-    const stride = Math.ceil(width / 8);
-    const from = at + head[0].length;
-    const rows = Math.min(height, Math.floor((paper.length - from) / stride));
-    found.push(new Picture(width, rows, paper.slice(from, from + rows * stride)));
-    at = from + height * stride;
-  }
-  return found;
-}
-
-// One image of several of one width, as a receipt's strips are.
-export function join(strips) {
-  const height = strips.reduce((sum, it) => sum + it.height, 0);
-  return new Picture(strips[0]?.width ?? 0, height, joined(strips.map(it => it.rows)));
-}
-
-function joined(pieces) {
+function gathered(pieces) {
   if (pieces.length === 1) return pieces[0];
   const all = new Uint8Array(pieces.reduce((sum, it) => sum + it.length, 0));
   pieces.reduce((at, it) => { all.set(it, at); return at + it.length; }, 0);

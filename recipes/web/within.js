@@ -2,7 +2,7 @@
 // so that what takes too long can be ended. Sheets and examples come with the page; files are followed where the
 // browser lets a page read them again. See served.js for what each call is.
 //
-// What a printer would print besides, and what is written anew, only a server tells.
+// Streams that are written anew only a server has.
 
 const SECONDS = 10;
 const MOST_STREAM = 4 << 20;
@@ -12,16 +12,27 @@ const [MOST_SHEETS, MOST_SHEET] = [32, 1 << 20];
 const LOOK = 300;
 
 const given = JSON.parse(document.getElementById('given').textContent);
-const bytesOf = text => Uint8Array.from(atob(text), it => it.charCodeAt(0));
+function decoded(text) {
+  const chars = atob(text);
+  const bytes = new Uint8Array(chars.length);
+  for (let at = 0; at < bytes.length; at++) bytes[at] = chars.charCodeAt(at);
+  return bytes;
+}
 
 const version = handle => handle.getFile().then(it => `${it.lastModified}-${it.size}`, () => '');
 
 export class Printer {
   constructor() {
-    this.module = WebAssembly.compile(bytesOf(given.module));
-    this.sheets = new Map(Object.entries(given.sheets).map(([name, text]) => [name, bytesOf(text)]));
+    this.module = WebAssembly.compile(decoded(given.module));
+    this.sheets = new Map(Object.entries(given.sheets).map(([name, text]) => [name, decoded(text)]));
     this.address = URL.createObjectURL(new Blob([given.worker], { type: 'text/javascript' }));
     this.handles = [];
+    // (one pass over the stream tells of as many fronts as are asked for)
+    this.fronts = 64;
+    // (beside a page on a server may stand what keeps it for when there is no network)
+    if (location.protocol.startsWith('http')) {
+      navigator.serviceWorker?.register('viewer-offline.js', { scope: location.pathname }).catch(() => {});
+    }
     if (window.showOpenFilePicker) this.pick = () => this.picked();
     this.idle = [];
     this.waiting = [];
@@ -31,7 +42,7 @@ export class Printer {
   async state() {
     await this.module;
     return { files: [], examples: given.examples.map(it => it.name), width: 576, language: null, most: MOST_STREAM,
-      anew: null, fonts: { a: 'font-a.pbm', b: 'font-b.pbm' } };
+      anew: null, known: given.known, fonts: { a: 'font-a.pbm', b: 'font-b.pbm' } };
   }
 
   async print(stream, words, take, signal) {
@@ -39,9 +50,17 @@ export class Printer {
     return { ...told, guess: await this.guess(stream) };
   }
 
+  async rows(stream, words, signal) {
+    const job = { ...words, work: 'rows', stream, ...this.fonts(words) };
+    const { rows, late } = await this.inTurn(job, () => true, signal);
+    if (late) throw new Error(`printing was ended after ${late} seconds`);
+    return rows;
+  }
+
   list(stream, words, take, signal) { return this.inTurn({ ...words, work: 'list', stream }, take, signal); }
 
-  async remarks() { return []; }
+  // (what a printer would print besides the page finds itself)
+  async sheet(letter, name = `font-${letter}.pbm`) { return this.sheets.get(name) ?? null; }
 
   // A label where ^XA, or another of its commands, comes before a receipt's lead.
   async guess(stream) {
@@ -62,7 +81,7 @@ export class Printer {
     return id;
   }
 
-  async example(n) { return bytesOf(given.examples[n].bytes); }
+  async example(n) { return decoded(given.examples[n].bytes); }
 
   async picked() {
     const handles = await window.showOpenFilePicker({ multiple: true });

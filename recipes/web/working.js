@@ -1,7 +1,7 @@
 // A worker of within.js: it prints or lists one stream after the other, and gives what comes out in pieces, each once
 // the last one was taken.
 
-import { Listing, Printer, load } from './vp.js';
+import { Listing, Printer, load, rowsOfFronts } from './vp.js';
 
 const PIECE = 1 << 18;
 let goOn = () => {};
@@ -13,12 +13,16 @@ function give(pieces) {
   return new Promise(done => { goOn = done; });
 }
 
+// What prints a stream with its sheets, on its paper.
+const printerOf = ({ lang, width, fontA, fontB }) =>
+  new Printer(lang, { fontA, fontB, ...(lang === 'receipt' && { width: Number(width) }) });
+
 // What the program would say of it: its line on standard error, and its status.
-async function work({ work: what, lang, width, stream, fontA, fontB }) {
+async function work(job) {
+  const { work: what, lang, stream } = job;
   let machine;
   try {
-    machine = what === 'list' ? new Listing(lang, { offsets: true })
-      : new Printer(lang, { fontA, fontB, ...(lang === 'receipt' && { width: Number(width) }) });
+    machine = what === 'list' ? new Listing(lang, { offsets: true }) : printerOf(job);
   } catch (error) {
     return { line: `vp: ${error.message}`, status: 3, late: false };
   }
@@ -43,5 +47,6 @@ async function work({ work: what, lang, width, stream, fontA, fontB }) {
 onmessage = async ({ data }) => {
   if (data.module) await load(data.module);
   else if (data.goOn) goOn();
+  else if (data.work === 'rows') postMessage({ told: { rows: rowsOfFronts(printerOf(data), data.stream, data.ends) } });
   else postMessage({ told: await work(data) });
 };

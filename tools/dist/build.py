@@ -1,8 +1,8 @@
 #!/usr/bin/env python3
-"""build.py [WHY]: builds the printer, which proves it, and says on standard error why, and how far it is. Where the built
-program stands for the sources as they are, by their content, nothing is built. Beside the program made-from tells what it
-was made from, as dist/made-from does; NAME.bc is the module that LLVM made it of. build.py --library builds the library
-for C in the same way, and --module the library of which tools/systems makes the WebAssembly module.
+"""build.py [WHY]: builds the printer, which proves it, and says on standard error why, and how far it is. Where the
+built program stands for the sources as they are, by their content, nothing is built. Beside the program made-from
+tells what it was made from, as dist/made-from does; NAME.bc is the module that LLVM made it of. build.py --library
+builds the library for C in the same way.
 
 Crates that don't stand on one another are proved side by side, each from nothing, by the toolchain's rattle itself: its
 command rt would lock all that a crate stands on. A crate's library, with statements and not their proofs, stands in
@@ -22,10 +22,9 @@ import library  # noqa: E402
 from keeping import keeping  # noqa: E402
 
 ROOT = os.path.dirname(os.path.dirname(os.path.dirname(os.path.realpath(__file__))))
-PROGRAM, LIBRARY, MODULE = "program/vp_cli", "program/vp_c", "program/vp_module"
+PROGRAM, LIBRARY = "program/vp_cli", "program/vp_c"
 # What is built, by the word for it.
-WHAT = {PROGRAM: "printer", LIBRARY: "library for C", MODULE: "library for WebAssembly"}
-TOPS = {"--library": LIBRARY, "--module": MODULE}
+WHAT = {PROGRAM: "printer", LIBRARY: "library for C"}
 OUT = f"{ROOT}/out"
 PARTS = ("src", "specs", "proofs")
 # What a check is likely to take, in bytes, with one job and for each further one.
@@ -78,7 +77,8 @@ class Crate:
         return sorted(f"{at}/{file}" for part in parts for at, _, files in part for file in files)
 
     def content(self):
-        """Returns a sum of all that is made into the crate: its sources and those below it, the libraries, the toolchain."""
+        """Returns a sum of all that is made into the crate: its sources and those below it, the libraries, the
+        toolchain."""
         made = hashlib.sha256((text_of(f"{self.kit}/KIT-ID") or "").encode())
         for crate in [*self.below, self]:
             made.update(repr([crate.name, [it.name for it in crate.uses], crate.libraries]).encode())
@@ -124,17 +124,16 @@ class Program(Crate):
         link += [f"{self.kit}/c/libos_c.a", f"{self.kit}/c/liblibc_c.a"]
         return [[*self.command("src/main.rt", made), *tools, "--jobs", str(jobs)], link]
 
-
     def finish(self):
         """Tells beside the program what it was made from."""
         program = self.built()[0]
-        told = subprocess.run([f"{ROOT}/tools/dist/made-from", program], capture_output=True, check=True).stdout
+        told = subprocess.run([f"{ROOT}/tools/dist/tell-made-from", program], capture_output=True, check=True).stdout
         with open(f"{os.path.dirname(program)}/made-from", "wb") as it:
             it.write(told)
 
 
 class Archive(Crate):
-    """A crate whose exports a program in C or a host of a module calls."""
+    """A crate whose exports a program in C calls."""
 
     def built(self):
         return f"{self.folder}/out/lib{self.name}.a", f"{OUT}/{self.name}"
@@ -148,13 +147,12 @@ class Archive(Crate):
     def finish(self):
         """Links the library for C."""
         archive = self.built()[0]
-        if self.folder.endswith(LIBRARY):
-            library.make(archive, os.path.dirname(archive))
+        library.make(archive, os.path.dirname(archive))
 
 
 def crates_below(name, stands_on, kit):
     """Returns the crates of the program or the library, each after those that it stands on."""
-    made, tops = {}, {PROGRAM: Program, LIBRARY: Archive, MODULE: Archive}
+    made, tops = {}, {PROGRAM: Program, LIBRARY: Archive}
 
     def make(it):
         if it in stands_on and it not in made:
@@ -181,7 +179,8 @@ class Run:
             self.go_on()
 
     def go_on(self):
-        """Starts the next command. It holds the lock too, so that however this process ends the next one waits for it."""
+        """Starts the next command. It holds the lock too, so that however this process ends the next one waits for
+        it."""
         with open(self.log, "ab") as log:
             how = {"cwd": self.crate.folder, "stdin": subprocess.DEVNULL, "stdout": log, "stderr": log}
             # (a group of its own, to be ended by)
@@ -280,11 +279,11 @@ class Build:
         self.said.line(f"{crate.name} {how} ({len(self.took)} of {len(self.crates)} crates{left})")
 
     def begin(self):
-        """Starts what can be started and finds memory, what the longest chain waits for first. A proof with several jobs takes
-        a quarter more of the processors than with one: so only the first of the longest chain gets half of them, and each
-        other crate one."""
-        is_ready = lambda it: it not in self.took and it not in self.running and all(dep in self.took for dep in it.uses)
-        ready = sorted(filter(is_ready, self.crates), key=lambda it: -self.behind[it])
+        """Starts what can be started and finds memory, what the longest chain waits for first. A proof with several
+        jobs takes a quarter more of the processors than with one: so only the first of the longest chain gets half of
+        them, and each other crate one."""
+        new = [it for it in self.crates if it not in self.took and it not in self.running]
+        ready = sorted((it for it in new if all(dep in self.took for dep in it.uses)), key=lambda it: -self.behind[it])
         longest = max((self.behind[it] for it in [*ready, *self.running]), default=0)
         for it in ready:
             idle = self.lanes - sum(run.jobs for run in self.running.values())
@@ -317,7 +316,8 @@ class Build:
                 self.begin()
                 time.sleep(0.2)
                 names = " ".join(it.name for it in self.running)
-                self.said.moving(f"vp: proving {names} ({len(self.took)} of {len(self.crates)} crates, about {self.left()} left)")
+                far = f"{len(self.took)} of {len(self.crates)} crates, about {self.left()} left"
+                self.said.moving(f"vp: proving {names} ({far})")
                 lost = self.end()
                 if lost:
                     self.said.line(f"{lost.crate.name} was not built. What rattle said:")
@@ -359,7 +359,7 @@ def no_help():
 def main():
     rt = shutil.which("rt")
     words = sys.argv[1:]
-    top = TOPS.get(words[0] if words else "", PROGRAM)
+    top = LIBRARY if words[:1] == ["--library"] else PROGRAM
     what = WHAT[top]
     if top == PROGRAM and words and words[0]:
         print(f"vp: {words[0]}", file=sys.stderr, flush=True)
@@ -386,7 +386,8 @@ def main():
         if last.is_built():
             last.finish()
             return 0
-        print(f"vp: building the {what}, which proves its {len(crates)} crates: some minutes", file=sys.stderr, flush=True)
+        proves = f"proves its {len(crates)} crates: some minutes"
+        print(f"vp: building the {what}, which {proves}", file=sys.stderr, flush=True)
         started = time.time()
         if not Build(crates, lock).run():
             return 1

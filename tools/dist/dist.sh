@@ -203,7 +203,18 @@ find_program() {
     trap - HUP INT TERM
     return "$found"
 }
+# lacking: the tools, of those that sums are taken with, that aren't there
+lacking() {
+    for tool in awk cut find head od sed sha256sum sort tr wc xargs; do
+        command -v "$tool" >/dev/null || printf ' %s' "$tool"
+    done
+}
 find_anew() {
+    tools=$(lacking)
+    if [ -n "$tools" ]; then
+        echo "vp: it can't be told whether dist/vp is of these sources: there is no$tools" >&2
+        return 125
+    fi
     look
     now=$(sources 2>/dev/null) why=
     if [ -e "$dist/vp" ] || [ -e "$dist/made-from" ]; then

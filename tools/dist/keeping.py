@@ -1,5 +1,5 @@
-"""A folder in place of the toolchain's own, whose clang leaves the module that it compiles: what the toolchain made of the
-proved functions, in LLVM's words, before any machine's code. All else of it is the toolchain itself."""
+"""A folder in place of the toolchain's own, whose clang leaves the module that it compiles: what the toolchain made
+of the proved functions, in LLVM's words, before any machine's code. All else of it is the toolchain itself."""
 import os
 import shlex
 
@@ -11,7 +11,7 @@ exec {clang} "$@"
 """
 
 
-def keeping(toolchain, folder, to):
+def keeping(toolchain: str, folder: str, to: str) -> str:
     """Makes the folder, and returns it. What its clang compiles last is left at `to`."""
     os.makedirs(f"{folder}/bin", exist_ok=True)
     for part in ("lib", *(f"bin/{it}" for it in os.listdir(f"{toolchain}/bin"))):

@@ -1,10 +1,10 @@
 #!/usr/bin/env python3
 """library.py ARCHIVE FOLDER: makes the library for C of the archive that rattle made of vp_c: FOLDER/libvp.so and
-FOLDER/libvp.a, which show the names that include/vp.h declares and no others, with FOLDER/made-from. The toolchain links
-them, and the same archive gives the same bytes.
+FOLDER/libvp.a, which show the names that include/vp.h declares and no others, with FOLDER/made-from. The toolchain
+links them, and the same archive gives the same bytes.
 
-Status 0; 1 where the toolchain links nothing, 2 for wrong words, 3 where a file can't be read or written, or the archive
-lacks what the header declares."""
+Status 0; 1 where the toolchain links nothing, 2 for wrong words, 3 where a file can't be read or written, or the
+archive lacks what the header declares."""
 import os
 import re
 import shutil
@@ -16,6 +16,16 @@ import tempfile
 ROOT = os.path.dirname(os.path.dirname(os.path.dirname(os.path.realpath(__file__))))
 # The number of the library's interface: raised where a program that was linked with an earlier one can't use it.
 SONAME = "libvp.so.1"
+# What the names that it shows belong to: names that come later get a version of their own.
+VERSION = "VP_1"
+# What tells a loader which processors the library is for (the note of a GNU property: x86-64-v2 is needed). It has a
+# section of its own, since a linker leaves out those of the name that compilers give such notes.
+PROCESSOR = """.section .note.processor, "a", @note
+.p2align 3
+.long 4, 16, 5
+.asciz "GNU"
+.long 0xc0008002, 4, 2, 0
+"""
 HEADER, SECTION, SYMBOL = "<16sHHIQQQIHHHHHH", "<IIQQQQIIQQ", "<IBBHQQ"
 SYMTAB, RELA, GROUP = 2, 4, 17
 GLOBAL, UNDEFINED = 1, 0
@@ -33,11 +43,25 @@ def kit():
 
 
 def link(words):
-    subprocess.run([f"{kit()}/toolchain/bin/ld.lld", "--build-id=none", "--threads=1", *words], check=True)
+    subprocess.run([f"{kit()}/toolchain/bin/ld.lld", "--threads=1", *words], check=True)
+
+
+def versioned(shown, room):
+    """Returns the words of a link that shows these names and no others, in the version of the interface."""
+    with open(f"{room}/names", "w", encoding="utf-8") as it:
+        it.write(f"{VERSION} {{ global: {' '.join(f'{name};' for name in shown)} local: *; }};\n")
+    return ["--version-script", f"{room}/names"]
+
+
+def note(room):
+    """Returns the file with the note for loaders."""
+    words = ["--target=x86_64-unknown-linux-gnu", "-c", "-xassembler", "-", "-o", f"{room}/note.o"]
+    subprocess.run([f"{kit()}/toolchain/bin/clang", *words], input=PROCESSOR.encode(), check=True)
+    return f"{room}/note.o"
 
 
 def name_in(data, start, at):
-    return data[start + at : data.index(b"\0", start + at)].decode()
+    return data[start + at:data.index(b"\0", start + at)].decode()
 
 
 def localized(data, shown):
@@ -74,10 +98,9 @@ def localized(data, shown):
 
 def make_shared(archive, shown, room, to):
     """Links the shared library."""
-    with open(f"{room}/names", "w", encoding="utf-8") as it:
-        it.write(f"{{ global: {' '.join(f'{name};' for name in shown)} local: *; }};\n")
     libraries, c = f"{kit()}/toolchain/lib", f"{kit()}/c"
-    words = ["-shared", "-soname", SONAME, "--version-script", f"{room}/names", "--gc-sections", "--hash-style=gnu", "-s"]
+    words = ["-shared", "-soname", SONAME, *versioned(shown, room), note(room)]
+    words += ["--gc-sections", "--hash-style=gnu", "-s", "--build-id=sha1"]
     words += ["-z", "relro", "-z", "now", "-z", "noexecstack", "--no-undefined", "-o", to]
     words += [f"{libraries}/crti.o", f"{libraries}/crtbeginS.o", "--whole-archive", archive, "--no-whole-archive"]
     words += [f"{c}/liblibc_c.a", f"{c}/libos_c.a", f"{libraries}/libgcc.a"]
@@ -87,7 +110,7 @@ def make_shared(archive, shown, room, to):
 def make_static(archive, shown, room, to):
     """Makes the archive for static linking: one file, with what it calls of the toolchain's C code."""
     c = f"{kit()}/c"
-    whole = ["-r", "-S", "-o", f"{room}/whole.o", "--whole-archive", archive, "--no-whole-archive"]
+    whole = ["-r", "-S", "--build-id=none", "-o", f"{room}/whole.o", "--whole-archive", archive, "--no-whole-archive"]
     link([*whole, f"{c}/liblibc_c.a", f"{c}/libos_c.a"])
     with open(f"{room}/whole.o", "rb") as it:
         data = localized(it.read(), shown)
@@ -104,7 +127,7 @@ def make(archive, folder):
     with tempfile.TemporaryDirectory() as room:
         make_shared(archive, shown, room, f"{folder}/libvp.so")
         make_static(archive, shown, room, f"{folder}/libvp.a")
-    told = subprocess.run([f"{ROOT}/tools/dist/made-from", "library", folder], stdout=subprocess.PIPE, check=True)
+    told = subprocess.run([f"{ROOT}/tools/dist/tell-made-from", "library", folder], stdout=subprocess.PIPE, check=True)
     with open(f"{folder}/made-from", "wb") as it:
         it.write(told.stdout)
 

@@ -1,7 +1,7 @@
 #!/usr/bin/env python3
-"""architecture.py [FILE]: draws docs/architecture.svg, or FILE, from crates.txt: a box for each crate of the product, in
-its folder's frame, each above those of its frame that it stands on. Lines lead down to these, without those that others
-lead to."""
+"""architecture.py [FILE]: draws docs/architecture.svg, or FILE, from crates.txt: a box for each crate of the product,
+in its folder's frame, each above those of its frame that it stands on. Lines lead down to these, without those that
+others lead to."""
 import html
 import os
 import sys
@@ -96,7 +96,7 @@ def picture():
         top += high + MARGIN
     head = (f'<svg xmlns="http://www.w3.org/2000/svg" viewBox="0 0 {wide + 2 * MARGIN} {top}" '
             f'width="{wide + 2 * MARGIN}" height="{top}" font-family="system-ui, sans-serif" fill="none">')
-    return "\n".join([head, f'<rect width="100%" height="100%" fill="#fff"/>', *drawn, "</svg>", ""])
+    return "\n".join([head, '<rect width="100%" height="100%" fill="#fff"/>', *drawn, "</svg>", ""])
 
 
 def main():

@@ -1,9 +1,10 @@
 #!/usr/bin/env python3
-"""deb.py [FOLDER]: makes the Debian packages vp, libvp1 and libvp-dev (NAME_VERSION_amd64.deb) in a folder, else in out/,
-of dist/vp, the library for C and what ./install puts beside them. The same sources give the same bytes, packed by the same
-zlib. It needs no tool of Debian's.
+"""deb.py [FOLDER]: makes the Debian packages vp, libvp1 and libvp-dev (NAME_VERSION_amd64.deb) in a folder, else in
+out/, of dist/vp, the library for C and what ./install puts beside them. The same sources give the same bytes, packed
+by the same zlib. It needs no tool of Debian's.
 
 Status 0; 2 for wrong words, 3 where a file can't be read or written, 125 where the program couldn't be built."""
+import calendar
 import gzip
 import hashlib
 import io
@@ -13,10 +14,11 @@ import subprocess
 import sys
 import tarfile
 import tempfile
+import time
 
 sys.dont_write_bytecode = True
 sys.path.insert(0, os.path.join(os.path.dirname(os.path.realpath(__file__)), "..", "dist"))
-import needs  # noqa: E402
+import glibc_needed  # noqa: E402
 
 ROOT = os.path.dirname(os.path.dirname(os.path.dirname(os.path.realpath(__file__))))
 MAINTAINER = "Vuzaremo maintainers <maintainers@users.noreply.vuzaremo.example>"
@@ -26,9 +28,22 @@ PLACES = {
 }
 # What stands in the package's copyright, or only serves ./install.
 LEFT_OUT = ("usr/lib/vp/installed", "usr/share/doc/vp/LICENSE-MIT", "usr/share/doc/vp/LICENSE-APACHE")
+# The recipes' modules are compiled where they are unpacked, by the Python that is there.
+COMPILES = b"""#!/bin/sh
+set -e
+if [ "$1" = configure ]; then
+    python3 -m compileall -q -s "${DPKG_ROOT:-}" "${DPKG_ROOT:-}/usr/lib/vp" || true
+fi
+"""
+FORGETS = b"""#!/bin/sh
+set -e
+find "${DPKG_ROOT:-}/usr/lib/vp" -name __pycache__ -prune -exec rm -rf {} +
+"""
 # What the library's packages have; all else is vp's.
 LIBRARY = ("usr/lib/libvp.so.1",)
-FOR_C = ("usr/include/vp.h", "usr/lib/libvp.so", "usr/lib/libvp.a", "usr/lib/pkgconfig/vp.pc")
+FOR_C = ("usr/include/vp.h", "usr/lib/libvp.so", "usr/lib/libvp.a", "usr/lib/pkgconfig/vp.pc",
+         "usr/lib/pkgconfig/vp-static.pc", "usr/lib/cmake/vp/vp-config.cmake",
+         "usr/lib/cmake/vp/vp-config-version.cmake")
 
 
 class Package:
@@ -93,7 +108,9 @@ def installed(program):
         if ran.returncode:
             sys.exit(ran.returncode)
         found = {}
-        for at, _, files in os.walk(room):
+        for at, folders, files in os.walk(room):
+            # (which Python will run them is known where they are unpacked)
+            folders[:] = [it for it in folders if it != "__pycache__"]
             for file in files:
                 path = os.path.relpath(f"{at}/{file}", room)
                 if os.path.islink(f"{at}/{file}"):
@@ -129,11 +146,12 @@ def documented(name, version, when, files):
 def files_of(program):
     """Returns all files of the packages, by their paths."""
     files = {PLACES.get(path, path): it for path, it in installed(program).items() if path not in LEFT_OUT}
-    for path in ("usr/share/man/man1/vp.1", "usr/share/doc/vp/CHANGELOG.md"):
-        files[f"{path}.gz"] = (0o644, packed(files.pop(path)[1]))
+    for path in [it for it in files if it.startswith("usr/share/man/") or it.endswith("/CHANGELOG.md")]:
+        mode, data = files.pop(path)
+        files[f"{path}.gz"] = (mode, data + b".gz" if mode is None else packed(data))
     # dist/vp is taken byte for byte, as it was proved and compared
-    override = b"vp: unstripped-binary-or-object\n"
-    files["usr/share/lintian/overrides/vp"] = (0o644, b"# the bytes are those that were built and compared\n" + override)
+    override = b"# the bytes are those that were built and compared\nvp: unstripped-binary-or-object\n"
+    files["usr/share/lintian/overrides/vp"] = (0o644, override)
     return files
 
 
@@ -142,11 +160,15 @@ def needed(package, version, files):
     if package.name == "libvp-dev":
         return {"Depends": f"libvp1 (= {version})"}
     binary = files["usr/bin/vp" if package.name == "vp" else LIBRARY[0]][1]
-    libc = f"libc6 (>= {needs.glibc(binary)})"
+    libc = f"libc6 (>= {glibc_needed.glibc(binary)})"
     if package.name != "vp":
         return {"Depends": libc}
     uses_python = any(data.startswith(b"#!/usr/bin/env python3") for _, data in files.values())
-    return {"Depends": ", ".join([libc, *(["python3 (>= 3.9)"] if uses_python else [])]), "Recommends": f"libvp1 (= {version})"}
+    return {
+        "Depends": ", ".join([libc, *(["python3 (>= 3.9)"] if uses_python else [])]),
+        # (zint encodes symbols that vp doesn't draw)
+        "Recommends": f"libvp1 (= {version}), zint",
+    }
 
 
 def control(package, version, files):
@@ -208,6 +230,8 @@ def made(package, version, when, all_files):
     kept = [path for path in sorted(files) if files[path][0] is not None]
     sums = "".join(f"{hashlib.md5(files[path][1]).hexdigest()}  {path}\n" for path in kept)
     head = {"control": (0o644, control(package, version, files)), "md5sums": (0o644, sums.encode())}
+    if package.name == "vp":
+        head |= {"postinst": (0o755, COMPILES), "prerm": (0o755, FORGETS)}
     if package.name == "libvp1":
         head["triggers"] = (0o644, b"activate-noawait ldconfig\n")
         head["shlibs"] = (0o644, f"libvp 1 libvp1 (>= {version})\n".encode())
@@ -223,8 +247,7 @@ def version_and_time():
     day = re.search(rf"(?m)^## {re.escape(version)}, (\d{{4}}-\d\d-\d\d)$", read(f"{ROOT}/CHANGELOG.md").decode())
     if "SOURCE_DATE_EPOCH" in os.environ:
         return version, int(os.environ["SOURCE_DATE_EPOCH"])
-    words = ["date", "-u", "-d", day[1] if day else "1970-01-01", "+%s"]
-    return version, int(subprocess.run(words, capture_output=True, check=True).stdout)
+    return version, calendar.timegm(time.strptime(day[1], "%Y-%m-%d")) if day else 0
 
 
 def write(name, data):

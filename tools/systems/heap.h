@@ -11,6 +11,13 @@ struct tried {
     number made, address;
 };
 
+// Compiled Rattle has both numbers in registers; C for Windows would not, so the two calls are made there as elsewhere.
+#ifdef _WIN32
+#define CALLED __attribute__((sysv_abi))
+#else
+#define CALLED
+#endif
+
 static struct tried tried(void *block) {
     static char nothing[16] __attribute__((aligned(16)));
     return (struct tried){block != 0, (number)(size)(block ? block : nothing)};
@@ -19,11 +26,11 @@ static struct tried tried(void *block) {
 // More than half of what can be addressed is never there.
 static int is_too_much(number n) { return n > (size)-1 >> 1; }
 
-struct tried rattle_alloc(number n, number alignment) {
+CALLED struct tried rattle_alloc(number n, number alignment) {
     return tried(is_too_much(n) ? 0 : malloc((size)(n ? n : alignment)));
 }
 
-struct tried rattle_realloc(void *block, number kept, number n, number alignment) {
+CALLED struct tried rattle_realloc(void *block, number kept, number n, number alignment) {
     (void)kept;
     return tried(is_too_much(n) ? 0 : realloc(block, (size)(n ? n : alignment)));
 }

@@ -27,6 +27,14 @@ def number(most):
     return b'%d' % random.randint(0, most)
 
 
+# The bytes that are the same letter in the table that receipts begin with and in the sheet's.
+ALIKE = [it for it in range(0x80, 0x100) if bytes([it]).decode('cp437') == bytes([it]).decode('cp858')]
+
+
+def plain_letters(count):
+    return bytes(random.choice([*range(0x20, 0x80), *ALIKE]) for _ in range(random.randint(0, count)))
+
+
 def letters(count):
     return bytes(random.choice([*range(0x20, 0x5E), *range(0x5F, 0x7E), *range(0x7F, 0x100)]) for _ in range(random.randint(0, count)))
 
@@ -39,6 +47,8 @@ def field():
         out += random.choice([b'', b'^FB' + number(600) + b',' + number(5) + b',-' + number(9) + b',' + random.choice([b'L', b'C', b'R', b''])])
         out += random.choice([b'^FD', b'^FH^FD', b'^FH#^FD']) + letters(30)
     elif pick < .6:
+        # (at ^FT bars with text are moved)
+        out = out.replace(b'^FT', b'^FO')
         out += random.choice([b'^B3N,N,40,Y,N^FDCODE', b'^BEN,40^FD400638133393', b'^BCN,40,Y,N,N,A^FDabc123', b'^BQN,2,3^FDMA,https',
                               b'^BY3^BCR^FD>:A>5123456', b'^BQ^FDHM,N0123'])
     elif pick < .8:
@@ -61,11 +71,11 @@ def label():
 
 
 def receipt():
-    return b''.join(random.choice(grammar.WHOLE) if random.random() < .5 else letters(9) for _ in range(random.randint(1, 30)))
+    return b''.join(random.choice(grammar.WHOLE) if random.random() < .5 else plain_letters(9) for _ in range(random.randint(1, 30)))
 
 
 def profile_stays(count):
-    others = b'\x1cp\x01\0', b'\x1d8L\x02\0\0\0ab', b'\x1dP\x01\x02', b'\x1d(A\x02\0\0\0'
+    others = b'\x1d(k\x03\x001Q0', b'\x1cp\x01\0', b'\x1d8L\x02\0\0\0ab', b'\x1dP\x01\x02', b'\x1d(A\x02\0\0\0'
     grammar.WHOLE[:] = [it for it in grammar.WHOLE if it not in others]
     for n in range(count):
         data = label() if n % 2 else receipt()

@@ -12,9 +12,10 @@ import socket
 import subprocess
 import sys
 import tempfile
+import time
 import urllib.parse
 from serving import FONT_A, FONT_B, RECEIPT, ROOT, SHELF, SHIPPING, VIEWER, VP, Viewer, alive, same, vp, wait
-from in_browser import in_browser, picture
+from served import in_browser, picture
 
 
 def test_prints(page):
@@ -65,6 +66,26 @@ def test_sheets(page):
     name = json.loads(page.good('sheet', b'P4\n8 8\n12345678'))
     assert page.print(plain, more=f'&a={name}')[1]['line'].endswith('S3 wrong size')
     same(page.ask('print?lang=label&a=/etc/passwd', plain)[0], 409)
+
+
+def test_rows(page):
+    """How many rows fronts of a receipt print, also of one that is written anew."""
+    def height(stream, anew):
+        rest, rows = page.print(stream, 'receipt', f'&anew={anew}')[0], 0
+        while rest:
+            head = re.match(rb'P4\n(\d+) (\d+)\n', rest)
+            rows, rest = rows + int(head[2]), rest[head.end() + int(head[1]) // 8 * int(head[2]):]
+        return rows
+
+    # letters of another table, and a picture that is kept and then printed
+    lines = [b'One\n', b'\x1bt\x10Caf\xe9 \x80\n', b'\x1d(L\x12\0\x30\x70\x30\x01\x01\x31\x08\0\x08\0' + b'\xff' * 8,
+             b'\x1d(L\x02\0\x30\x32', b'Last\n']
+    stream = b''.join(lines)
+    ends = [sum(map(len, lines[:n + 1])) for n in range(len(lines))]
+    for anew in '0', '1':
+        asked = f'rows?lang=receipt&anew={anew}&ends={",".join(map(str, ends))}'
+        same(json.loads(page.good(asked, stream)), [height(stream[:it], anew) for it in ends])
+    same(page.ask('rows?ends=1,x', b'')[0], 400)
 
 
 def test_limits(page):
@@ -178,6 +199,40 @@ def test_endless(room):
         wait(lambda: not any(alive(int(it)) for it in (room / 'sleepers').read_text().split()))
 
 
+def test_signals(room):
+    """SIGTERM, SIGHUP and SIGINT end it at once, with all that it runs, and leave no folder; what one that was
+    killed left goes when the next one starts."""
+    slow, folder = room / 'slow', room / 'folders'
+    slow.write_text(f'#!/bin/sh\n[ "$1" != --version ] || exit 0\nsleep 1000 & echo $! >>{room}/slow-sleepers\nwait\n')
+    slow.chmod(0o755)
+    folder.mkdir()
+    for number in signal.SIGTERM, signal.SIGHUP, signal.SIGINT, signal.SIGKILL:
+        page = Viewer(VP=str(slow), TMPDIR=str(folder))
+        lines = [page.begin(it, b'x') for it in ('print?lang=receipt', 'rows?lang=receipt&ends=1,1,1,1,1,1,1,1,1,1')]
+        wait(lambda: (room / 'slow-sleepers').is_file() and len((room / 'slow-sleepers').read_text().split()) > 3)
+        start = time.monotonic()
+        page.ran.send_signal(number)
+        page.ran.wait(60)
+        took = time.monotonic() - start
+        for line in lines:
+            line.close()
+        sleepers = [int(it) for it in (room / 'slow-sleepers').read_text().split()]
+        if number == signal.SIGKILL:
+            assert len(list(folder.iterdir())) == 1, list(folder.iterdir())
+            for it in sleepers:
+                with contextlib.suppress(ProcessLookupError):
+                    os.kill(it, signal.SIGKILL)
+        else:
+            # (a print that is waited for would be 10; a second is aimed at, on a machine that does nothing else)
+            assert took < 5, f'{number.name}: it ended after {took:.1f} s'
+            wait(lambda: not any(map(alive, sleepers)))
+            same(list(folder.iterdir()), [])
+        (room / 'slow-sleepers').unlink()
+    with Viewer(TMPDIR=str(folder)) as page:
+        same([page.ask('state')[0], len(list(folder.iterdir()))], [200, 1])
+    same(list(folder.iterdir()), [])
+
+
 def test_follows(room):
     file = room / 'shelf.zpl'
     file.write_bytes(SHELF.read_bytes())
@@ -223,6 +278,7 @@ def test_prefix(room):
     lib, share = room / 'prefix/lib/vp', room / 'prefix/share/vp'
     shutil.copytree(VIEWER.parent, lib / 'viewer', ignore=shutil.ignore_patterns('__pycache__'))
     shutil.copytree(ROOT / 'recipes/vp_recipes', lib / 'vp_recipes', ignore=shutil.ignore_patterns('__pycache__'))
+    shutil.copytree(ROOT / 'python/vp', lib / 'python/vp', ignore=shutil.ignore_patterns('__pycache__'))
     share.mkdir(parents=True)
     for name in FONT_A, FONT_B, SHELF:
         shutil.copy(name, share)
@@ -313,12 +369,13 @@ def other_user(page, file):
 
 def over_http(room):
     with Viewer() as page:
-        for test in test_prints, test_faults, test_listing, test_remarks, test_sheets, test_limits, test_safe:
+        for test in (test_prints, test_faults, test_listing, test_remarks, test_sheets, test_rows, test_limits,
+                     test_safe):
             test(page)
         test_idle(page)
     took = resource.getrusage(resource.RUSAGE_CHILDREN).ru_maxrss >> 10
     assert took < 200, f'one of the programs that the viewer ran took {took} MB'
-    for test in test_follows, test_odd, test_prefix, test_words, test_open, test_endless:
+    for test in test_follows, test_odd, test_prefix, test_words, test_open, test_endless, test_signals:
         test(room)
 
 

@@ -6,10 +6,8 @@ import random
 import re
 import struct
 import subprocess
-import time
 import zlib
-from chromium import Chromium
-from serving import RECEIPT, SHIPPING, VP, Viewer, same, vp, wait
+from serving import RECEIPT, VP, Viewer, same, vp, wait
 
 READY = 'window.viewer && viewer.fits() && viewer.tab().listed === viewer.tab().edits'
 # The dots that the canvas shows of its first image at zoom 1, as vp writes them.
@@ -39,7 +37,11 @@ TEXTS = "[...document.querySelectorAll('%s')].map(it => it.textContent).join('')
 def drawn(browser):
     """The dots of the canvas, once what was typed last is drawn."""
     browser.wait(READY, 'the paper')
+    # (the pointer, which may stand over the paper, would show a box)
+    browser.value("delete viewer.paper.setHover, viewer.paper.setHover(null), viewer.paper.setHover = () => {}, 0")
     browser.value("document.activeElement.blur(), document.querySelector('[data-zoom=\"1\"]').click()")
+    browser.value(FRAME)
+    browser.value('viewer.paper.setMark(null)')
     browser.value(FRAME)
     return browser.value(DOTS)
 
@@ -52,12 +54,6 @@ def printed(language, data):
         size = (int(head[1]) + 7) // 8 * int(head[2])
         rows, rest = rows + rest[head.end():head.end() + size], rest[head.end() + size:]
     return rows.hex()
-
-
-def part(name):
-    """A script that gives a part of the page: served beside it, or within it."""
-    return f"""(() => {{ const served = document.querySelector('script[src$="page.js"]');
-      return import(served ? served.src.replace('page.js', '{name}') : 'viewer/{name}'); }})()"""
 
 
 def new_stream(browser, kind):
@@ -125,7 +121,7 @@ def test_fault(browser):
       const at = area.value.indexOf('from'); area.setSelectionRange(at, at); })()''')
     for char in '\\x1b\\x7f':
         browser.key(char)
-    browser.wait("document.querySelector('.note.fault')", 'the fault')
+    browser.wait(f"{READY} && document.querySelector('.note.fault')?.textContent.endsWith('7F')", 'the fault')
     data = bytes_now(browser)
     at = data.index(b'\x1b\x7f') + 2
     same(browser.value("document.querySelector('.note.fault').textContent"), 'F1 unknown command 1B 7F')
@@ -420,8 +416,7 @@ def test_names(browser):
         assert any(it[1:3] == named for it in rows), (named, rows)
     read = commands()
     assert len(read) > 300, read
-    missing = browser.value(f"""{part('names.js')}.then(it =>
-        {json.dumps(read)}.filter(text => !it.named({{ text, count: 0 }}, 'receipt').words))""")
+    missing = browser.value(f"{json.dumps(read)}.filter(text => !viewer.named({{ text, count: 0 }}, 'receipt').words)")
     same(missing, [])
 
 
@@ -541,16 +536,14 @@ def test_escapes(browser):
     random.seed(1)
     for size in 1, 7, 300, 5000:
         data = random.randbytes(size)
-        same(browser.value(part('bytes.js') + '''.then(it =>
-            [...it.toBytes(it.toEscapes(Uint8Array.from(%s)), null).bytes])''' % list(data)), list(data))
+        same(browser.value('[...viewer.toBytes(viewer.toEscapes(Uint8Array.from(%s)), null).bytes]' % list(data)),
+             list(data))
     for text in 'a\\\\\n', '^XA\r\nü\r\n', 'x\n\ny', '':
         data = list(text.encode())
-        same(browser.value(part('bytes.js') + '''.then(it => {
-            const bytes = Uint8Array.from(%s), end = it.endsOf(bytes);
-            return [...it.toBytes(it.toText(bytes, end), end).bytes]; })''' % data), data)
+        same(browser.value('''(bytes => { const end = viewer.endsOf(bytes);
+            return [...viewer.toBytes(viewer.toText(bytes, end), end).bytes]; })(Uint8Array.from(%s))''' % data), data)
     for data in b'a\rb\n', b'a\r\nb\n', b'\xff', b'\x1b@':
-        same(browser.value(part('bytes.js') + '''.then(it =>
-            it.endsOf(Uint8Array.from(%s)))''' % list(data)), None)
+        same(browser.value('viewer.endsOf(Uint8Array.from(%s))' % list(data)), None)
 
 
 def test_long(browser):
@@ -599,36 +592,3 @@ def test_opened(browser, room):
 # What holds of the page whether a server prints or the page itself.
 ON_BOTH = (test_mark, test_typing, test_speed, test_fault, test_drop, test_compare, test_escapes, test_parts,
            test_closing, test_dimmed, test_origins, test_names, test_sizes, test_count, test_long, test_tabs)
-
-
-def in_browser(room):
-    followed = room / 'followed.zpl'
-    followed.write_bytes(b'^XA^PW80^LL40^FO8,8^GB8,8,8^FS^XZ\n')
-    with Viewer('--as-it-came', str(SHIPPING), str(followed), str(RECEIPT)) as page:
-        browser = Chromium(str(room))
-        try:
-            browser.open(page.address)
-            browser.size(2200, 1700)
-            same(drawn(browser), printed('label', SHIPPING.read_bytes()))
-            test_changed(browser, followed)
-            test_kept(browser, followed)
-            for test in (test_remarks_line, *ON_BOTH, test_large):
-                test(browser)
-            same(browser.errors, [])
-            test_opened(browser, room)
-        finally:
-            browser.close()
-
-
-def picture(room, name):
-    with Viewer(str(SHIPPING), str(RECEIPT)) as page:
-        browser = Chromium(str(room), width=1440, height=880)
-        try:
-            browser.open(page.address)
-            browser.wait(READY, 'the paper')
-            browser.wait("document.querySelectorAll('#listing .row').length > 10", 'the listing')
-            browser.click("[...document.querySelectorAll('#listing .row')].find(it => it.textContent.includes('NEXT'))")
-            time.sleep(0.5)
-            browser.picture(name)
-        finally:
-            browser.close()

@@ -3,7 +3,8 @@ import json
 import time
 from chromium import standing
 
-KEYS = {'ArrowDown': '\ue015', 'Backspace': '\ue003', 'Escape': '\ue00c', '\r': '\ue007'}
+KEYS = {'ArrowDown': '\ue015', 'ArrowUp': '\ue013', 'Enter': '\ue007', 'Backspace': '\ue003', 'Escape': '\ue00c',
+        '\r': '\ue007'}
 MODIFIERS = {2: '\ue009', 8: '\ue008'}
 ERRORS = """(() => { window.errors = [];
   addEventListener('error', event => errors.push(event.message));
@@ -27,13 +28,10 @@ class Driven:
 
     def value(self, script):
         """What a script of the page gives, its promises kept."""
-        asked = f"""const tell = it => dispatchEvent(new CustomEvent('told', {{ detail: JSON.stringify(it) }}));
-          (async () => ({script}))().then(value => tell({{ value }}), fault => tell({{ fault: String(fault) }}));"""
-        found = json.loads(self.run(f"""const [done] = arguments, script = document.createElement('script');
-          addEventListener('told', event => done(event.detail), {{ once: true }});
-          script.textContent = {json.dumps(f'{{{asked}}}')};
-          document.head.append(script);
-          script.remove();"""))
+        found = json.loads(self.run(f"""const [done] = arguments;
+          const tell = it => done(JSON.stringify(it));
+          Promise.resolve().then(() => ({script}))
+            .then(value => tell({{ value }}), fault => tell({{ fault: String(fault) }}));"""))
         if 'fault' in found:
             raise RuntimeError(found['fault'])
         return found.get('value')

@@ -1,5 +1,5 @@
-// In node: in_node.mjs PACKAGE PRINTED [VP]. The same bytes as vp printed, and with VP what calls say, and how long the
-// module takes beside vp, where neither start is counted.
+// In node: in_node.mjs FOLDER PRINTED [VP], with vp.js and vp.wasm in the folder. The same bytes as vp printed, and with VP
+// what calls say, and how long the module takes beside vp, where neither start is counted.
 import { spawnSync } from 'node:child_process';
 import { webcrypto } from 'node:crypto';
 import { readFileSync, rmSync, writeFileSync } from 'node:fs';
@@ -10,7 +10,7 @@ globalThis.crypto ??= webcrypto;
 
 const [made, streams, program] = process.argv.slice(2);
 const vp = await import(pathToFileURL(`${made}/vp.js`));
-await vp.load();
+await vp.load(readFileSync(`${made}/vp.wasm`));
 const asked = JSON.parse(readFileSync(streams));
 console.log(`node ${process.versions.node}: ${await same(vp, asked)} streams are printed and listed as by vp`);
 if (!program) process.exit();
@@ -36,20 +36,28 @@ await vp.load();
 const first = new vp.Printer('receipt');
 const { allocations } = first;
 isSo([new vp.Printer('receipt').allocations, first.allocations], [allocations, allocations]);
-// what is made takes as many blocks whatever it holds, since all that is cut from one; a listing holds nothing
-const fontA = new Uint8Array(readFileSync(new URL('../../../examples/font-a.pbm', import.meta.url)));
-isSo([new vp.Printer('label'), new vp.Printer('label', { fontA }), new vp.Printer('receipt', { fontA })]
-  .map(it => it.allocations), Array(3).fill(allocations));
-isSo(new vp.Listing('label').allocations, 4);
-// a room has just as many bytes as the printer in it holds
-const fontB = new Uint8Array(readFileSync(new URL('../../../examples/font-b.pbm', import.meta.url)));
-const rooms = readFileSync(new URL('../../../crates/program/vp_module/src/room.rt', import.meta.url), 'utf-8');
-const room = name => Number(new RegExp(`const ${name}: usize = ([\\d_]+);`).exec(rooms)[1].replaceAll('_', ''));
+// what a printer holds hangs on its language and sheets alone
+const sheetOf = letter => new Uint8Array(readFileSync(new URL(`../../../examples/font-${letter}.pbm`, import.meta.url)));
+const [fontA, fontB] = [sheetOf('a'), sheetOf('b')];
 const held = (language, sheets) => new vp.Printer(language, sheets).memory;
 isSo([held('receipt'), held('label'), held('label', { fontA }), held('receipt', { fontA, fontB })],
-  [room('RECEIPT'), room('LABEL'), room('LABEL') + room('SHEET_A'), room('RECEIPT') + room('SHEET_A') + room('SHEET_B')]);
+  [159744, 1254176, 1254176 + 62464, 159744 + 62464 + 43808]);
+// what is given back is taken again: printers that are made and freed in one instance, and refused ones, need no more
+// memory than the first of each
+const calls = (await WebAssembly.instantiate(await vp.load(), {})).exports;
+const [handleAt, sheetAt] = [calls.malloc(8), calls.malloc(fontA.length)];
+new Uint8Array(calls.memory.buffer, sheetAt, fontA.length).set(fontA);
+const rounds = Array.from({ length: 100 }, () => {
+  for (const [language, length] of [[0, 0], [2, fontA.length], [1, fontA.length], [2, 0], [0, 100]]) {
+    isSo(calls.vp_new(language, sheetAt, BigInt(length), 0, 0n, handleAt), length === 100 ? 14 : 0);
+    calls.vp_free(handleAt);
+  }
+  return calls.memory.buffer.byteLength;
+});
+isSo(rounds.at(-1), rounds[0]);
+isSo(calls.vp_version_number(), 10100);
 const stopped = new vp.Printer('receipt');
-isSo(vp.join(vp.images(stopped.feed(some.encode('Hi\nHi\n\x1b\x7fHi\n')))).height, 68);
+isSo(stopped.feed(some.encode('Hi\nHi\n\x1b\x7fHi\n')).length, 2 * ('P4\n576 34\n'.length + 72 * 34));
 isSo([stopped.fault, stopped.taken, stopped.feed(some.encode('Hi\n')).length, stopped.end()],
   ['vp: F1 after 8 bytes: unknown command 1B 7F', 8, 0, 'vp: F1 after 8 bytes: unknown command 1B 7F']);
 isSo([new vp.Printer('receipt'), new vp.Printer('label'), new vp.Listing('label')].map(it => it.memory),

@@ -14,23 +14,37 @@ sys.path.insert(0, str(HERE.parent / 'viewer'))
 from chromium import Chromium  # noqa: E402
 from firefox import Firefox  # noqa: E402
 from in_browser import ON_BOTH, READY, bytes_now, drawn, new_stream, printed, shown, type_at  # noqa: E402
+from keeping import KEPT  # noqa: E402
+from offline import test_offline  # noqa: E402
+from saying import SAID, test_as_lint  # noqa: E402
+from seeing import SEEN, test_files  # noqa: E402
 from serving import RECEIPT, SHIPPING, same  # noqa: E402
 from webkit import WebKit  # noqa: E402
+from writing import WRITTEN  # noqa: E402
 
-WITHIN = 'Array.from(document.scripts).find(it => it.id === "given").textContent'
+# A page that has the module, what prints by it, and what compares: it may run what it is told.
+SAME = """<!DOCTYPE html><meta charset="utf-8"><script type="module">
+import * as printer from '{vp}';
+import {{ same }} from '{same}';
+await printer.load(Uint8Array.from(atob('{module}'), it => it.charCodeAt(0)));
+Object.assign(window, {{ printer, same }});
+</script>"""
 
 
 def script(file):
-    return json.dumps(f'data:text/javascript;base64,{base64.b64encode(file.read_bytes()).decode()}')
+    return f'data:text/javascript;base64,{base64.b64encode(file.read_bytes()).decode()}'
 
 
-def test_same(browser, streams):
-    """What the page's own module prints, in the page, is what vp prints."""
-    browser.value(f"""(async () => {{
-      window.printer = await import({script(HERE.parents[1] / 'web/vp.js')});
-      const {{ module }} = JSON.parse({WITHIN});
-      await printer.load(Uint8Array.from(atob(module), it => it.charCodeAt(0)));
-      window.same = (await import({script(HERE / 'same.mjs')})).same; }})()""")
+def test_same(browser, room, streams):
+    """What the module prints in a browser is what vp prints."""
+    module = base64.b64encode((HERE.parents[2] / 'dist/vp.wasm').read_bytes()).decode()
+    page = pathlib.Path(room, 'same.html')
+    vp, compare = script(HERE.parents[1] / 'web/vp.js'), script(HERE / 'same.mjs')
+    page.write_text(SAME.format(vp=vp, same=compare, module=module))
+    # (a page with something that isn't saved would ask)
+    browser.value('viewer.desk.tabs.forEach(it => { it.saved = it.bytes; })')
+    browser.open(page.as_uri())
+    browser.wait('window.same', 'the module')
     asked = json.loads(streams.read_text())
     count = 0
     for at in range(0, len(asked['streams']), 100):
@@ -62,14 +76,14 @@ def test_followed(browser):
     first, second, third = (b'^XA^PW80^LL40^FO8,8^GB%d,8,8^FS^XZ\n' % n for n in (8, 16, 24))
 
     def put(data):
-        browser.value(f'disk = {{ time: Date.now() + {len(data)}, data: Uint8Array.from({list(data)}) }}')
+        browser.value(f'window.disk = {{ time: Date.now() + {len(data)}, data: Uint8Array.from({list(data)}) }}')
         browser.wait(f'String(viewer.tab().onDisk ?? viewer.tab().bytes) === String({list(data)})', "the file's bytes")
 
     browser.value("""(() => { window.disk = null; const handle = { name: 'disk.zpl',
-      getFile: async () => new File([disk.data], 'disk.zpl', { lastModified: disk.time }) };
+      getFile: async () => new File([window.disk.data], 'disk.zpl', { lastModified: window.disk.time }) };
       window.showOpenFilePicker = async () => [handle];
       viewer.desk.printer.pick ??= () => viewer.desk.printer.picked(); })()""")
-    browser.value(f'disk = {{ time: 1, data: Uint8Array.from({list(first)}) }}')
+    browser.value(f'window.disk = {{ time: 1, data: Uint8Array.from({list(first)}) }}')
     browser.click("document.getElementById('open-file')")
     browser.wait("viewer.tab().name === 'disk.zpl'", 'the file')
     same(bytes_now(browser), first)
@@ -102,16 +116,20 @@ def test_first(browser):
     shown(browser, 'shipping.zpl')
 
 
-def test_page(browser, page, streams, only_streams):
+def test_page(browser, room, page, streams, only_streams):
     opened(browser, page)
     if not only_streams:
         took = opened(browser, page)
         print(f'{browser.name}: the page is loaded, and has printed, in {1000 * took:.0f} ms')
         browser.size(2200, 1700)
-        for test in (test_first, *ON_BOTH, test_alone, test_followed, test_limits):
+        for test in (test_first, test_as_lint, *SAID, *SEEN, *WRITTEN, *ON_BOTH, test_files, test_alone, test_followed,
+                     *KEPT, test_limits):
             test(browser)
-    test_same(browser, streams)
+        same(browser.errors, [])
+    test_same(browser, room, streams)
     same(browser.errors, [])
+    if not only_streams:
+        test_offline(browser, room, page)
 
 
 def picture(room, page, name, dark):
@@ -139,7 +157,7 @@ def main():
             return
         browser = BROWSERS[what](room)
         try:
-            test_page(browser, page, pathlib.Path(file), more == ['streams'])
+            test_page(browser, room, page, pathlib.Path(file), more == ['streams'])
         finally:
             browser.close()
 

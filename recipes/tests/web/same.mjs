@@ -1,10 +1,10 @@
 // Whether the module prints and lists what vp did: the streams of printed.py, each cut at random. Tells how many were
 // the same; the first that isn't is an error.
 
-const bytesOf = text => Uint8Array.from(atob(text), it => it.charCodeAt(0));
+export const bytesOf = text => Uint8Array.from(atob(text), it => it.charCodeAt(0));
 
 // What came out, and how it ended, as printed.py tells it.
-async function told(pieces, fault) {
+export async function told(pieces, fault) {
   const data = await new Blob(pieces).arrayBuffer();
   const digest = new Uint8Array(await crypto.subtle.digest('SHA-256', data));
   const sum = [...digest].map(it => it.toString(16).padStart(2, '0')).join('');
@@ -38,8 +38,6 @@ export async function same(vp, { seed, sheets, streams }) {
     isSo(await told(fed(printer, bytes, random), printer.end()), paper);
     isSo(printer.allocations, taken);
     isSo(printer.memory, memory);
-    const { images, fault } = new vp.Printer(language, choices).print(bytes);
-    if (!fault) isSo(await told(images.map(it => it.toPBM()), fault), paper);
     const lister = new vp.Listing(language);
     const lines = fed(lister, bytes, random);
     const end = lister.end();

@@ -1,21 +1,28 @@
 """Writes streams of the whole languages anew in the words that vp prints: what `expanded` gives, and its words."""
-from collections import namedtuple
+from typing import List, NamedTuple
 
-from . import label_stream, receipt_stream
-from .places import Written
-from .remarks import Remarks
+from .options import Options
+from .places import Piece, Written
+from .remarks import Remark, Remarks
 
-# What a user may choose: the table of the sheet, the encoding of a receipt's text, a folder of stored things, the time
-# of clocks, whether letters lose their marks, whether texts of labels keep their sizes, the words that name sheets.
-Options = namedtuple('Options', 'table encoding store now nearest keeps_sizes sheet',
-                     defaults=('cp858', None, None, None, False, False, ()))
-# The new stream, its pieces, and what is told of the old one.
-Expanded = namedtuple('Expanded', 'data pieces remarks')
+__all__ = ['Expanded', 'Options', 'expanded']
 
 
-def expanded(data, language, options=Options()):
+class Expanded(NamedTuple):
+    """The new stream, its pieces, and what is told of the old one."""
+    data: bytes
+    pieces: List[Piece]
+    remarks: List[Remark]
+
+
+def expanded(data: bytes, language: str, options: Options = Options()) -> Expanded:
     """A stream anew, of which each piece says where it comes from."""
     written, remarks = Written(data), Remarks()
-    (label_stream if language == 'label' else receipt_stream).write(data, options, written, remarks)
+    # (what writes the other language isn't loaded)
+    if language == 'label':
+        from .label_stream import write
+    else:
+        from .receipt_stream import write
+    write(data, options, written, remarks)
     written.whole()
-    return Expanded(bytes(written.bytes), written.pieces, remarks.lines())
+    return Expanded(bytes(written.new), written.pieces, remarks.lines())

@@ -1,21 +1,25 @@
 """The cells of a sheet, as pictures of lines of them."""
 import re
+from typing import Dict, List, Optional, Sequence
 
 from .pictures import Picture
-from ..program import Fault, read
+from ..faults import Fault
+from ..program import read
 from ..sheets import CELLS, sheet_words
 
 
 class Cells:
-    """Those of the sheet of a font's letter among the words that name sheets; white where there is none."""
+    """Those of the sheet of a font's letter among the words that name sheets; white where there is none. `size` is a
+    cell's width and height, `cells` the rows of each."""
 
-    def __init__(self, words, letter='a'):
-        self.size, self.cells = CELLS[letter], None
+    def __init__(self, words: Sequence[str], letter: str = 'a') -> None:
+        self.size = CELLS[letter]
+        self.cells: Optional[List[List[int]]] = None
         name = sheet_words(list(words)).get(letter)
         if name:
             self.cells = self.of_sheet(read(name), name)
 
-    def of_sheet(self, data, name):
+    def of_sheet(self, data: bytes, name: str) -> List[List[int]]:
         width, height = self.size
         head = re.match(rb'P4\s+(\d+)\s+(\d+)\s', data)
         if not head or (int(head[1]), int(head[2])) != (16 * width, 16 * height):
@@ -24,7 +28,7 @@ class Cells:
         return [[row >> width * (15 - byte % 16) & (1 << width) - 1 for row in rows[byte // 16 * height:][:height]]
                 for byte in range(256)]
 
-    def line(self, data):
+    def line(self, data: bytes) -> Picture:
         """Cells side by side."""
         width, height = self.size
         rows = [0] * height
@@ -33,12 +37,12 @@ class Cells:
             rows = [row << width | it for row, it in zip(rows, cell)]
         return Picture(width * len(data), rows)
 
-    def scaled(self, data, width, height):
+    def scaled(self, data: bytes, width: int, height: int) -> Picture:
         """Cells side by side, each so wide and high, as a label draws them."""
         texts = self.line(data).texts() if data else []
         own, tall = self.size
         columns = [own * n + x * own // width for n in range(len(data)) for x in range(width)]
-        rows = {}
+        rows: Dict[int, str] = {}
         for y in range(height):
             source = y * tall // height
             if source not in rows:

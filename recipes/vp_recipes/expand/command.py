@@ -3,6 +3,9 @@
 Letters of other tables, packed and stored pictures, stored formats, other symbols and the like. What was written anew
 is told on standard error, a line for each with its first byte in FILE, and so is what couldn't be; where there is
 such a line the status is 1. --tell MAP tells lines of vp (its fault, its listing with places) in the bytes of FILE.
+
+    expand parcel.zpl | vp label --font-a font-a.pbm > parcel.pbm
+    expand --from utf-8 order.bin > order.new.bin
 """
 import argparse
 import datetime
@@ -10,21 +13,23 @@ import sys
 
 from . import Options, expanded
 from .places import as_file, of_file, told
+from ..faults import Fault, shown
 from ..files import keep
-from ..program import Fault, read
+from ..kinds import language_of
+from ..program import read
 from ..sheets import chosen
-from ..streams import LANGUAGES, guess
+from ..streams import LANGUAGES
 from ..tables import characters
 
 
-def moment(text):
+def moment(text: str) -> datetime.datetime:
     try:
         return datetime.datetime.fromisoformat(text)
     except ValueError:
         raise argparse.ArgumentTypeError(f'{text} is no time as 2026-11-26T14:30') from None
 
 
-def main():
+def words_of() -> argparse.ArgumentParser:
     words = argparse.ArgumentParser(description=__doc__, formatter_class=argparse.RawDescriptionHelpFormatter)
     words.add_argument('file', metavar='FILE', nargs='?', default='-', help='a stream; without one, standard input')
     words.add_argument('--lang', choices=LANGUAGES, help='the language, not guessed')
@@ -37,7 +42,11 @@ def main():
     words.add_argument('--now', type=moment, metavar='TIME', help='the time of clocks, as 2026-11-26T14:30')
     words.add_argument('--font-a', metavar='SHEET', help='the sheet that symbols have their text from')
     words.add_argument('--tell', metavar='MAP', help="tells vp's lines on standard input by a map")
-    given = words.parse_args()
+    return words
+
+
+def main() -> int:
+    given = words_of().parse_args()
     if given.tell:
         pieces = of_file(read(given.tell).decode('latin-1'), given.tell)
         for line in sys.stdin:
@@ -47,7 +56,7 @@ def main():
     characters(given.table)
     if given.encoding:
         known_encoding(given.encoding)
-    language = given.lang or guess(data)
+    language = given.lang or language_of(data, given.file if given.file != '-' else 'standard input')
     options = Options(given.table, given.encoding, given.store, given.now, given.nearest, given.keep_sizes,
                       tuple(chosen(language, given.font_a)))
     found = expanded(data, language, options)
@@ -55,15 +64,15 @@ def main():
     sys.stdout.flush()
     if given.map:
         keep(given.map, as_file(found.pieces))
-    for it in found.remarks:
-        print(f'byte {it.place}: {it.text}', file=sys.stderr)
-    return 0 if all(it.is_done for it in found.remarks) else 1
+    for remark in found.remarks:
+        print(f'byte {remark.place}: {remark.text}', file=sys.stderr)
+    return 0 if all(remark.is_done for remark in found.remarks) else 1
 
 
-def known_encoding(name):
+def known_encoding(name: str) -> None:
+    """Raises a Fault where a name is of no encoding of letters."""
     try:
         if not isinstance(b'a'.decode(name), str):
             raise LookupError
     except (LookupError, UnicodeError, ValueError):
-        raise Fault(f'{name}: no table of letters', 2) from None
-
+        raise Fault(f'{shown(name)}: no table of letters', 2) from None

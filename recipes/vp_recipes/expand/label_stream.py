@@ -1,36 +1,55 @@
 """A stream of labels anew, format by format: settings stay, fields are written anew that vp would print otherwise."""
-from .cells import Cells
-from .fields import PARTS, Field, Settings, changed
-from .formats import COPIES, MANY, copied, counted, fields, recalled
+from typing import Dict, List, NamedTuple, Optional, Set, Tuple
+
+from .fields import Field
+from .formats import Recall, counted, fields
+from .label_store import Keeper
 from .labels import Command, commands
-from .letters import Letters
-from .pictures import Bad, Picture, of_image, read
-from .store import Store, named
+from .options import Options
+from .placed import CONTENTS, PARTS, Kept, Point, Settings, changed
+from .places import Written
+from .remarks import Remarks
 from .units import in_dots
-from ..program import run
+from .work import Work
 from ..streams import rows
 from ..values import is_start
 
 # What is written into the fields, or kept by the store, and stands in no new stream.
-WRITTEN = {'CI', 'CC', 'CD', 'CT', 'MU', 'LS', 'LT', 'FN', 'FV', 'DF', 'XF', 'SN', 'SF', 'FC', 'FE', 'IS', 'IL', 'ID', 'EG'}
+WRITTEN = {'CI', 'CC', 'CD', 'CT', 'MU', 'LS', 'LT', 'FN', 'FV', 'DF', 'XF', 'SN', 'SF', 'FC', 'FE', 'IS', 'IL', 'ID',
+           'EG'}
+# Contents that depend on more than their field.
+OTHERS = {'XG', 'IM', 'GF'}
+# How many serial numbers are counted, and how many bytes of fields are known by what they are made of.
+COPIES, KNOWN = 1000, 16 << 20
 
-def write(data, options, written, remarks):
-    Writer(data, options, written, remarks).all()
+
+class Made(NamedTuple):
+    """A field that was written: the bytes or None where it stays, what is told with how far from its start, the point
+    behind its text, how many dots it took."""
+    data: Optional[bytes]
+    told: Tuple[Tuple[bool, str, int], ...]
+    after: Point
+    dots: int
 
 
 class Writer:
-    def __init__(self, data, options, stream, remarks):
-        self.data, self.options, self.stream, self.remarks = data, options, stream, remarks
-        self.letters, self.store = Letters(options.table, options.nearest), Store(options.store)
-        self.sheet, self.settings = Cells(options.sheet), Settings()
-        self.said = {command: what for language, command, _, word, what in rows() if language == 'label' and word == 'said'}
-        # up to where the old stream is written, and where the next field without a place begins
-        self.at, self.after, self.dots = 0, (0, 0), 0
-        # a stream of ASCII alone has no letter that a table changes
-        self.is_plain = data.isascii() and b'^FH' not in data.upper()
+    """Writes `data` anew into a `stream`. Up to byte `at` it is written; `settings` are in force; of fields that came
+    before it is `known` what they are; in a plain stream no letter is one that a table changes."""
 
-    def all(self):
-        open_format = None
+    def __init__(self, data: bytes, options: Options, stream: Written, remarks: Remarks) -> None:
+        self.data, self.options, self.stream, self.remarks = data, options, stream, remarks
+        self.work = Work(len(data))
+        self.kept, self.settings, self.at = Kept(options, remarks), Settings(), 0
+        self.keeper = Keeper(self.kept, self.work)
+        self.recall = Recall(self.kept.store, remarks, self.work)
+        self.said = {command: what for language, command, _, word, what in rows() if language == 'label'
+                     and word == 'said'}
+        self.is_plain = data.isascii() and b'^FH' not in data.upper()
+        self.known: Dict[object, Made] = {}
+        self.known_bytes = 0
+
+    def all(self) -> None:
+        open_format: Optional[List[Command]] = None
         for command in in_dots(commands(self.data), self.remarks):
             if command.sign == '^' and command.name == 'XA' and open_format is None:
                 open_format = [command]
@@ -42,13 +61,14 @@ class Writer:
             elif open_format is None:
                 self.outside(command)
             else:
-                self.stored(command)
+                self.drop(command)
+                self.keeper.picture(command)
         # what is open or begun at the end is vp's to say
         self.stream.keep(self.at, len(self.data))
 
     # ---- pieces
 
-    def keep(self, command):
+    def keep(self, command: Command) -> None:
         if command.is_plain and command.start >= self.at:
             self.stream.keep(self.at, command.end)
             self.at = command.end
@@ -56,7 +76,7 @@ class Writer:
             self.drop(command)
             self.stream.anew(command.written(), command.start, command.end)
 
-    def drop(self, command):
+    def drop(self, command: Command) -> None:
         """Nothing in place of a command; what stands before it, and between commands, stays."""
         if command.start >= self.at:
             self.stream.keep(self.at, command.start)
@@ -64,17 +84,22 @@ class Writer:
 
     # ---- outside of formats
 
-    def outside(self, command):
+    def outside(self, command: Command) -> None:
         if command.sign == '~' and command.name in ('DG', 'DY'):
-            self.stored(command)
+            self.drop(command)
+            self.keeper.picture(command)
         elif command.name in ('CC', 'CD', 'CT'):
             self.signs(command)
         elif command.name in ('EG', 'ID'):
-            self.forgotten(command)
+            self.drop(command)
+            self.keeper.forget(command)
         else:
             self.keep(command)
+            if command.sign == '^' and command.name in CONTENTS:
+                self.remarks.not_written(command.start,
+                                         f'a field of ^{command.name} stands outside ^XA and ^XZ: it is not printed')
 
-    def signs(self, command):
+    def signs(self, command: Command) -> None:
         """Other signs: they stay where they are the usual ones and stand before a sign or a line's end."""
         sign = {'CC': b'^', 'CT': b'~', 'CD': b','}[command.name]
         is_usual = self.data[command.end - 1:command.end] == sign
@@ -83,88 +108,48 @@ class Writer:
         else:
             self.drop(command)
             if not is_usual:
-                self.remarks.anew(command.start, f'{command.sign}{command.name}: other signs are written as the usual ones')
-
-    def stored(self, command):
-        """~DG and ~DY: a picture is kept."""
-        self.drop(command)
-        title, heads = command.title(), 3 if command.name == 'DG' else 5
-        parts = command.rest.split(command.comma, heads)
-        words = [it.translate(None, b'\r\n ').decode('latin-1') for it in parts[:heads]] + [''] * heads
-        kind, form = ('A', 'G') if command.name == 'DG' else (words[1].upper(), words[2].upper())
-        name = named(words[0], 'PNG' if form == 'P' else 'GRF')
-        if len(parts) <= heads or not name:
-            self.remarks.not_written(command.start, f'{title} has no name or no data')
-            return
-        numbers = [int(it) if it.isascii() and it.isdigit() and len(it) < 9 else 0 for it in words[heads - 2:heads]]
-        try:
-            if form == 'P' or kind == 'P':
-                body = bytes.fromhex(parts[heads].decode('latin-1')) if kind == 'A' and parts[heads][:1] != b'\x89' else parts[heads]
-                picture, why = of_image(body.lstrip(b'\r\n') if body[:2] == b'\r\n' else body)
-            elif form == 'G':
-                picture, why = read({'B': 'B', 'C': 'C'}.get(kind, 'A'), parts[heads], *numbers)
-            else:
-                self.remarks.not_written(command.start, f'{title} stores what is no picture: it is left out')
-                return
-        except (Bad, ValueError) as bad:
-            self.remarks.not_written(command.start, f'{title}: {bad if isinstance(bad, Bad) else "its digits are none"}')
-            return
-        if why:
-            self.remarks.not_written(command.start, f'{title}: {why}')
-        self.store.keep(name, picture)
-
-    def forgotten(self, command):
-        self.drop(command)
-        name = named(command.parameters()[0], 'GRF') if command.name == 'ID' else '*:*.GRF'
-        if name:
-            self.store.drop(name)
+                self.remarks.anew(command.start,
+                                  f'{command.sign}{command.name}: other signs are written as the usual ones')
 
     # ---- formats
 
-    def format(self, found):
+    def format(self, found: List[Command]) -> None:
         names = {it.name for it in found if it.sign == '^'}
         if 'DF' in names:
-            self.kept_format(found)
+            for command in found:
+                self.drop(command)
+            self.keeper.format(found, self.data)
             return
-        found = recalled(found, self.store, self.remarks)
-        quantity = next((it for it in reversed(found) if it.sign == '^' and it.name == 'PQ'), None)
-        count = quantity.number(0, 1, 1) if quantity else 1
-        is_counted = any(it.sign == '^' and it.name in ('SN', 'SF') for it in found)
+        if 'XF' in names:
+            for command in found:
+                self.drop(command)
+            found = self.recall.whole(found)
         self.stream.whole()
-        begin = len(self.stream.bytes)
-        if not is_counted:
-            self.fields(found)
+        begin = len(self.stream.new)
+        if any(it.sign == '^' and it.name in ('SN', 'SF') for it in found):
+            self.counted(found)
         else:
-            self.counted(found, count, max(1, quantity.number(2, 0, 0, 9999)) if quantity else 1)
+            self.fields(found)
         saves = [it for it in found if it.sign == '^' and it.name == 'IS']
         if saves:
             self.saved(saves[-1], begin, found)
 
-    def kept_format(self, found):
-        command = next(it for it in found if it.sign == '^' and it.name == 'DF')
-        name = named(command.parameters()[0], 'ZPL')
-        at = found.index(command)
-        body = b''.join(it.written() if not it.is_plain else self.data[it.start:it.end] for it in found[at + 1:-1])
-        for it in found:
-            self.drop(it)
-        if not name:
-            self.remarks.not_written(command.start, '^DF: a name that is none')
-        elif not self.store.keep(name, b'^XA' + body + b'^XZ'):
-            self.remarks.not_written(command.start, f'^DF: {name} is a name that no file has')
-        else:
-            self.remarks.anew(command.start, f'^DF: the format {name} is kept, and nothing is printed')
-
-    def counted(self, found, count, each):
+    def counted(self, found: List[Command]) -> None:
         """A format for each serial number, with its quantity."""
+        quantity = next((it for it in reversed(found) if it.sign == '^' and it.name == 'PQ'), None)
+        count = quantity.number(0, 1, 1) if quantity else 1
+        each = max(1, quantity.number(2, 0, 0, 9999)) if quantity else 1
         numbers = -(-count // each)
         first = next(it for it in found if it.sign == '^' and it.name in ('SN', 'SF'))
+        size = sum(len(it.rest) + 4 for it in found)
         self.remarks.anew(first.start, f'^{first.name}: a label is written for each number')
         for n in range(min(numbers, COPIES)):
-            if self.stream.is_full() or n * len(found) > 5 * MANY:
-                self.remarks.not_written(first.start, f'^{first.name}: only the first {n:,} of {numbers:,} numbers are written')
+            if self.stream.is_full() or n and not self.work.is_taken(size):
+                self.remarks.not_written(first.start,
+                                         f'^{first.name}: only the first {n:,} of {numbers:,} numbers are written')
                 return
-            own = found if n == 0 else [copied(it) for it in found]
-            out = []
+            own = found if n == 0 else [it.copied(it.start, it.end) for it in found]
+            out: List[Command] = []
             for field in fields(own):
                 for it in counted(field, n):
                     if it.sign == '^' and it.name == 'PQ':
@@ -172,40 +157,83 @@ class Writer:
                     out.append(it)
             self.fields(out)
         if numbers > COPIES:
-            self.remarks.not_written(first.start, f'^{first.name}: only the first {COPIES:,} of {numbers:,} numbers are written')
+            self.remarks.not_written(first.start,
+                                     f'^{first.name}: only the first {COPIES:,} of {numbers:,} numbers are written')
 
-    def fields(self, found):
+    def fields(self, found: List[Command]) -> None:
         for field in fields(found):
-            body = [it for it in field if it.sign == '^' and it.name in PARTS and it.name != 'XZ']
+            body = []
             for it in field:
                 if it.sign == '^' and it.name not in PARTS:
                     self.settings = changed(self.settings, it)
+                elif it.sign == '^' and it.name != 'XZ':
+                    body.append(it)
             self.field(field, body)
 
-    def field(self, field, body):
-        made = Field(body, self.settings, self).written() if body else None
+    def field(self, field: List[Command], body: List[Command]) -> None:
+        made = self.made(body) if body else None
+        own: Set[int] = {id(it) for it in body}
         if made is None:
             for it in field:
-                self.setting(it) if it not in body else self.keep(it)
+                if id(it) in own:
+                    self.keep(it)
+                else:
+                    self.setting(it)
             return
         last = None
         for it in field:
             if it.sign == '^' and it.name == 'XZ':
                 last = it
-            elif it in body:
-                self.drop(it) if it is body[0] else self.passed(it)
+            elif id(it) in own:
+                if it is body[0]:
+                    self.drop(it)
+                elif it.start >= self.at:
+                    # what stands before it goes with it
+                    self.at = it.end
             else:
                 self.setting(it)
-        self.stream.anew(made, body[0].start, body[-1].end)
+        self.stream.anew(made, body[0].start, max(body[0].start, body[-1].end))
         if last:
             self.keep(last)
 
-    def passed(self, command):
-        """A command in a field that is written anew, and what stands before it."""
-        if command.start >= self.at:
-            self.at = command.end
+    def made(self, body: List[Command]) -> Optional[bytes]:
+        """The bytes of a field, None where it stays. One that came before, with the same in force, is known."""
+        start, kept = body[0].start, self.kept
+        names, is_plain = {it.name for it in body}, all([it.is_plain for it in body])
+        if self.stream.is_full():
+            self.remarks.not_written(start, 'so much was written anew before this field that it stays as it came')
+            return None
+        if names & OTHERS:
+            return Field(body, self.settings, kept).written()
+        after = kept.after if 'FT' in names else None
+        what = self.data[start:body[-1].end] if is_plain else tuple(
+            [(it.name, it.font, it.rest, it.is_plain, it.is_exact, it.start - start) for it in body])
+        key = self.settings, after, what
+        found = self.known.get(key)
+        if not found:
+            found = self.told(Field(body, self.settings, kept), start)
+            size = len(found.data or b'') + sum([len(it.rest) for it in body])
+            if self.known_bytes + size > KNOWN:
+                self.known.clear()
+                self.known_bytes = 0
+            self.known[key] = found
+            self.known_bytes += size + 500
+        else:
+            kept.dots += found.dots
+        kept.after = found.after
+        for is_done, text, at in found.told:
+            self.remarks.add(start + at, is_done, text)
+        return found.data
 
-    def setting(self, command):
+    def told(self, field: Field, start: int) -> Made:
+        """What a field makes, and what of it is told."""
+        own, dots = Remarks(), self.kept.dots
+        field.remarks = own
+        data = field.written()
+        told = tuple((is_done, text, place - start) for (is_done, text), (place, _) in own.found.items())
+        return Made(data, told, self.kept.after, self.kept.dots - dots)
+
+    def setting(self, command: Command) -> None:
         name, title = command.name, command.sign + command.name
         if title in self.said:
             self.keep(command)
@@ -218,66 +246,40 @@ class Writer:
         elif name == 'IL':
             self.loaded(command)
         elif name in ('ID', 'EG'):
-            self.forgotten(command)
-        elif name == 'CI' and self.is_plain and command.is_plain and self.settings.choice in (0, 13, 27, 28, 31, 33, 34, 35, 36):
-            self.keep(command)
-        elif name in ('LS', 'LT') and command.is_plain and command.parameters()[0].lstrip('-0') == '':
-            self.keep(command)
-        elif name == 'MU' and command.is_plain and command.parameters()[0].upper() in ('', 'D') and len(command.parameters()) < 2:
+            self.drop(command)
+            self.keeper.forget(command)
+        elif command.is_plain and self.changes_nothing(command):
             self.keep(command)
         else:
             self.drop(command)
 
+    def changes_nothing(self, command: Command) -> bool:
+        """Whether a setting that is written into the fields asks for what is so without it."""
+        first = command.parameter(0)
+        if command.name == 'CI':
+            return self.is_plain and self.settings.choice in (0, 13, 27, 28, 31, 33, 34, 35, 36)
+        if command.name in ('LS', 'LT'):
+            return first.lstrip('-0') == ''
+        return command.name == 'MU' and first.upper() in ('', 'D') and len(command.parameters()) < 2
+
     # ---- labels that are kept as pictures
 
-    def loaded(self, command):
+    def loaded(self, command: Command) -> None:
         self.drop(command)
-        name = named(command.parameters()[0], 'GRF')
-        thing = self.store.find(name) if name else None
-        if thing is None or isinstance(thing, bytes):
-            self.remarks.not_written(command.start, f'^IL{command.parameters()[0]} loads a label that is not stored')
-            return
-        home = self.settings.home
-        out = b'^FO0,0' + thing.as_field() + b'^FS'
-        if home != (0, 0):
-            out = b'^LH0,0' + out + b'^LH%d,%d' % home
-        self.remarks.anew(command.start, f'^IL: the label {name} is written out')
-        self.stream.anew(out, command.start, command.end)
+        found = self.keeper.loaded(command, self.settings.home)
+        if found:
+            self.stream.anew(found, command.start, command.end)
 
-    def saved(self, command, begin, found):
+    def saved(self, command: Command, begin: int, found: List[Command]) -> None:
         """The label of the new stream from a byte on, as vp prints it; it is not printed where the command says so."""
-        name = named(command.parameters()[0], 'GRF')
         self.stream.whole()
-        out, _, _ = run(['label', *self.options.sheet], bytes(self.stream.bytes))
-        picture = last_image(out) if name else None
-        if not picture:
-            self.remarks.not_written(command.start, '^IS: there is no label to be stored')
-            return
-        self.store.keep(name, picture)
-        self.remarks.anew(command.start, f'^IS: the label is kept as {name}')
-        if command.letter(1, 'YN', 'Y') == 'N':
-            del self.stream.bytes[begin:]
-            pieces = [it for it in self.stream.pieces if it.start < begin]
-            if pieces and pieces[-1].end > begin:
-                cut = pieces[-1].end - begin
-                pieces[-1] = pieces[-1]._replace(end=begin, old_end=pieces[-1].old_end - cut * pieces[-1].same)
-            self.stream.pieces[:] = pieces
+        is_kept = self.keeper.save(command, bytes(self.stream.new))
+        if is_kept and command.letter(1, 'YN', 'Y') == 'N':
+            self.stream.cut(begin)
             # what it set stays in force
             own = [it for it in found if it.sign == '^' and it.name not in PARTS and it.name not in WRITTEN]
             self.stream.anew(b''.join(it.written() for it in own), found[0].start, found[-1].end)
 
 
-def last_image(out):
-    """The last image that vp put out."""
-    at, found = 0, None
-    while at < len(out):
-        end = out.index(b'\n', at + 3)
-        width, height = map(int, out[at + 3:end].split())
-        stride = (width + 7) // 8
-        data, at = out[end + 1:end + 1 + stride * height], end + 1 + stride * height
-        found = width, height, stride, data
-    if not found:
-        return None
-    width, height, stride, data = found
-    whole = Picture.of_bytes(data, stride, height)
-    return Picture(width, [row >> whole.width - width for row in whole.rows])
+def write(data: bytes, options: Options, written: Written, remarks: Remarks) -> None:
+    Writer(data, options, written, remarks).all()

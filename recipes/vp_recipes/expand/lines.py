@@ -1,36 +1,48 @@
-"""The lines of a receipt as they are written: what is set in them, and lines upside down as pictures of what vp prints."""
+"""The lines of a receipt as they are written: what is set in them, and those upside down as pictures."""
+from typing import Dict, Iterator, List, Optional, Tuple
+
 from .cells import Cells
+from .options import Options
 from .pictures import Picture
-from .receipts import units
+from .places import Written
+from .receipts import Unit, units
 from ..program import run
 
 # What sets how the next letters stand, and is said again before a line that vp prints on its own.
-STYLES = {'esc 20', 'esc 21', 'esc 2d', 'esc 45', 'esc 47', 'esc 4d', 'esc 61', 'esc 44', 'gs 21', 'gs 42', 'gs 4c', 'gs 57'}
+STYLES = {'esc 20', 'esc 21', 'esc 2d', 'esc 45', 'esc 47', 'esc 4d', 'esc 61', 'esc 44', 'gs 21', 'gs 42', 'gs 4c',
+          'gs 57'}
 WIDTH = 576
 # So many lines upside down are printed; those beyond stay upright.
 MOST = 500
 
 
 class Lines:
-    def __init__(self, options, stream):
-        self.options, self.stream, self.sheets, self.count = options, stream, {}, 0
+    """The lines of a receipt on their way into a stream: `styles` that are in force, the `spacing` of lines, the font's
+    `letter` and how many `times` as wide and high it is, where the `area` lies, and the `line` that is gathered, of old
+    bytes from one to another. So many lines upside down were printed (`count`)."""
+
+    def __init__(self, options: Options, stream: Written) -> None:
+        self.options, self.stream, self.count = options, stream, 0
+        self.sheets: Dict[str, Cells] = {}
         self.reset()
 
-    def reset(self):
-        self.styles, self.spacing, self.is_upside_down, self.line = {}, 34, False, None
+    def reset(self) -> None:
+        self.styles: Dict[str, bytes] = {}
+        self.spacing, self.is_upside_down = 34, False
+        self.line: Optional[Tuple[int, int, bytearray]] = None
         self.left, self.area = 0, WIDTH
         self.letter, self.times = 'a', (1, 1)
 
-    def is_full(self):
+    def is_full(self) -> bool:
         return self.count >= MOST
 
-    def font(self):
+    def font(self) -> str:
         return self.letter
 
-    def size(self):
+    def size(self) -> Tuple[int, int]:
         return self.times
 
-    def cells(self, letter):
+    def cells(self, letter: str) -> Cells:
         if letter not in self.sheets:
             words = self.options.sheet
             self.sheets[letter] = Cells(words, letter if f'--font-{letter}' in words else 'a')
@@ -38,11 +50,11 @@ class Lines:
 
     # ---- what comes
 
-    def keep(self, unit):
+    def keep(self, unit: Unit) -> None:
         """A unit as it came."""
         if unit.kind == 'command':
             self.styled(unit)
-        ends = unit.kind == 'control' and unit.name == '0a' or unit.kind == 'command' and unit.name in ('esc 4a', 'esc 64')
+        ends = (unit.kind, unit.name) in (('control', '0a'), ('command', 'esc 4a'), ('command', 'esc 64'))
         if self.is_upside_down and ends:
             self.turned_line(unit)
         elif self.is_upside_down and unit.kind != 'command':
@@ -53,7 +65,7 @@ class Lines:
             self.end()
             self.stream.keep(unit.start, unit.end)
 
-    def keep_bytes(self, start, end):
+    def keep_bytes(self, start: int, end: int) -> None:
         if start == end:
             return
         if self.is_upside_down:
@@ -61,14 +73,14 @@ class Lines:
         else:
             self.stream.keep(start, end)
 
-    def anew(self, data, start, end):
+    def anew(self, data: bytes, start: int, end: int) -> None:
         if self.is_upside_down and not data.startswith(b'\x1d'):
             self.gather(start, end, data)
         else:
             self.end()
             self.stream.anew(data, start, end)
 
-    def styled(self, unit):
+    def styled(self, unit: Unit) -> None:
         name, arguments = unit.name, unit.arguments
         if name in STYLES and not (self.is_upside_down and self.line):
             self.styles.pop(name, None)
@@ -87,33 +99,32 @@ class Lines:
 
     # ---- lines upside down
 
-    def upside_down(self, is_so, left, area):
+    def upside_down(self, is_so: bool, left: int, area: int) -> None:
         if is_so != self.is_upside_down and not (self.line and is_so is False):
             self.end()
         elif self.line:
             self.end()
         self.is_upside_down, self.left, self.area = is_so and self.count < MOST, left, area
 
-    def gather(self, start, end, data):
-        old = self.line or (start, end, b'')
-        self.line = old[0], end, old[2] + data
+    def gather(self, start: int, end: int, data: bytes) -> None:
+        first, _, gathered = self.line or (start, end, bytearray())
+        gathered += data
+        self.line = first, end, gathered
 
-    def end(self):
+    def end(self) -> None:
         """What stands in a line that nothing ended, as it came."""
         if self.line:
             start, end, data = self.line
             self.line = None
-            self.stream.anew(data, start, end)
+            self.stream.anew(bytes(data), start, end)
 
-    def turned_line(self, unit):
+    def turned_line(self, unit: Unit) -> None:
         """The line that a unit ends: a picture of it, turned about, and the feed."""
-        start, end, data = self.line or (unit.start, unit.end, b'')
-        self.line = None
-        found = [Picture(0, [])]
+        start, _, gathered = self.line or (unit.start, unit.end, bytearray())
+        self.line, data = None, bytes(gathered)
         self.count += 1
         self.is_upside_down = self.count < MOST
-        if data:
-            found = self.printed(data)
+        found = self.printed(data) if data else [Picture(0, [])]
         feed = {'0a': self.spacing, 'esc 4a': 0, 'esc 64': 0}[unit.name]
         count = unit.arguments[0] if unit.arguments else 0
         feed = count if unit.name == 'esc 4a' else self.spacing * count if unit.name == 'esc 64' else feed
@@ -125,21 +136,21 @@ class Lines:
             while left > 0:
                 out += b'\x1bJ' + bytes([min(left, 255)])
                 left -= 255
-        for name, data in self.later(data):
-            self.styles[name] = data
+        self.styles.update(self.later(data))
         self.stream.anew(out, start, unit.end)
 
-    def later(self, data):
+    def later(self, data: bytes) -> Iterator[Tuple[str, bytes]]:
         """The styles that a line set, which hold behind it."""
         for it in units(data):
             if it.kind == 'command' and it.name in STYLES:
                 yield it.name, data[it.start:it.end]
 
-    def printed(self, data):
+    def printed(self, data: bytes) -> List[Picture]:
         """The strips that vp prints of a line, each as wide as the line."""
         stream = b''.join(self.styles.values()) + b'\x1b3\0' + data + b'\n'
         out, _, _ = run(['receipt', *self.options.sheet], stream)
-        room, at, found = min(self.area, WIDTH - self.left), 0, []
+        room, at = min(self.area, WIDTH - self.left), 0
+        found: List[Picture] = []
         while at < len(out):
             stop = out.index(b'\n', at + 3)
             width, height = map(int, out[at + 3:stop].split())

@@ -1,15 +1,20 @@
-"""Pictures of dots: turned, magnified, cut, read of codes and packed data, and written as labels and receipts take them."""
+"""Pictures of dots: turned, magnified, cut, read of codes and packed data, written as a language takes them."""
 import base64
 import binascii
 import itertools
 import re
 import zlib
+from typing import Dict, List, NamedTuple, Optional, Sequence, Tuple
 
 LETTERS = {**{letter: n for n, letter in enumerate(b'GHIJKLMNOPQRSTUVWXY', 1)},
            **{letter: 20 * n for n, letter in enumerate(b'ghijklmnopqrstuvwxyz', 1)}}
 ONES, TWENTIES = 'GHIJKLMNOPQRSTUVWXY', 'ghijklmnopqrstuvwxyz'
+# Digits that repeat.
+RUN = re.compile(r'(.)\1+')
 # What a picture may have at most: the widest row that a label reads, in bytes, and all of its bytes.
 WIDEST, MOST = 1024, 4 << 20
+# What a PNG may unpack to.
+MOST_IMAGE = 16 << 20
 
 
 class Bad(Exception):
@@ -17,29 +22,40 @@ class Bad(Exception):
 
 
 class Picture:
-    """Rows of so many dots, each a number whose highest bit is the leftmost dot."""
+    """`rows` of `width` dots, each a number whose highest bit is the leftmost dot; they stay as they are."""
+    __slots__ = ('width', 'rows', 'field', 'raster')
 
-    def __init__(self, width, rows):
+    def __init__(self, width: int, rows: List[int]) -> None:
         self.width, self.rows = width, rows
+        self.field: Optional[bytes] = None
+        self.raster: Optional[bytes] = None
 
     @property
-    def height(self):
+    def height(self) -> int:
         return len(self.rows)
 
     @classmethod
-    def of_bytes(cls, data, stride, height):
+    def of_bytes(cls, data: bytes, stride: int, height: int) -> 'Picture':
         data = data.ljust(stride * height, b'\0')
-        return cls(8 * stride, [int.from_bytes(data[stride * y:stride * y + stride], 'big') for y in range(height)])
+        return cls(8 * stride, [int.from_bytes(data[n:n + stride], 'big') for n in range(0, stride * height, stride)])
 
     @classmethod
-    def of_texts(cls, texts):
+    def of_texts(cls, texts: Sequence[str]) -> 'Picture':
         """Of rows of 0 and 1."""
-        return cls(len(texts[0]) if texts else 0, [int(it or '0', 2) for it in texts])
+        numbers = {it: int(it or '0', 2) for it in set(texts)}
+        return cls(len(texts[0]) if texts else 0, [numbers[it] for it in texts])
 
-    def texts(self):
-        return [f'{row:0{self.width}b}' for row in self.rows] if self.width else ['' for _ in self.rows]
+    def texts(self) -> List[str]:
+        if not self.width:
+            return ['' for _ in self.rows]
+        shown = {row: f'{row:0{self.width}b}' for row in set(self.rows)}
+        return [shown[row] for row in self.rows]
 
-    def turned(self, way):
+    def cropped(self, width: int) -> 'Picture':
+        """Its first so many columns."""
+        return Picture(width, [row >> self.width - width for row in self.rows])
+
+    def turned(self, way: str) -> 'Picture':
         """Turned clockwise: N, R, I or B."""
         if way == 'N' or not self.rows:
             return self
@@ -49,18 +65,23 @@ class Picture:
         columns = [''.join(it) for it in zip(*(reversed(texts) if way == 'R' else texts))]
         return Picture.of_texts(columns if way == 'R' else columns[::-1])
 
-    def magnified(self, across, down):
+    def magnified(self, across: int, down: int) -> 'Picture':
         if across == 1 and down == 1:
             return self
-        rows = [int(''.join(dot * across for dot in it) or '0', 2) for it in self.texts()] if across > 1 else self.rows
+        rows = self.rows
+        if across > 1:
+            dots = {0x30: '0' * across, 0x31: '1' * across}
+            rows = Picture.of_texts([it.translate(dots) for it in self.texts()]).rows
         return Picture(self.width * across, [row for row in rows for _ in range(down)])
 
-    def cut(self, left, top):
+    def cut(self, left: int, top: int) -> 'Picture':
         """Without so many columns at its left and rows at its top."""
+        if not left and not top:
+            return self
         width = max(0, self.width - left)
         return Picture(width, [row & (1 << width) - 1 for row in self.rows[top:]])
 
-    def joined(self, other, x, y):
+    def joined(self, other: 'Picture', x: int, y: int) -> 'Picture':
         """With another picture laid over it; it grows to the right and below."""
         width, height = max(self.width, x + other.width), max(self.height, y + other.height)
         rows = [row << width - self.width for row in self.rows] + [0] * (height - self.height)
@@ -68,41 +89,55 @@ class Picture:
             rows[n] |= row << width - x - other.width
         return Picture(width, rows)
 
-    def stride(self):
+    def stride(self) -> int:
         return (self.width + 7) // 8
 
-    def bytes(self):
+    def data(self) -> bytes:
+        """Its rows in whole bytes."""
         stride = self.stride()
         return b''.join((row << 8 * stride - self.width).to_bytes(stride, 'big') for row in self.rows)
 
-    def as_field(self):
+    def as_field(self) -> bytes:
         """The picture as ^GF, in run-length codes."""
-        stride, codes, before = self.stride(), [], None
-        for row in self.rows:
-            if row == before:
-                codes.append(':')
-                continue
-            digits, rest = (row << 8 * stride - self.width).to_bytes(stride, 'big').hex().upper(), ''
-            for digit, sign in ('0', ','), ('F', '!'):
-                if digits.endswith(digit):
-                    digits, rest = digits.rstrip(digit), sign
-                    break
-            codes.append(''.join(counted(digit, len(list(run))) for digit, run in itertools.groupby(digits)) + rest)
-            before = row
-        found = ''.join(codes)
-        return f'^GFA,{len(found)},{stride * self.height},{stride},{found}'.encode('ascii')
+        if self.field is None:
+            stride, before, shift = self.stride(), None, 8 * self.stride() - self.width
+            codes: List[str] = []
+            known: Dict[int, str] = {}
+            for row in self.rows:
+                if row == before:
+                    codes.append(':')
+                    continue
+                if row not in known:
+                    known[row] = coded((row << shift).to_bytes(stride, 'big').hex().upper())
+                codes.append(known[row])
+                before = row
+            found = ''.join(codes)
+            self.field = f'^GFA,{len(found)},{stride * self.height},{stride},{found}'.encode('ascii')
+        return self.field
 
-    def as_raster(self):
+    def as_raster(self) -> bytes:
         """The picture as GS v 0, in parts of at most 65,535 rows."""
-        stride, data, out = self.stride(), self.bytes(), b''
-        for y in range(0, self.height, 0xFFFF):
-            rows = min(0xFFFF, self.height - y)
-            out += (b'\x1dv0\0' + stride.to_bytes(2, 'little') + rows.to_bytes(2, 'little')
-                    + data[y * stride:(y + rows) * stride])
-        return out
+        if self.raster is None:
+            stride, data, out = self.stride(), self.data(), []
+            for y in range(0, self.height, 0xFFFF):
+                rows = min(0xFFFF, self.height - y)
+                out.append(b'\x1dv0\0' + stride.to_bytes(2, 'little') + rows.to_bytes(2, 'little')
+                           + data[y * stride:(y + rows) * stride])
+            self.raster = b''.join(out)
+        return self.raster
 
 
-def counted(digit, count):
+def coded(digits: str) -> str:
+    """The hex digits of a row, in run-length codes."""
+    rest = ''
+    for digit, sign in ('0', ','), ('F', '!'):
+        if digits.endswith(digit):
+            digits, rest = digits.rstrip(digit), sign
+            break
+    return RUN.sub(lambda run: counted(run[1], run.end() - run.start()), digits) + rest
+
+
+def counted(digit: str, count: int) -> str:
     text = ''
     while count > 419:
         text, count = text + 'z' + 'Y' + digit, count - 419
@@ -111,12 +146,13 @@ def counted(digit, count):
                    if count > 1 else digit)
 
 
-def of_codes(codes, stride, height):
-    """The bytes of a picture in hex digits and run-length codes. What is wrong ends it: the bytes up to there, and why."""
-    places, digits, row, count = 2 * stride, bytearray(), 0, 0
+def of_codes(codes: bytes, stride: int, height: int) -> Tuple[bytes, Optional[str]]:
+    """The bytes of a picture in hex digits and run-length codes. What is wrong ends it: the bytes, and why."""
+    places, digits, count = 2 * stride, bytearray(), 0
     need = places * height
     plain = re.compile(rb'[0-9A-Fa-f]+')
-    at, why = 0, None
+    why: Optional[str] = None
+    at = 0
     while at < len(codes) and len(digits) < need:
         code = codes[at]
         run = plain.match(codes, at) if not count else None
@@ -144,9 +180,10 @@ def of_codes(codes, stride, height):
     return bytes.fromhex(digits[:need].decode('ascii')), why
 
 
-def unpacked(text, most):
+def unpacked(text: bytes, most: int) -> Tuple[bytes, Optional[str]]:
     """The bytes of `:Z64:` or `:B64:` data, at most so many: they and what is wrong, or why they can't be had."""
-    found = re.fullmatch(rb':(Z64|B64):([A-Za-z0-9+/]*={0,2})(?::([0-9A-Fa-f]{4}))?.*', text.translate(None, b'\r\n \t'),
+    found = re.fullmatch(rb':(Z64|B64):([A-Za-z0-9+/]*={0,2})(?::([0-9A-Fa-f]{4}))?.*',
+                         text.translate(None, b'\r\n \t'),
                          re.IGNORECASE | re.DOTALL)
     if not found:
         raise Bad('its packed data are cut or have a sign that is none')
@@ -164,7 +201,7 @@ def unpacked(text, most):
     return data[:most], why
 
 
-def inflated(data, most, why=None):
+def inflated(data: bytes, most: int, why: Optional[str] = None) -> Tuple[bytes, Optional[str]]:
     packer = zlib.decompressobj()
     try:
         out = packer.decompress(data, most + 1)
@@ -175,8 +212,9 @@ def inflated(data, most, why=None):
     return out, why if packer.eof else why or 'its packed data are cut'
 
 
-def read(kind, data, total, stride):
-    """A picture of a head and its data: `kind` A in codes, B in bytes, C packed. The picture, and what is wrong or None."""
+def read(kind: str, data: bytes, total: int, stride: int) -> Tuple[Picture, Optional[str]]:
+    """A picture of a head and its data: `kind` A in codes, B in bytes, C packed. The picture, and what is wrong or
+    None."""
     if not stride or not 0 < stride <= WIDEST or not total or total < stride:
         raise Bad('its head has no size')
     if total > MOST:
@@ -195,61 +233,97 @@ def read(kind, data, total, stride):
     return Picture.of_bytes(found, stride, height), why
 
 
-def of_image(data):
-    """A picture of a PNG: what is darker than grey, and not clear, is black."""
+class Head(NamedTuple):
+    """A PNG's size in dots, the bits of a value, its kind of colour, the values of a dot, the bytes of a row."""
+    width: int
+    height: int
+    depth: int
+    colour: int
+    channels: int
+    stride: int
+
+
+def head_of(data: bytes) -> Head:
+    """The head of a PNG; raises Bad."""
     if data[:8] != b'\x89PNG\r\n\x1a\n':
         raise Bad('it is no PNG')
-    at, packed, palette, head = 8, b'', [], None
+    if data[12:16] != b'IHDR' or len(data) < 33:
+        raise Bad('it is a PNG without a head')
+    width, height = int.from_bytes(data[16:20], 'big'), int.from_bytes(data[20:24], 'big')
+    depth, colour, interlaced = data[24], data[25], data[28]
+    channels = {0: 1, 2: 3, 3: 1, 4: 2, 6: 4}.get(colour, 0)
+    stride = (width * channels * depth + 7) // 8
+    is_read = channels and not interlaced and depth in (1, 2, 4, 8)
+    if not is_read or not 0 < width <= 8 * WIDEST or not 0 < stride * height <= MOST_IMAGE:
+        raise Bad('it is a PNG of a kind or a size that is not read')
+    return Head(width, height, depth, colour, channels, stride)
+
+
+def size_of_image(data: bytes) -> int:
+    """How many bytes a PNG unpacks to; raises Bad."""
+    head = head_of(data)
+    return head.stride * head.height
+
+
+def of_image(data: bytes) -> Tuple[Picture, Optional[str]]:
+    """A picture of a PNG: what is darker than grey, and not clear, is black."""
+    width, height, depth, colour, channels, stride = head_of(data)
+    at, packed = 8, []
+    palette: List[bool] = []
     while at + 12 <= len(data):
         size, kind = int.from_bytes(data[at:at + 4], 'big'), data[at + 4:at + 8]
         body = data[at + 8:at + 8 + size]
-        if kind == b'IHDR' and size == 13:
-            head = body
-        elif kind == b'PLTE':
+        if kind == b'PLTE':
             palette = [sum(body[n:n + 3]) < 384 for n in range(0, len(body) - 2, 3)]
         elif kind == b'IDAT':
-            packed += body
+            packed.append(body)
         at += 12 + size
-    if not head:
-        raise Bad('it is a PNG without a head')
-    width, height = int.from_bytes(head[:4], 'big'), int.from_bytes(head[4:8], 'big')
-    depth, colour, interlaced = head[8], head[9], head[12]
-    channels = {0: 1, 2: 3, 3: 1, 4: 2, 6: 4}.get(colour)
-    if not channels or interlaced or depth not in (1, 2, 4, 8) or not 0 < width <= 8 * WIDEST or width * height > 8 * MOST:
-        raise Bad('it is a PNG of a kind or a size that is not read')
-    stride = (width * channels * depth + 7) // 8
-    flat, why = inflated(packed, (stride + 1) * height)
-    rows, before, step = [], bytes(stride), max(1, channels * depth // 8)
+    flat, why = inflated(b''.join(packed), (stride + 1) * height)
+    before, step = bytes(stride), max(1, channels * depth // 8)
+    rows: List[bytes] = []
     for y in range(height):
         line = flat[y * (stride + 1):(y + 1) * (stride + 1)].ljust(stride + 1, b'\0')
-        before = unfiltered(line[0], bytearray(line[1:]), before, step)
+        before = bytes(unfiltered(line[0], bytearray(line[1:]), before, step)) if line[0] else line[1:]
         rows.append(before)
+    if depth == 1:
+        return of_bits(rows, width, [True, False] if colour == 0 else palette), why
     return Picture.of_texts([dots_of(row, width, depth, colour, palette) for row in rows]), why
 
 
-def unfiltered(kind, line, before, step):
+def of_bits(rows: List[bytes], width: int, is_black: List[bool]) -> Picture:
+    """Of rows of one bit a dot, by which of the two is black."""
+    clear, black = (is_black + [False, False])[:2]
+    full = (1 << width) - 1
+    bits = [int.from_bytes(row, 'big') >> 8 * len(row) - width for row in rows]
+    return Picture(width, [(row if black else 0) | (full ^ row if clear else 0) for row in bits])
+
+
+def unfiltered(kind: int, line: bytearray, before: bytes, step: int) -> bytearray:
+    """A row of a PNG, whose values are told by those to the left and above."""
     if kind == 1:
-        for n in range(step, len(line)):
-            line[n] = line[n] + line[n - step] & 255
+        for n in range(step):
+            line[n::step] = bytes(it & 255 for it in itertools.accumulate(line[n::step]))
     elif kind == 2:
-        line = bytearray(a + b & 255 for a, b in zip(line, before))
-    elif kind in (3, 4):
+        return bytearray(a + b & 255 for a, b in zip(line, before))
+    elif kind == 3:
+        for n, up in enumerate(before):
+            line[n] = line[n] + ((line[n - step] if n >= step else 0) + up) // 2 & 255
+    elif kind == 4:
         for n, up in enumerate(before):
             left, corner = (line[n - step], before[n - step]) if n >= step else (0, 0)
-            guess = (left + up) // 2
-            if kind == 4:
-                guess = min((left, up, corner), key=lambda it: abs(left + up - corner - it))
+            by_left, by_up, by_corner = abs(up - corner), abs(left - corner), abs(left + up - 2 * corner)
+            guess = left if by_left <= by_up and by_left <= by_corner else up if by_up <= by_corner else corner
             line[n] = line[n] + guess & 255
     return line
 
 
-def dots_of(row, width, depth, colour, palette):
+def dots_of(row: bytes, width: int, depth: int, colour: int, palette: List[bool]) -> str:
+    """A row of a PNG as 0 and 1."""
+    values: Sequence[int] = row
     if depth < 8:
         bits = ''.join(f'{it:08b}' for it in row)
         values = [int(bits[n:n + depth], 2) for n in range(0, width * depth, depth)]
         values = [it * 255 // ((1 << depth) - 1) for it in values] if colour == 0 else values
-    else:
-        values = row
     if colour == 3:
         return ''.join('1' if it < len(palette) and palette[it] else '0' for it in values[:width])
     if colour == 0:

@@ -3,30 +3,37 @@
 A place in vp's lines is a number of bytes that were taken; in a map, pieces are told by their first byte and the one
 behind their last, counted from 0.
 """
-import bisect
 import re
-from collections import namedtuple
+from typing import List, NamedTuple, Sequence
 
-from ..program import Fault
+from ..faults import Fault, shown
 
-# Bytes of the new stream and the old ones that they come from; `same` where they are those again.
-Piece = namedtuple('Piece', 'start end old_start old_end same')
+
+class Piece(NamedTuple):
+    """Bytes of the new stream and the old ones that they come from; `same` where they are those again."""
+    start: int
+    end: int
+    old_start: int
+    old_end: int
+    same: bool
+
 
 # So many bytes are written anew at most.
 MOST = 16 << 20
 
 
 class Written:
-    """A new stream as it is written: its bytes and their pieces."""
+    """A new stream as it is written, `new`, and its `pieces`. Of `old` bytes those from `start` to `end` are kept,
+    and not written yet; so many were written `otherwise`."""
 
-    def __init__(self, old):
-        # old bytes from `start` to `end` are kept, and not written yet
-        self.old, self.bytes, self.pieces, self.start, self.end = old, bytearray(), [], 0, 0
+    def __init__(self, old: bytes) -> None:
+        self.old, self.new, self.start, self.end, self.otherwise = old, bytearray(), 0, 0, 0
+        self.pieces: List[Piece] = []
 
-    def is_full(self):
-        return len(self.bytes) > MOST
+    def is_full(self) -> bool:
+        return self.otherwise > MOST
 
-    def keep(self, start, end):
+    def keep(self, start: int, end: int) -> None:
         """Old bytes as they came."""
         if start == self.end and self.start < self.end:
             self.end = end
@@ -34,56 +41,74 @@ class Written:
             self.whole()
             self.start, self.end = start, end
 
-    def whole(self):
+    def whole(self) -> None:
         """Writes what is kept: the bytes and their pieces stand."""
         if self.start < self.end:
-            at = len(self.bytes)
-            self.bytes += self.old[self.start:self.end]
-            self.pieces.append(Piece(at, len(self.bytes), self.start, self.end, True))
+            at = len(self.new)
+            self.new += self.old[self.start:self.end]
+            self.pieces.append(Piece(at, len(self.new), self.start, self.end, True))
             self.start = self.end
 
-    def anew(self, data, start, end):
+    def anew(self, data: bytes, start: int, end: int) -> None:
         """Other bytes in place of old ones."""
         if data:
             self.whole()
-            at = len(self.bytes)
-            self.bytes += data
-            self.pieces.append(Piece(at, len(self.bytes), start, end, False))
+            at = len(self.new)
+            self.new += data
+            self.otherwise += len(data)
+            self.pieces.append(Piece(at, len(self.new), start, end, False))
+
+    def cut(self, begin: int) -> None:
+        """Takes back what was written from a byte of the new stream on."""
+        del self.new[begin:]
+        pieces = [it for it in self.pieces if it.start < begin]
+        if pieces and pieces[-1].end > begin:
+            last = pieces[-1]
+            pieces[-1] = last._replace(end=begin, old_end=last.old_end - (last.end - begin) * last.same)
+        self.pieces[:] = pieces
 
 
-def old_place(pieces, place):
+def old_place(pieces: Sequence[Piece], place: int) -> int:
     """How many bytes of the old stream were taken where so many of the new one were."""
-    ends = [it.end for it in pieces]
-    n = bisect.bisect_left(ends, place)
     if place <= 0 or not pieces:
         return 0
-    if n == len(pieces):
+    first, behind = 0, len(pieces)
+    while first < behind:
+        middle = (first + behind) // 2
+        if pieces[middle].end < place:
+            first = middle + 1
+        else:
+            behind = middle
+    if first == len(pieces):
         return pieces[-1].old_end + place - pieces[-1].end
-    piece = pieces[n]
+    piece = pieces[first]
     return piece.old_start + place - piece.start if piece.same else piece.old_end
 
 
-def told(line, pieces):
+def told(line: str, pieces: Sequence[Piece]) -> str:
     """A line of vp, its fault's or one of a listing with places, in the bytes of the old stream."""
-    found = re.match(r'(vp: F\d+ after )(\d+)( bytes: .*)', line, re.DOTALL) or re.match(r'()(\d+)( .*)', line, re.DOTALL)
+    found = re.match(r'(vp: F\d+ after |)(\d+)( bytes: .*| .*)', line, re.DOTALL)
     return f'{found[1]}{old_place(pieces, int(found[2]))}{found[3]}' if found else line
 
 
-def as_file(pieces):
+def as_file(pieces: Sequence[Piece]) -> str:
     """The map: a line for each piece, of the new stream its first byte and the one behind its last, the same of the
     old one, and whether it is the same or was written anew."""
     return ''.join(f'{a} {b} {c} {d} {"same" if same else "anew"}\n' for a, b, c, d, same in pieces)
 
 
-def of_file(text, name):
-    pieces, at = [], 0
+def of_file(text: str, name: str) -> List[Piece]:
+    """The pieces of a map's text; a Fault names the line that is none."""
+    pieces: List[Piece] = []
+    at = 0
     for n, line in enumerate(text.splitlines(), 1):
         words = line.split(' ')
         if len(words) != 5 or not all(it.isdecimal() for it in words[:4]) or words[4] not in ('same', 'anew'):
-            raise Fault(f'{name}: line {n} is no piece of a map')
-        piece = Piece(*map(int, words[:4]), words[4] == 'same')
+            raise Fault(f'{shown(name)}: line {n} is no piece of a map')
+        start, end, old_start, old_end = map(int, words[:4])
+        piece = Piece(start, end, old_start, old_end, words[4] == 'same')
         if piece.start != at or piece.end <= at or piece.old_end < piece.old_start:
-            raise Fault(f"{name}: line {n} doesn't go on where the piece before it ends")
+            raise Fault(f"{shown(name)}: line {n} doesn't go on where the piece before it ends")
         pieces.append(piece)
         at = piece.end
     return pieces

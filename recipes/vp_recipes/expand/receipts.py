@@ -1,39 +1,49 @@
 """The commands of a receipt's stream, by the grammar of docs/escpos.md and the lengths of those that it leaves out."""
 import re
-from collections import namedtuple
+from typing import Dict, Iterator, NamedTuple, Optional, Tuple
 
-# Bytes `start` to `end`: a text, a control byte, or a command by its name as the listing has it (lead and next byte, of
-# GS ( the third too), whose arguments are the bytes behind that.
-Unit = namedtuple('Unit', 'kind name start end arguments')
+
+class Unit(NamedTuple):
+    """Bytes `start` to `end`: a text, a control byte, a text for the customer's display, or a command by its name as
+    the listing has it (lead and next byte, of families the third too), whose arguments are the bytes behind that."""
+    kind: str
+    name: str
+    start: int
+    end: int
+    arguments: bytes
+
 
 LEADS = {0x1B: 'esc', 0x1D: 'gs', 0x1C: 'fs', 0x10: 'dle'}
 TEXT = re.compile(rb'[\x20-\xff]+')
+# What ends a text for the display: ESC = with the printer's bit.
+LISTENS = re.compile(rb'\x1b=[%s]' % re.escape(bytes(range(1, 256, 2))))
 # How many bytes each command takes behind its name. Those below the line the profile hasn't.
 FIXED = {
-    'esc': {0: '2 @ L S i m \x0c', 1: '! - 3 E G J d M T a % ? R t = U r { V \x20', 2: '$ \\', 3: 'p', 8: 'W'},
+    'esc': {0: '2 @ L S i m \x0c', 1: '! - 3 E G J d M T a % ? R t = U r { V', 2: '$ \\', 3: 'p', 8: 'W'},
     'gs': {1: '! B H f h w a r I b', 2: '$ L W P \\'},
     'fs': {0: '. &', 1: '! - C W', 2: 'S p'},
     'dle': {1: '\x05'},
 }
 BEYOND = {
-    'esc': {0: '< v 4 5', 1: 'K e l Q u', 2: 'B'},
-    'gs': {0: ': c \x05', 1: '/ E T j', 3: '^ z'},
-    'fs': {2: '?'},
+    'esc': {0: '< v 4 5 o q', 1: 'K e l Q u F z 8 9 A', 2: 'B f', 3: 'C 7'},
+    'gs': {0: ': c i < \x05 \x0c', 1: '/ E T j | \x03 \x04', 2: 'A', 3: '^ z'},
+    'fs': {0: 'c', 1: 'b', 2: '?', 74: '2'},
 }
 
 
-def sizes(tables):
-    return {(lead, ord(sign) if sign != '\x20' else 0x20): count
-            for table in tables for lead, counts in table.items() for count, signs in counts.items()
-            for sign in (signs.split(' ') if signs != '\x20' else [signs]) if sign}
+def sizes(*tables: Dict[str, Dict[int, str]]) -> Dict[Tuple[str, int], int]:
+    return {(lead, ord(sign)): count for table in tables for lead, counts in table.items()
+            for count, signs in counts.items() for sign in signs.split(' ')}
 
 
-SIZES = sizes([FIXED, BEYOND])
-SIZES['esc', 0x20] = 1
-WORD = lambda data, at: int.from_bytes(data[at:at + 2], 'little')
+SIZES = {**sizes(FIXED, BEYOND), ('esc', 0x20): 1}
 
 
-def rising(data, at):
+def word(data: bytes, at: int) -> int:
+    return int.from_bytes(data[at:at + 2], 'little')
+
+
+def rising(data: bytes, at: int) -> Optional[int]:
     """How many bytes the tab stops at a place take: up to one that doesn't rise, or the 32nd."""
     last = 0
     for n in range(32):
@@ -45,68 +55,109 @@ def rising(data, at):
     return 32
 
 
-def measured(lead, name, data, at):
+# How many bytes an argument stands for, by the first one: commands whose length it says.
+BY_FIRST: Dict[Tuple[str, str], Dict[int, int]] = {
+    ('esc', 'c'): dict.fromkeys(b'01345', 2),
+    ('gs', 'V'): {**dict.fromkeys((0, 1, 48, 49), 1), **dict.fromkeys(b'ABabgh', 2)},
+    ('gs', 'g'): dict.fromkeys(b'02', 4),
+    ('gs', 'C'): {48: 3, 49: 7, 50: 3},
+    ('fs', 'a'): {48: 2, 49: 1, 50: 1},
+}
+# Those for which another first byte has a length too.
+OTHERWISE: Dict[Tuple[str, str], Tuple[Dict[int, int], int]] = {
+    ('dle', '\x04'): (dict.fromkeys((7, 8, 18), 2), 1),
+    ('dle', '\x14'): ({1: 3, 2: 3, 3: 6, 7: 2, 8: 8}, 3),
+}
+
+
+def measured(lead: str, name: str, data: bytes, at: int) -> Optional[int]:
     """How many bytes a command takes behind its two bytes, that says so itself; None where the stream ends before it
     says, -1 where there is no such command."""
-    def byte(n):
-        return data[at + n] if at + n < len(data) else None
-
-    def within(*needed):
-        return all(at + n < len(data) for n in needed)
-
-    key = lead, name
+    key, rest = (lead, name), len(data) - at
     if key == ('esc', 'D'):
         return rising(data, at)
-    if key == ('esc', '*'):
-        if not within(0):
-            return None
-        return (3 + WORD(data, at + 1) * (3 if byte(0) > 1 else 1) if within(2) else None) \
-            if byte(0) in (0, 1, 32, 33) else -1
-    if key == ('esc', 'c'):
-        return None if not within(0) else 2 if byte(0) in b'01345' else -1
-    if key == ('esc', '&'):
-        return user_characters(data, at)
-    if key == ('gs', 'V'):
-        return None if not within(0) else 1 if byte(0) in (0, 1, 48, 49) else 2 if byte(0) in b'ABabgh' else -1
-    if key == ('gs', 'v'):
-        if within(0) and byte(0) != 48:
-            return -1
-        return 6 + WORD(data, at + 2) * WORD(data, at + 4) if within(5) else None
-    if key == ('gs', 'k'):
-        if not within(0):
-            return None
-        if byte(0) <= 6:
-            end = data.find(b'\0', at + 1)
-            return end + 1 - at if end >= 0 else None
-        return -1 if not 65 <= byte(0) <= 79 else 2 + byte(1) if within(1) else None
-    if key == ('gs', '('):
-        return 3 + WORD(data, at + 1) if within(2) else None
-    if key == ('gs', '8'):
-        if within(0) and byte(0) != 0x4C:
-            return -1
-        return 5 + int.from_bytes(data[at + 1:at + 5], 'little') if within(4) else None
-    if key == ('gs', '*'):
-        return 2 + 8 * byte(0) * byte(1) if within(1) else None
-    if key == ('gs', 'Q'):
-        return 6 + WORD(data, at + 2) * WORD(data, at + 4) if within(5) else None
-    if key == ('gs', 'g'):
-        return None if not within(0) else 4 if byte(0) in b'02' else -1
-    if key == ('gs', 'C'):
-        return {48: 3, 49: 7, 50: 3}.get(byte(0), -1) if within(0) else None
-    if key == ('fs', 'q'):
-        return kept_pictures(data, at)
-    if key == ('dle', '\x04'):
-        return None if not within(0) else 2 if byte(0) in (7, 8, 18) else 1
-    if key == ('dle', '\x14'):
-        return {1: 3, 2: 3, 3: 6, 7: 2, 8: 8}.get(byte(0), 3) if within(0) else None
-    return -1
+    if rest < 1:
+        return None if key in MEASURED or key in BY_FIRST or key in OTHERWISE or name == '(' else -1
+    first = data[at]
+    if key in BY_FIRST and (first in BY_FIRST[key] or key != ('gs', 'C')):
+        return BY_FIRST[key].get(first, -1)
+    if key in OTHERWISE:
+        lengths, other = OTHERWISE[key]
+        return lengths.get(first, other)
+    if name == '(' and lead != 'dle':
+        return 3 + word(data, at + 1) if rest > 2 else None
+    return MEASURED[key](data, at, first) if key in MEASURED else -1
 
 
-def user_characters(data, at):
+def columns(data: bytes, at: int, kind: int) -> Optional[int]:
+    """ESC *."""
+    if kind not in (0, 1, 32, 33):
+        return -1
+    return 3 + word(data, at + 1) * (3 if kind > 1 else 1) if at + 2 < len(data) else None
+
+
+def raster(data: bytes, at: int, first: int) -> Optional[int]:
+    """GS v 0 and GS Q 0."""
+    if first != 48:
+        return -1
+    return 6 + word(data, at + 2) * word(data, at + 4) if at + 5 < len(data) else None
+
+
+def bars(data: bytes, at: int, kind: int) -> Optional[int]:
+    """GS k in both its forms."""
+    if kind <= 6:
+        end = data.find(b'\0', at + 1)
+        return end + 1 - at if end >= 0 else None
+    if not 65 <= kind <= 79:
+        return -1
+    return 2 + data[at + 1] if at + 1 < len(data) else None
+
+
+def long_graphics(data: bytes, at: int, first: int) -> Optional[int]:
+    """GS 8 L."""
+    if first != 0x4C:
+        return -1
+    return 5 + int.from_bytes(data[at + 1:at + 5], 'little') if at + 4 < len(data) else None
+
+
+def loaded(data: bytes, at: int, first: int) -> Optional[int]:
+    """GS *."""
+    return 2 + 8 * first * data[at + 1] if at + 1 < len(data) else None
+
+
+def counter(data: bytes, at: int, first: int) -> Optional[int]:
+    """GS C ; and five more of these."""
+    if first != 0x3B:
+        return -1
+    place = at
+    for _ in range(5):
+        place = data.find(b';', place + 1)
+        if place < 0:
+            return None
+    return place + 1 - at
+
+
+def bitmap(data: bytes, at: int, first: int) -> Optional[int]:
+    """GS D: seven bytes, and a BMP file that has its length."""
+    if at + 13 > len(data):
+        return None
+    return 7 + max(14, int.from_bytes(data[at + 9:at + 13], 'little'))
+
+
+def user_bytes(data: bytes, at: int, first: int) -> Optional[int]:
+    """FS g 1 and FS g 2."""
+    if first not in b'12':
+        return -1
+    if at + 8 > len(data):
+        return None
+    return 8 + (word(data, at + 6) if first == 0x31 else 0)
+
+
+def user_characters(data: bytes, at: int, height: int) -> Optional[int]:
     """ESC &: the height in bytes, the first and the last character, and of each its width and its columns."""
     if at + 2 >= len(data):
         return None
-    height, place = data[at], at + 3
+    place = at + 3
     for _ in range(data[at + 1], data[at + 2] + 1):
         if place >= len(data):
             return None
@@ -114,26 +165,34 @@ def user_characters(data, at):
     return place - at
 
 
-def kept_pictures(data, at):
+def kept_pictures(data: bytes, at: int, count: int) -> Optional[int]:
     """FS q: how many pictures, and of each its width and height in eights and its bytes."""
-    if at >= len(data):
-        return None
     place = at + 1
-    for _ in range(data[at]):
+    for _ in range(count):
         if place + 3 >= len(data):
             return None
-        place += 4 + 8 * WORD(data, place) * WORD(data, place + 2)
+        place += 4 + 8 * word(data, place) * word(data, place + 2)
     return place - at
 
 
-def units(data):
+# Other commands that say their length themselves, from a place on whose byte is given.
+MEASURED = {
+    ('esc', '*'): columns, ('esc', '&'): user_characters, ('gs', 'v'): raster, ('gs', 'Q'): raster, ('gs', 'k'): bars,
+    ('gs', '8'): long_graphics, ('gs', '*'): loaded, ('gs', 'C'): counter, ('gs', 'D'): bitmap,
+    ('fs', 'q'): kept_pictures,
+    ('fs', 'g'): user_bytes,
+}
+
+
+def units(data: bytes) -> Iterator[Unit]:
     """The whole units of a stream in turn. Behind one of no known command, of kind 'unknown', comes no other; what is
     cut at the end is of kind 'cut'."""
     at, end = 0, len(data)
     while at < end:
         byte = data[at]
         if byte >= 0x20:
-            stop = TEXT.match(data, at).end()
+            text = TEXT.match(data, at)
+            stop = text.end() if text else end
             yield Unit('text', 'text', at, stop, b'')
             at = stop
             continue
@@ -146,6 +205,11 @@ def units(data):
             yield Unit('cut', lead, at, end, b'')
             return
         second = data[at + 1]
+        if byte == second == 0x1B:
+            # a command that was broken off: the second one begins anew
+            yield Unit('command', 'esc 1b', at, at + 1, b'')
+            at += 1
+            continue
         size = SIZES.get((lead, second))
         if size is None:
             size = measured(lead, chr(second), data, at + 2)
@@ -156,7 +220,12 @@ def units(data):
         if size is None or at + 2 + size > end:
             yield Unit('cut', name, at, end, b'')
             return
-        if lead == 'gs' and second in b'(8':
+        if second == 0x28 or lead == 'gs' and second == 0x38:
             name += f' {data[at + 2]:02x}'
         yield Unit('command', name, at, at + 2 + size, data[at + 2:at + 2 + size])
         at += 2 + size
+        if name == 'esc 3d' and data[at - 1] and not data[at - 1] & 1:
+            listens = LISTENS.search(data, at)
+            stop = listens.start() if listens else end
+            yield Unit('display', 'display', at, stop, b'')
+            at = stop

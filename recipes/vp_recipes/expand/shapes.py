@@ -1,5 +1,6 @@
 """Circles, ellipses, diagonals, boxes with round corners and signs, as pictures."""
 import math
+from typing import Optional
 
 from .pictures import Picture
 
@@ -7,62 +8,51 @@ from .pictures import Picture
 LARGE = 240
 
 
-def spans(width, height, t):
-    """An ellipse's ring: of each row the dots of its outer and of its inner edge, or None."""
-    rx, ry = width / 2, height / 2
-    for y in range(height):
-        dy = y + .5 - ry
-        outer = rx * math.sqrt(max(0, 1 - (dy / ry) ** 2))
-        ix, iy = rx - t, ry - t
-        inner = ix * math.sqrt(1 - (dy / iy) ** 2) if ix > 0 and iy > 0 and abs(dy) < iy else None
-        yield outer, inner
-
-
-def row_of(width, left, right):
+def row_of(width: int, left: int, right: int) -> int:
     """A row that is black from one dot up to another."""
     left, right = max(0, left), min(width, right)
     return (1 << right - left) - 1 << width - right if right > left else 0
 
 
-def ellipse(width, height, t):
-    rows = []
-    for outer, inner in spans(width, height, t):
-        row = row_of(width, round(width / 2 - outer), round(width / 2 + outer))
-        if inner is not None:
-            row &= ~row_of(width, round(width / 2 - inner), round(width / 2 + inner))
-        rows.append(row)
-    return Picture(width, rows)
+def amid(width: int, edge: int) -> int:
+    """A row that is black but for so many dots at each end."""
+    return row_of(width, edge, width - edge)
 
 
-def diagonal(width, height, t, leans):
-    """A line t dots wide, measured across its rows, from corner to corner: R from the lower left, L from the upper."""
-    rows = []
-    for y in range(height):
-        start = (width - t) * y / max(1, height - 1) if leans == 'L' else (width - t) * (height - 1 - y) / max(1, height - 1)
-        rows.append(row_of(width, round(start), round(start) + t))
-    return Picture(width, rows)
+def ellipse(width: int, height: int, t: int) -> Picture:
+    """An ellipse whose line is t dots thick. A dot is black where its centre lies in the ellipse or on an edge."""
+    def edge(w: int, h: int, y: int, is_inner: bool) -> int:
+        room = (w * h) ** 2 - ((2 * y + 1 - height) * w) ** 2 - is_inner
+        return max(0, width - math.isqrt(room) // h) // 2 if w > 0 and h > 0 and room >= 0 else width
+
+    return Picture(width, [amid(width, edge(width, height, y, False))
+                           & ~amid(width, edge(width - 2 * t, height - 2 * t, y, True)) for y in range(height)])
 
 
-def rounded(width, height, t, r):
-    """A frame whose corners have a radius of r eighths of half its shorter side."""
-    def filled(w, h, radius):
-        found = []
-        for y in range(h):
-            dy = max(radius - y - .5, y + .5 - (h - radius), 0)
-            inset = radius - math.sqrt(max(0, radius * radius - dy * dy)) if dy else 0
-            found.append(row_of(w, round(inset), w - round(inset)))
-        return found
-
-    radius = min(width, height) * r / 16
-    rows = filled(width, height, radius)
-    if width > 2 * t and height > 2 * t:
-        inner = filled(width - 2 * t, height - 2 * t, max(0, radius - t))
-        for y, row in enumerate(inner, t):
-            rows[y] &= ~(row << t)
-    return Picture(width, rows)
+def diagonal(width: int, height: int, t: int, leans: str) -> Picture:
+    """A line t dots wide, measured along its rows, from corner to corner: R from the lower left, L from the upper."""
+    way = max(0, width - t)
+    starts = [y * way // max(1, height - 1) for y in range(height)]
+    return Picture(width, [row_of(width, start, start + t)
+                           for start in (starts if leans == 'L' else [way - it for it in starts])])
 
 
-def sign(letter, width, height):
+def rounded(width: int, height: int, t: int, r: int) -> Picture:
+    """A frame whose corners have a radius of r eighths of half its shorter side, which is reckoned in sixteenths of a
+    dot. A dot is black where its centre lies in the frame or on an edge."""
+    radius = r * min(width, height)
+
+    def edge(near: int, room: int, least: int) -> int:
+        room -= max(0, radius - 16 * near - 8) ** 2
+        return max(least, (max(0, radius - math.isqrt(room)) + 7) // 16) if room >= 0 and near >= least else width
+
+    nears = [min(y, height - 1 - y) for y in range(height)]
+    inner = max(0, max(0, radius - 16 * t) ** 2 - 1)
+    return Picture(width, [amid(width, edge(near, radius ** 2, 0)) & ~amid(width, edge(near, inner, t))
+                           for near in nears])
+
+
+def sign(letter: str, width: int, height: int) -> Optional[Picture]:
     """^GS: A a registered mark, B a copyright, C a trade mark, D and E the signs of two test houses as rings."""
     side = min(width, height)
     ring = ellipse(side, side, max(1, side // 12))
@@ -77,10 +67,10 @@ def sign(letter, width, height):
     if not strokes:
         return None
     if side > LARGE:
-        small = sign(letter, LARGE, LARGE).texts()
+        small = sign(letter, LARGE, LARGE)
         places = [n * LARGE // side for n in range(side)]
-        rows = [''.join(row[n] for n in places) for row in small]
-        return Picture.of_texts([rows[n] for n in places])
+        texts = [''.join(row[n] for n in places) for row in small.texts()] if small else []
+        return Picture.of_texts([texts[n] for n in places])
     pen = max(1.0, side / 14)
     rows = [0] * side if letter == 'C' else list(ring.rows)
     for ax, ay, bx, by in strokes:

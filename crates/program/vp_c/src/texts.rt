@@ -29,3 +29,14 @@ pub extern "C" fn vp_version(text: &mut [u8]) -> usize
 {
     version(text)
 }
+
+/// The version as a number: its first part ten thousand times, its second a hundred times, and its third.
+const VERSION_NUMBER: u32 = 10_100;
+
+/// Tells the version as a number.
+#[unsafe(no_mangle)]
+pub extern "C" fn vp_version_number() -> u32
+    ensures { result ≡ 10100 }
+{
+    VERSION_NUMBER
+}

@@ -1,0 +1,158 @@
+#!/usr/bin/env python3
+"""symbols.py [PROGRAM [NUMBER [SEED]]]: draws so many random payloads, 60 where none is said, as Data Matrix symbols
+of all sizes and leads, and has ZXingReader and dmtxread read them back. PROGRAM is vp_draw_symbols as the gate builds
+it."""
+import os
+import random
+import shutil
+import subprocess
+import sys
+import tempfile
+from typing import List, Tuple
+
+TOP = os.path.dirname(os.path.dirname(os.path.abspath(__file__)))
+BUILT = f"{TOP}/crates/tests/vp_draw_symbols/out/vp_draw_symbols"
+# rows, columns and data codewords of each size
+SIZES = [(10, 10, 3), (12, 12, 5), (14, 14, 8), (16, 16, 12), (18, 18, 18), (20, 20, 22), (22, 22, 30), (24, 24, 36),
+         (26, 26, 44), (32, 32, 62), (36, 36, 86), (40, 40, 114), (44, 44, 144), (48, 48, 174), (52, 52, 204),
+         (64, 64, 280), (72, 72, 368), (80, 80, 456), (88, 88, 576), (96, 96, 696), (104, 104, 816),
+         (120, 120, 1050), (132, 132, 1304), (144, 144, 1558),
+         (8, 18, 5), (8, 32, 10), (12, 26, 16), (12, 36, 22), (16, 36, 32), (16, 48, 49)]
+HEADS = {b"5": b"[)>\x1e05\x1d", b"6": b"[)>\x1e06\x1d"}
+COMMANDS = {"ZXingReader": ["ZXingReader", "-format", "DataMatrix", "-ispure", "-bytes"],
+            "dmtxread": ["dmtxread", "-N1", "-m", "5000"]}
+# kinds of text, each of which another encodation takes in the fewest codewords, and how many of its characters a
+# codeword has at most
+CAPITALS = b"ABCDEFGHIJKLMNOPQRSTUVWXYZ"
+LETTERS = {"mixed": (b"AB0123456789", 1.0), "capitals": (CAPITALS + b" ", 1.5),
+           "small": (CAPITALS.lower() + b" 09", 1.5), "x12": (CAPITALS + b"0123456789*>\r ", 1.5),
+           "edifact": (bytes(range(32, 95)), 1.33), "high": (CAPITALS + b"\xc1\xe9\x80\xff", 1.0)}
+KINDS = ["digits", "text", "bytes", "parts", *LETTERS]
+Case = Tuple[bytes, int, int, bytes]
+
+
+def payload(kind: str, size: int) -> bytes:
+    """Returns random bytes of a kind that a size has room for."""
+    if kind == "digits":
+        return bytes(random.choices(b"0123456789", k=random.randint(1, 2 * (size - 1))))
+    if kind == "text":
+        return bytes(random.choices(range(32, 127), k=random.randint(1, size - 1)))
+    if kind == "mixed":
+        return bytes(random.choices(LETTERS[kind][0], k=random.randint(1, size - 1)))
+    if kind in LETTERS:
+        letters, dense = LETTERS[kind]
+        return bytes(random.choices(letters, k=random.randint(1, max(1, int(dense * (size - 5))))))
+    if kind == "parts":
+        runs = [random.choices(LETTERS[random.choice(list(LETTERS))][0], k=random.randint(1, 9)) for _ in range(size)]
+        return bytes(byte for run in runs for byte in run)[:random.randint(1, size - 4)]
+    return bytes(random.choices(range(256), k=random.randint(1, max(1, size - 4))))
+
+
+def cases(number: int) -> List[Case]:
+    """Returns what is asked for: each size by turns, asked for by its rows and columns or by its shape."""
+    some = []
+    for at in range(number):
+        rows, columns, size = SIZES[at % len(SIZES)]
+        kind = random.choice(KINDS) if size > 5 else random.choice(["digits", "mixed"])
+        lead = b"P" if kind in ("bytes", "parts", "high") else random.choice([b"P", b"P", b"P", b"G", b"5", b"6"])
+        if random.randrange(4) == 0:
+            rows, columns = int(rows != columns), 0
+        some.append((lead, rows, columns, payload(kind, size)))
+    return some
+
+
+def drawn(program: str, some: List[Case]) -> List[List[str]]:
+    """Returns the rows of each symbol, `1` for a dark module."""
+    asked = b"".join(lead + bytes([rows, columns]) + len(data).to_bytes(2, "big") + data
+                     for lead, rows, columns, data in some)
+    ran = subprocess.run([program], input=asked, stdout=subprocess.PIPE, check=True)
+    lines = ran.stdout.decode("ascii").split("\n")[:-1]
+    symbols: List[List[str]] = []
+    while lines:
+        if lines[0] != "P1":
+            raise ValueError(f"{lines[0]}: symbol {len(symbols)}, {some[len(symbols)]}")
+        width, high = (int(it) for it in lines[1].split())
+        symbols.append(lines[2:2 + high])
+        if any(len(row) != width for row in symbols[-1]):
+            raise ValueError(f"symbol {len(symbols) - 1} has a row of another width than {width}")
+        del lines[:2 + high]
+    return symbols
+
+
+def write(name: str, rows: List[str], scale: int) -> None:
+    """Writes an image of a symbol with a white edge."""
+    edge = 4
+    width = scale * (len(rows[0]) + 2 * edge)
+    stride = (width + 7) // 8
+    with open(name, "wb") as image:
+        image.write(b"P4\n%d %d\n" % (width, scale * (len(rows) + 2 * edge)))
+        for row in ["0" * len(rows[0])] * edge + rows + ["0" * len(rows[0])] * edge:
+            dots = "".join(it * scale for it in "0" * edge + row + "0" * edge)
+            image.write(int(dots.ljust(8 * stride, "0"), 2).to_bytes(stride, "big") * scale)
+
+
+def read(command: List[str]) -> bytes:
+    return subprocess.run(command, stdout=subprocess.PIPE, stderr=subprocess.DEVNULL, check=False).stdout
+
+
+def said(tool: str, room: str, rows: List[str]) -> bytes:
+    """Returns what a reader reads. A symbol that it doesn't find is shown to it in other sizes."""
+    name, png = f"{room}/symbol.pbm", f"{room}/symbol.png"
+    text = b""
+    for scale in (4, 6, 9):
+        write(name, rows, scale)
+        with open(png, "wb") as image:
+            subprocess.run(["pnmtopng", "-quiet", name], stdout=image, check=True)
+        text = read(COMMANDS[tool] + [png])
+        if text:
+            break
+    return text
+
+
+def wanted(lead: bytes, data: bytes) -> bytes:
+    """Returns what a symbol says: a macro stands for its head and its end."""
+    return HEADS[lead] + data + b"\x1e\x04" if lead in HEADS else data
+
+
+def offences(room: str, some: List[Case], symbols: List[List[str]], tools: List[str]) -> List[str]:
+    """Returns what a reader reads otherwise."""
+    wrong = []
+    for at, ((lead, _, _, data), rows) in enumerate(zip(some, symbols)):
+        for tool in tools:
+            # libdmtx gives the check codewords of 144 by 144 modules another order than the standard
+            if tool == "dmtxread" and len(rows) == 144:
+                continue
+            text = said(tool, room, rows)
+            if text != wanted(lead, data) and not (lead == b"G" and text.lstrip(b"\x1d") == data):
+                wrong.append(f"{tool}: symbol {at} of {len(rows)} rows, {some[at]}: {text!r}")
+    return wrong
+
+
+def main() -> int:
+    program = sys.argv[1] if sys.argv[1:] else BUILT
+    number = int(sys.argv[2]) if sys.argv[2:] else 60
+    random.seed(int(sys.argv[3]) if sys.argv[3:] else 16022)
+    tools = [tool for tool in COMMANDS if shutil.which(tool) and shutil.which("pnmtopng")]
+    for tool in COMMANDS.keys() - set(tools):
+        print(f"symbols: left out: no {tool}")
+        if os.environ.get("VP_TOOLS_INSTALLED") == "1":
+            return 1
+        if "VP_LEFT_OUT" in os.environ:
+            with open(os.environ["VP_LEFT_OUT"], "a", encoding="utf-8") as left:
+                left.write(f"symbols {tool}\n")
+    some = cases(number)
+    symbols = drawn(program, some)
+    if len(symbols) != number:
+        print(f"checks/symbols: {len(symbols)} symbols of {number}")
+        return 1
+    with tempfile.TemporaryDirectory() as room:
+        wrong = offences(room, some, symbols, tools)
+    for it in wrong:
+        print(f"checks/symbols: {it}")
+    if not wrong:
+        print(f"{number} Data Matrix symbols are read back by {' and '.join(tools) or 'no reader: none is there'}: ok")
+    return 1 if wrong else 0
+
+
+if __name__ == "__main__":
+    sys.exit(main())

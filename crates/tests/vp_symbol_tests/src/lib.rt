@@ -1,0 +1,10 @@
+//! Symbols, their check codewords and shapes against outside vectors: the standards' worked examples, and values
+//! that were found apart from this code.
+#![tactic(auto)]
+
+#[cfg(test)]
+mod codewords;
+#[cfg(test)]
+mod data_matrix;
+#[cfg(test)]
+mod shapes;

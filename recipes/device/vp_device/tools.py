@@ -1,0 +1,69 @@
+"""What the recipes know that a printer on a network needs too, and where they are."""
+from __future__ import annotations
+
+import functools
+import importlib
+import os
+import pathlib
+import sys
+from typing import Any, List, Optional, Tuple
+
+# The folder of the recipes.
+RECIPES = pathlib.Path(__file__).resolve().parents[2]
+if str(RECIPES) not in sys.path:
+    sys.path.insert(0, str(RECIPES))
+
+bounds: Any = importlib.import_module('vp_recipes.bounds')
+files: Any = importlib.import_module('vp_recipes.files')
+images: Any = importlib.import_module('vp_recipes.images')
+in_process: Any = importlib.import_module('vp_recipes.in_process')
+program: Any = importlib.import_module('vp_recipes.program')
+sheets: Any = importlib.import_module('vp_recipes.sheets')
+streams: Any = importlib.import_module('vp_recipes.streams')
+LANGUAGES: Tuple[str, str] = streams.LANGUAGES
+
+
+def words_of(language: str, width: Optional[int] = None) -> List[str]:
+    """The words that print a language with the shipped sheets."""
+    narrow = [f'--width={width}'] if width and language == 'receipt' else []
+    words: List[str] = program.direct([*program.find_vp(), language, *sheets.shipped(language), *narrow])
+    return words
+
+
+def package_of(words: List[str]) -> Any:
+    """The Python package that does what words ask; None where a process has to."""
+    package = in_process.package(words)
+    return package if package and in_process.options(words[1:]) is not None else None
+
+
+@functools.lru_cache(8)
+def printers(words: Tuple[str, ...], _: Any) -> Any:
+    """Printers as words ask for them, with the sheets as they were seen."""
+    package, found = package_of(list(words)), in_process.options(words[1:])
+    font_a, none = found.get('--font-a'), {'most_rows': None, 'most_bytes': None}
+    if words[1] == 'label':
+        return package.Label(font_a, **none)
+    return package.Receipt(font_a, found.get('--font-b'), int(found.get('--width', '576')), **none)
+
+
+def handle_of(words: List[str]) -> Any:
+    """A printer of the library's that was just switched on, whose paper nobody holds."""
+    seen = in_process.sheets_seen(in_process.options(words[1:]))
+    return printers(tuple(words), seen).start()._handle
+
+
+def part(package: Any, name: str) -> Any:
+    """A module of the package."""
+    return importlib.import_module(f'{package.__name__}.{name}')
+
+
+def write_all(file: int, data: bytes) -> None:
+    """Writes bytes to a file. On a full disk that is an error, also where a part of them found room."""
+    view = memoryview(data)
+    while view:
+        view = view[os.write(file, view):]
+
+
+def python() -> str:
+    """The Python that runs this, which inetd's environment doesn't tell."""
+    return sys.executable or os.readlink('/proc/self/exe')

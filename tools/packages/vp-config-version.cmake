@@ -1,0 +1,10 @@
+# What find_package(vp VERSION) asks: a version serves who asks for it or an earlier one of the same first number.
+set(PACKAGE_VERSION "@VERSION@")
+string(REGEX MATCH "^[0-9]+" _vp_first "${PACKAGE_VERSION}")
+if("${PACKAGE_FIND_VERSION_MAJOR}" STREQUAL "${_vp_first}" AND NOT PACKAGE_FIND_VERSION VERSION_GREATER PACKAGE_VERSION)
+    set(PACKAGE_VERSION_COMPATIBLE TRUE)
+    if(PACKAGE_FIND_VERSION VERSION_EQUAL PACKAGE_VERSION)
+        set(PACKAGE_VERSION_EXACT TRUE)
+    endif()
+endif()
+unset(_vp_first)

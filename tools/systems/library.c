@@ -1,0 +1,2 @@
+// What the library asks of a C library: the heap alone.
+#include "heap.h"
