@@ -140,4 +140,8 @@ gate
 says '^must-pass one/quarter_with_a_type.edit: taken'
 says '^must-pass one/half_by_a_shift.edit: NOT TAKEN'
 [ "$status" = 1 ]
+# (as with the crate's name)
+gate one
+says '^must-pass one/half_by_a_shift.edit: NOT TAKEN'
+[ "$status" = 1 ]
 echo 'the gate refuses what it must, takes what it must, and nothing else: ok'

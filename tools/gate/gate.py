@@ -322,9 +322,9 @@ def main() -> int:
         kept.forget([os.path.basename(it) for it in glob.glob("crates/*")])
         status = int(rt.main(["ci", *words.crates]))
         keep_record(kept, words.renew)
+        status = status or int(not all_taken(rt, f"{room}/all", OF_RIGHT_BODIES, words.crates))
         if words.crates:
             return int(status)
-        status = status or int(not all_taken(rt, f"{room}/all", OF_RIGHT_BODIES))
         for made, to in programs.items():
             if os.path.isfile(made):
                 bring_back(made, to)

@@ -41,10 +41,11 @@ def tried(rt: Any, crate: Any, flags: List[str], kept: Optional[str]) -> Tried:
     return found
 
 
-def all_taken(rt: Any, room: str, found: Dict[str, Tried]) -> bool:
-    """Says of each right body of the room's crates, which are proved, what it came to, by what was found of a crate's
-    or else by a try, and returns whether all are taken."""
+def all_taken(rt: Any, room: str, found: Dict[str, Tried], names: List[str]) -> bool:
+    """Says of each right body of the room's crates, which are proved (or of those named), what it came to, by what was
+    found of a crate's or else by a try, and returns whether all are taken."""
     folders = sorted(os.path.dirname(it) for it in glob.glob(f"{room}/crates/*/must-pass"))
+    folders = [it for it in folders if not names or os.path.basename(it) in names]
     if folders and not hasattr(rt, "checked"):
         print("gate: this rt has no checked: it doesn't try right bodies in another form")
         return True
