@@ -14,6 +14,7 @@ _vp_tools() {
     vp-device:--language) options='receipt label' only=yes ;;
     vp-device:--idle) options='' only=yes ;;
     vp-device:--at-once) options='' only=yes ;;
+    vp-device:--store) options='' only=yes ;;
     vp-device:--most-rows) options='' only=yes ;;
     vp-device:--most-bytes) options='' only=yes ;;
     vp-device:--most-images) options='' only=yes ;;
@@ -74,7 +75,7 @@ _vp_tools() {
     *)
         # a file, unless an option is begun
         case $tool:$word in
-        vp-device:-*) options='--help --listen --port --http --token --state --state-file --script --busy --buffer --language --idle --at-once --while-stdin --share --expand --most-rows --most-bytes --most-images --most-seconds' ;;
+        vp-device:-*) options='--help --listen --port --http --token --state --state-file --script --busy --buffer --language --idle --at-once --while-stdin --share --store --expand --most-rows --most-bytes --most-images --most-seconds' ;;
         vp-expand:-*) options='--help --lang --table --from --nearest --keep-sizes --map --store --now --font-a --tell' ;;
         vp-golden:-*) options='--help --report --junit --ignore --incomplete --prune --as-it-came --most-rows --most-bytes --most-images --most-seconds' ;;
         vp-job:-*) options='--help --expand --most-rows --most-bytes --most-images --most-seconds' ;;

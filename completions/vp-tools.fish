@@ -14,6 +14,7 @@ complete -c vp-device -l idle -x -d 'a silent connection is cut off, without it 
 complete -c vp-device -l at-once -x -d 'processes that print, without it as many as there are processors, 4 at most'
 complete -c vp-device -l while-stdin -d 'ends when its standard input ends, as with the test that began it'
 complete -c vp-device -l share -d 'lets other processes listen on the same ports'
+complete -c vp-device -l store -x -d 'a shell\'s command that keeps each job elsewhere too: the job\'s files are its words'
 complete -c vp-device -l expand -d 'writes each stream anew before it is printed (../expand.md)'
 complete -c vp-device -l most-rows -x -d 'rows, without it 2,500,000'
 complete -c vp-device -l most-bytes -x -d 'bytes, without it 268,435,456'

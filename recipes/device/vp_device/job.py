@@ -239,6 +239,8 @@ class Job:
                 return
             self.is_over, self.line = True, line
         self.ways.store.say(self.number, line)
+        if self.ways.storing:
+            self.ways.storing.put(self.number, self.names)
         self.ways.device.count('job')
         self.ways.device.tell(kind='job', **self.json())
 

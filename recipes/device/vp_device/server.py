@@ -188,6 +188,8 @@ class Server:
         with self.lock:
             for till in self.tills:
                 till.job.give_up(line)
+        if self.ways.storing:
+            self.ways.storing.end(why)
         for connection in waiting:
             connection.close()
             with contextlib.suppress(OSError):

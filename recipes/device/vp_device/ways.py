@@ -6,10 +6,12 @@ from typing import Any, List, NamedTuple, Optional
 from .device import Device
 from .pool import Pool
 from .store import Store
+from .storing import Storing
 
 
 class Ways(NamedTuple):
-    """What jobs share: where they are kept, what prints them, the printer, their words, bounds, and the package."""
+    """What jobs share: where they are kept, what prints them, the printer, their words, bounds, the package, their
+    language, and what keeps them elsewhere."""
 
     store: Store
     pool: Pool
@@ -19,3 +21,4 @@ class Ways(NamedTuple):
     bounds: Any
     package: Any
     language: Optional[str] = None
+    storing: Optional[Storing] = None

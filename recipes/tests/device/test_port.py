@@ -11,13 +11,50 @@ import time
 import unittest
 
 import tills
-from tills import LABEL, RECEIPT
+from tills import DEVICE, LABEL, RECEIPT
 
 # Labels without end.
 ENDLESS = b'^XA^PW100^LL100^PQ99999999^FO0,0^GB10,10^FS^XZ'
 # A label that takes long.
 SLOW = b'^XA^PW832^LL8000' + b'^FO0,0^GB832,8000,4000^FS' * 200 + b'^PQ9999^XZ'
 ROWS = '--most-rows=2000'
+
+
+class Storing(tills.WithPrinter):
+    def test_each_file_is_stored(self) -> None:
+        with tempfile.TemporaryDirectory() as to:
+            printer = self.printer('--http', '0', '--store', f'cp -- "$@" {to}', program=DEVICE)
+            for stream in RECEIPT.read_bytes(), LABEL.read_bytes(), 3 * LABEL.read_bytes(), b'\x1b\x7f', b'':
+                printer.sent(stream)
+            wanted = {it.name: it.read_bytes() for it in printer.folder.iterdir() if it.name[0] != '.'}
+            del wanted['log']
+            self.assertEqual(len(wanted), 5 + 1 + 1 + 3)
+            tills.wait_for(lambda: len(os.listdir(to)) == len(wanted))
+            printer.end()
+            self.assertEqual({it.name: it.read_bytes() for it in pathlib.Path(to).iterdir()}, wanted)
+            self.assertEqual([it for it in printer.log() if 'stored' in it], [])
+
+    def test_a_store_that_is_away_and_comes_back(self) -> None:
+        with tempfile.TemporaryDirectory() as to:
+            said = f'cp -- "$@" {to} && test -e {to}/back || {{ touch {to}/back; echo away >&2; exit 7; }}'
+            printer = self.printer('--http', '0', '--store', said, program=DEVICE)
+            printer.sent(b'TOTAL 8.08\n')
+            tills.wait_for(lambda: len(os.listdir(to)) == 3)
+            self.assertEqual(printer.log(), ['000001 printed'])
+
+    def test_a_store_that_fails(self) -> None:
+        printer = self.printer('--http', '0', '--store', 'echo no room >&2; exit 7', program=DEVICE)
+        printer.sent(b'TOTAL 8.08\n')
+        self.assertEqual(printer.lines(2), ['000001 printed', '000001 not stored: status 7: no room'])
+
+    def test_ended_while_it_stores(self) -> None:
+        with tempfile.TemporaryDirectory() as to:
+            printer = self.printer('--http', '0', '--store', f'touch {to}/begun; sleep 100', program=DEVICE)
+            printer.sent(b'TOTAL 8.08\n')
+            tills.wait_for(lambda: os.listdir(to))
+            self.assertLess(printer.end(signal.SIGTERM), 3)
+        self.assertEqual(printer.log(), ['000001 printed', '000001 not stored: ended by SIGTERM before'])
+        self.whole(printer)
 
 
 class Ends(tills.WithPrinter):
