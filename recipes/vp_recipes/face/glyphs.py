@@ -58,7 +58,7 @@ def glyph(char: str, wide: int, high: int) -> Optional[Glyph]:
     box = boxes.rows(char, wide, high)
     if box:
         return Glyph(boxes.ADVANCE, box.width, box._replace(top=high - near(BELOW * high / EM)))
-    found = PRINTED.of(char)
+    found = PRINTED.standing(char)
     if found is None:
         return None
     ahead = near(found.advance * wide / EM)

@@ -9,6 +9,8 @@ from .skeletons import ALIKE, COMMAS, DOTLESS, LINES, MIDDLES, OWN_IN_CELLS, TAL
 BEFORE = 110
 # A letter less wide than this has smaller marks: so much less wide, of a pen so much thinner.
 NARROW, LESS_WIDE, THINNER = 300, .78, .82
+# The advance of a mark that stands alone.
+ALONE = 380
 # Marks of a combining class beyond this stand above.
 ABOVE = 220
 ACUTE, TREMA, COMMA_BELOW, CEDILLA, HORN, BOTH = '\u0301', '\u0308', '\u0326', '\u0327', '\u031b', '\u0344'
@@ -61,6 +63,15 @@ class Letters:
         if char not in self.read:
             self.read[char] = self.of_line(char) if char in self.lines else self.composed(char)
         return self.read[char]
+
+    def standing(self, char: str) -> Optional[Letter]:
+        """What a character is by itself: a mark stands in the middle of an advance of its own."""
+        found = self.of(char)
+        if not found or found.advance or not found.parts:
+            return found
+        xs = [point.x for it in found.strokes() for point in it.points]
+        middle = (min(xs) + max(xs)) / 2
+        return Letter(ALONE, [moved(part, ALONE / 2 - middle) for part in found.parts], [])
 
     def included(self, text: str) -> Tuple[Strokes, bool]:
         """The strokes of another letter, as `A mirror %.5,.5 @10,0 *.8` has them, and whether they are fitted alone."""
