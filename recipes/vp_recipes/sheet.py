@@ -1,10 +1,11 @@
-"""Makes a glyph sheet for vp of a font: sheet [FONT] [--font a|b] [--table CODEC] [--blank] > sheet.pbm
+"""Makes a glyph sheet for vp of a font: sheet [FONT] [--font a|b] [--table CODEC] [--face] [--blank] > sheet.pbm
 
 FONT is BDF, PCF, PSF or Unifont's .hex, as it is or packed by gzip, and where FreeType for Python is (Debian's
-python3-freetype) TrueType, OpenType or Type 1; without one the letters are drawn. CODEC is the table that says which
-character a byte is, by Python's name for it: cp437 (the default), cp850, cp858, cp1252, latin1, iso8859-15, koi8-r and
-so on. What the font lacks, and what loses dots, is listed on standard error. A byte without a character shows its two
-hex digits in a frame; with --blank its cell is white. docs/sheets.md says what a sheet is.
+python3-freetype) TrueType, OpenType or Type 1. Without one the letters are drawn; --face draws a bolder face, of more
+tables (docs/faces.md). CODEC is the table that says which character a byte is, by Python's name for it: cp437 (the
+default), cp850, cp858, cp1252, latin1, iso8859-15, koi8-r and so on. What the font lacks, and what loses dots, is
+listed on standard error. A byte without a character shows its two hex digits in a frame; with --blank its cell is
+white. docs/sheets.md says what a sheet is.
 
 Status 0; 2 for wrong words, 3 for a font that is none, or that has no character of the table.
 """
@@ -13,9 +14,10 @@ import struct
 import sys
 import unicodedata
 import zlib
-from typing import Dict, Iterable, List, Tuple
+from typing import Callable, Dict, Iterable, List, Optional, Tuple
 
 from .drawing import glyph
+from .face.cells import rows
 from .faults import Fault, why
 from .faults import shown as shown_name
 from .fonts import Glyph, read
@@ -23,6 +25,8 @@ from .sheets import CELLS, framed, sheet_of
 from .tables import shown, spaces
 
 Size = Tuple[int, int]
+# Draws a character in a cell.
+Draw = Callable[[str, Size], Optional[List[int]]]
 
 
 def black(rows: Iterable[int]) -> int:
@@ -60,10 +64,16 @@ def main() -> int:
                        help='BDF, PCF, PSF or .hex, perhaps packed by gzip; TrueType, OpenType, Type 1')
     words.add_argument('--font', choices=CELLS, default='a', help='cells of 12 by 24 dots (a) or 9 by 17 (b)')
     words.add_argument('--table', default='cp437', metavar='CODEC', help="which character a byte is: a Python codec")
+    words.add_argument('--face', action='store_true', help='draw the letters of the bold face; takes no FONT')
     words.add_argument('--blank', action='store_true', help='leave white what has no character')
     given = words.parse_args()
+    if given.face and given.font_file:
+        words.error('--face takes no FONT')
     size, chars = CELLS[given.font], shown(given.table)
-    cells = of_font(given.font_file, chars, size) if given.font_file else of_drawing(chars, size)
+    if given.font_file:
+        cells = of_font(given.font_file, chars, size)
+    else:
+        cells = of_drawing(chars, size, rows if given.face else glyph)
     say(f'font {given.font.upper()}, {given.table}: {len(cells)} of {len(chars)} characters')
     if not cells:
         raise Fault(f'{shown_name(given.font_file or "what is drawn here")} has no character of {given.table}')
@@ -73,9 +83,9 @@ def main() -> int:
     return 0
 
 
-def of_drawing(chars: Dict[int, str], size: Size) -> Dict[int, List[int]]:
+def of_drawing(chars: Dict[int, str], size: Size, draw: Draw) -> Dict[int, List[int]]:
     """The cells of the characters that are drawn here."""
-    drawn = {n: glyph(char, size) for n, char in chars.items()}
+    drawn = {n: draw(char, size) for n, char in chars.items()}
     for n, char in chars.items():
         if not drawn[n]:
             say(f'missing {named(n, char)}')

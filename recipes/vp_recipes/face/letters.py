@@ -3,7 +3,7 @@ import unicodedata
 from typing import Dict, Iterable, List, NamedTuple, Optional, Tuple
 
 from .notation import Lines, Place, Stroke, Strokes, changed, moved, named, pair, stroke_of
-from .skeletons import ALIKE, COMMAS, DOTLESS, LINES, MIDDLES, OWN_IN_CELLS, TALL
+from .skeletons import ALIKE, COMMAS, DOTLESS, LINES, MIDDLES, TALL
 
 # How far a Greek capital goes to the right, for the accent before it.
 BEFORE = 110
@@ -14,15 +14,19 @@ ALONE = 380
 # Marks of a combining class beyond this stand above.
 ABOVE = 220
 ACUTE, TREMA, COMMA_BELOW, CEDILLA, HORN, BOTH = '\u0301', '\u0308', '\u0326', '\u0327', '\u031b', '\u0344'
+# The accent before a Greek capital, where it has a form of its own.
+TICK = '\u030d'
 
 
 class Mark(NamedTuple):
-    """A mark: its strokes, where its middle is, whether it is on a capital's height, how many marks are under it."""
+    """A mark: its strokes, where its middle is, whether it is on a capital's height, how many marks are under it;
+    whether it stands before the letter."""
 
     strokes: Strokes
     middle: float
     is_high: bool
     under: int
+    is_before: bool = False
 
 
 class Letter(NamedTuple):
@@ -122,7 +126,8 @@ class Letters:
             return None
         if marks == [ACUTE] and 'Α' <= base <= 'Ω':
             parts = [moved(part, BEFORE) for part in found.parts]
-            return Letter(found.advance + BEFORE, parts, [Mark(self.mark(ACUTE), BEFORE / 2, False, 0)])
+            accent = self.mark(TICK if TICK in self.lines else ACUTE)
+            return Letter(found.advance + BEFORE, parts, [Mark(accent, BEFORE / 2, False, 0, True)])
         if marks == [TREMA, ACUTE]:
             marks = [BOTH]
         middle = found.advance / 2 if base in self.own else MIDDLES.get(base, found.advance / 2)
@@ -144,6 +149,4 @@ def less_wide(stroke: Stroke) -> Stroke:
     return changed(stroke, lambda x, y: (x * LESS_WIDE, y))._replace(weight=stroke.weight * THINNER)
 
 
-# The letters of the face, and those of cells of one width.
 PRINTED = Letters(LINES)
-OF_CELLS = Letters({**LINES, **OWN_IN_CELLS}, OWN_IN_CELLS)

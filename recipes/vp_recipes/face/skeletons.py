@@ -1,5 +1,5 @@
 """The face as data: the skeleton of each character, which characters look alike, and where marks stand on letters."""
-from .cell_forms import FORMS
+from .cell_forms import FORMS, SMALL
 from .cyrillic import CYRILLIC
 from .greek import GREEK
 from .latin import OTHERS, PLAIN
@@ -8,11 +8,12 @@ from .notation import lines_of
 from .signs import MATHS, SIGNS
 
 LINES = lines_of(PLAIN, SIGNS, OTHERS, GREEK, CYRILLIC, MATHS, MARKS)
-OWN_IN_CELLS = lines_of(FORMS)
+# Of those whose form in cells is another one: in all cells, and in those of 9 by 17 dots alone.
+IN_CELLS, IN_SMALL = lines_of(FORMS), lines_of(SMALL)
 # Letters that look as others.
 ALIKE = dict(zip('ΑΒΕΖΗΙΚΜΝΟΡΤΥΧκμνοАВЕКМНОРСТХЅІЈГПФаеорсухѕіјкфћҺһ∆Ω∑ҮÐ',
                  'ABEZHIKMNOPTYXĸµvoABEKMHOPCTXSIJΓΠΦaeopcyxsijĸφħHhΔΩΣYĐ'))
-ALIKE.update({'\u00a0': ' ', '\u00ad': '-', '\u2010': '-', '\u2011': '-', '\u2015': '—', '΄': '´', '₯': 'Δ', '\u037a': '˛'})
+ALIKE.update({'\u00a0': ' ', '\u00ad': '-', '\u2010': '-', '\u2011': '-', '\u2015': '—', '΄': '´', '\u037a': '˛'})
 # Where a mark stands on a letter whose middle is elsewhere.
 MIDDLES = {'L': 125, 'l': 125, 'i': 125, 'j': 125, 'r': 215, 'E': 330, 'F': 320, 'd': 250, 'h': 125, 'k': 125, 'α': 265,
            'ι': 125, 'Г': 320}
