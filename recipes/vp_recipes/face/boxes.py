@@ -81,33 +81,48 @@ class Cell:
         return Dots(0, self.high, self.wide, self.rows)
 
 
-class Lines:
-    """Draws a line of boxes into a cell: `thin` is how thick a light line is, `fat` how much more a heavy one, `of` has
-    its arms, and a single line begins at `x` and `y`."""
+class Rule(NamedTuple):
+    """Lines of one direction: how thick a light one is, how much more a heavy one, where a single one begins, and how
+    far the two of a double line are from there."""
 
-    def __init__(self, cell: Cell, form: Form, high: int) -> None:
+    thin: int
+    fat: int
+    at: int
+    half: int
+
+    def places(self, kind: int) -> List[int]:
+        """Where lines of a kind begin, from where a single one does."""
+        return [] if kind == NO_LINE else [-self.half, self.half] if kind == TWO else [0]
+
+
+def rule_of(em: int, long: int) -> Rule:
+    """The lines of a cell that is so long across them."""
+    thin, gap = max(1, near(LIGHT * em / EM)), max(2, near(APART * em / EM))
+    fat = max(thin + 1, near(HEAVY * em / EM)) - thin
+    return Rule(thin, fat, (long - thin) // 2, (gap + thin) // 2)
+
+
+class Lines:
+    """Draws a line of boxes into a cell: `level` and `upright` are its lines, `of` has its arms."""
+
+    def __init__(self, cell: Cell, form: Form, wide: int, high: int) -> None:
         self.cell, self.form = cell, form
-        self.thin, gap = max(1, near(LIGHT * high / EM)), max(2, near(APART * high / EM))
-        self.fat = max(self.thin + 1, near(HEAVY * high / EM)) - self.thin
-        half = (gap + self.thin) // 2
-        self.lines: Dict[int, List[int]] = {NO_LINE: [], ONE: [0], TWO: [-half, half], THICK: [0]}
-        self.x, self.y = (cell.wide - self.thin) // 2, (cell.high - self.thin) // 2
+        self.level, self.upright = rule_of(high, cell.high), rule_of(wide, cell.wide)
         self.of = {side: form.arms.get(side, NO_LINE) for side in 'lrud'}
 
-    def reach(self, side: str, line: int, ways: str) -> int:
+    def reach(self, side: str, line: int, ways: str, across: Rule) -> int:
         """Where a line begins at the middle: at the line of a crossing pair that it meets first or last."""
         one, other = self.of[ways[0]], self.of[ways[1]]
-        crossing = self.lines[max(one, other)]
+        crossing = across.places(max(one, other))
         sign = 1 if side in 'rd' else -1
         if len(crossing) < 2:
-            return 0
-        ordered = sorted(crossing, key=lambda it: it * sign)
+            return across.at
+        first, last = sorted((it + across.at for it in crossing), key=lambda it: it * sign)
         if line:
-            inner = one if line < 0 else other
-            return ordered[-1 if inner else 0]
+            return last if (one if line < 0 else other) else first
         if self.of[side] == ONE:
-            return ordered[-1 if one and other else 0]
-        return 0 if one and other else ordered[0]
+            return last if one and other else first
+        return across.at if one and other else first
 
     def draw(self) -> None:
         if self.form.is_round:
@@ -116,21 +131,24 @@ class Lines:
             self.diagonals()
         else:
             for side in 'lrud':
-                for line in self.lines[self.of[side]]:
+                for line in (self.level if side in 'lr' else self.upright).places(self.of[side]):
                     self.arm(side, line)
         if self.form.dashes:
             self.dash()
 
     def arm(self, side: str, line: int) -> None:
-        thin, more = self.thin, self.fat if self.of[side] == THICK else 0
-        if side in 'lr':
-            at, top = self.x + self.reach(side, line, 'ud'), self.y + line - more // 2
-            left, right = (0, at + thin) if side == 'l' else (at, self.cell.wide)
-            self.cell.fill(top, top + thin + more, left, right)
+        """One line from an edge of the cell to the middle."""
+        is_level = side in 'lr'
+        own, across = (self.level, self.upright) if is_level else (self.upright, self.level)
+        more = own.fat if self.of[side] == THICK else 0
+        at = self.reach(side, line, 'ud' if is_level else 'lr', across)
+        first = own.at + line - more // 2
+        last, long = first + own.thin + more, self.cell.wide if is_level else self.cell.high
+        start, end = (0, at + across.thin) if side in 'lu' else (at, long)
+        if is_level:
+            self.cell.fill(first, last, start, end)
         else:
-            at, left = self.y + self.reach(side, line, 'lr'), self.x + line - more // 2
-            top, bottom = (0, at + thin) if side == 'u' else (at, self.cell.high)
-            self.cell.fill(top, bottom, left, left + thin + more)
+            self.cell.fill(start, end, first, last)
 
     def dash(self) -> None:
         """Takes the gaps out of a line."""
@@ -146,29 +164,30 @@ class Lines:
 
     def round(self) -> None:
         """A corner that is a quarter of a circle, with what is left of its two arms."""
-        x, y, thin = self.x + self.thin / 2, self.y + self.thin / 2, self.thin
-        far = int(min(self.cell.wide - x, self.cell.high - y) * .9)
+        level, upright, cell = self.level, self.upright, self.cell
+        x, y = upright.at + upright.thin / 2, level.at + level.thin / 2
+        far = int(min(cell.wide - x, cell.high - y) * .9)
         right, down = 1 if self.of['r'] else -1, 1 if self.of['d'] else -1
         at_x, at_y = x + right * far, y + down * far
-        for row in range(self.cell.high):
-            for column in range(self.cell.wide):
+        for row in range(cell.high):
+            for column in range(cell.wide):
                 dx, dy = column + .5 - at_x, row + .5 - at_y
                 is_inside = dx * right < 0 and dy * down < 0
-                if is_inside and abs((dx * dx + dy * dy) ** .5 - far) <= thin / 2:
-                    self.cell.fill(row, row + 1, column, column + 1)
-        first, last = (int(at_x), self.cell.wide) if right > 0 else (0, int(at_x + 1))
-        self.cell.fill(self.y, self.y + thin, first, last)
-        first, last = (int(at_y), self.cell.high) if down > 0 else (0, int(at_y + 1))
-        self.cell.fill(first, last, self.x, self.x + thin)
+                if is_inside and abs((dx * dx + dy * dy) ** .5 - far) <= max(level.thin, upright.thin) / 2:
+                    cell.fill(row, row + 1, column, column + 1)
+        first, last = (int(at_x), cell.wide) if right > 0 else (0, int(at_x + 1))
+        cell.fill(level.at, level.at + level.thin, first, last)
+        first, last = (int(at_y), cell.high) if down > 0 else (0, int(at_y + 1))
+        cell.fill(first, last, upright.at, upright.at + upright.thin)
 
     def diagonals(self) -> None:
         """Slopes from corner to corner."""
         wide, high = self.cell.wide, self.cell.high
+        half = self.upright.thin * ((wide / high) ** 2 + 1) ** .5 / 2
         for y in range(high):
             for way in self.form.diagonals:
                 at = (y + .5) * wide / high
                 middle = at if way == FALLING else wide - at
-                half = self.thin * ((wide / high) ** 2 + 1) ** .5 / 2
                 self.cell.fill(y, y + 1, near(middle - half), max(near(middle + half), near(middle - half) + 1))
 
 
@@ -192,5 +211,5 @@ def rows(char: str, wide: int, high: int) -> Optional[Dots]:
     else:
         form = form_of(char)
         if form:
-            Lines(cell, form, high).draw()
+            Lines(cell, form, wide, high).draw()
     return cell.dots()

@@ -116,7 +116,8 @@ class Letters:
 
     def composed(self, char: str) -> Optional[Letter]:
         """A letter with marks, or None."""
-        base, *marks = unicodedata.normalize('NFD', char)
+        parts = unicodedata.normalize('NFD', char)
+        base, marks = parts[0], list(parts[1:])
         if marks[:1] == [HORN]:
             base, marks = unicodedata.normalize('NFC', base + marks[0]), marks[1:]
         if not marks or any(it not in self.lines for it in marks):
@@ -125,9 +126,9 @@ class Letters:
         if not found:
             return None
         if marks == [ACUTE] and 'Α' <= base <= 'Ω':
-            parts = [moved(part, BEFORE) for part in found.parts]
+            strokes = [moved(part, BEFORE) for part in found.parts]
             accent = self.mark(TICK if TICK in self.lines else ACUTE)
-            return Letter(found.advance + BEFORE, parts, [Mark(accent, BEFORE / 2, False, 0, True)])
+            return Letter(found.advance + BEFORE, strokes, [Mark(accent, BEFORE / 2, False, 0, True)])
         if marks == [TREMA, ACUTE]:
             marks = [BOTH]
         middle = found.advance / 2 if base in self.own else MIDDLES.get(base, found.advance / 2)

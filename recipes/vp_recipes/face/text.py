@@ -47,4 +47,5 @@ def pbm(text: str, wide: int, high: int) -> bytes:
         for n, row in enumerate(dots.rows, y - top):
             rows[n] |= row << across - (x - left) - dots.width
     octets = (across + 7) // 8
-    return b'P4\n%d %d\n' % (across, len(rows)) + b''.join((it << 8 * octets - across).to_bytes(octets, 'big') for it in rows)
+    packed = b''.join((it << 8 * octets - across).to_bytes(octets, 'big') for it in rows)
+    return b'P4\n%d %d\n' % (across, len(rows)) + packed
