@@ -1,7 +1,7 @@
 #!/usr/bin/env python3
-"""What must hold of the face: check.py SIZE.., a size as 24 or, half as wide, 24x12. Every letter of printers' tables is
-there, within its box, ASCII's letters differ, and letters have as many holes as they have when large: none closes, none
-opens. Of the first size every character is looked at, of the others those that are named here. Then the cells of
+"""What must hold of the face: check.py SIZE.., a size as 24 or, half as wide, 24x12. Every letter of printers' tables
+is there, within its box, ASCII's letters differ, and letters have as many holes as they have when large: none closes,
+none opens. Of the first size every character is looked at, of the others those that are named here. Then the cells of
 receipts."""
 import pathlib
 import sys
@@ -23,9 +23,10 @@ OTHERS = [f'iso8859-{n}' for n in range(1, 17) if n != 12] + ['koi8-r', 'koi8-u'
 HOLES = {**dict.fromkeys('CEFGHIJKLMNSTUVWXYZcfhklmnrstuvwxyz12357ßΩЖжмшщ', 0),
          **dict.fromkeys('ADOPQRabdegopq0469δσαБЫЮЯяюы#öð', 1), **dict.fromkeys('B8&%Φφв', 2)}
 NOT_NARROW = 'Q&a%'
-# How far a letter may go beyond its advance, of an em; more than these are alike in cells, and must be: the comma and the
-# low quote, the two dashes, two marks and the same alone.
+# How far a letter may go beyond its advance, of an em.
 BEYOND = .12
+# What looks the same in cells beside letters that must: the comma and the low quote, the two dashes, two signs and the
+# marks of their form.
 SAME = [',‚', '—―', '˜\u0303', '`\u0300']
 
 
@@ -47,8 +48,8 @@ def holes(rows: List[int], wide: int) -> int:
 
 def of_tables(names: Iterable[str]) -> Set[str]:
     """The characters of tables, but for those of writings that the face hasn't, and for controls."""
-    chars = {it for name in names for it in shown(name).values()}
-    return {it for it in chars if unicodedata.category(it)[0] != 'C' and not '\u0590' <= it < '\u0e80' and it < '\uf000'}
+    chars = {it for name in names for it in shown(name).values() if unicodedata.category(it)[0] != 'C'}
+    return {it for it in chars if not '\u0590' <= it < '\u0e80' and it < '\uf000'}
 
 
 def wrong(chars: Iterable[str], wide: int, high: int) -> Iterator[str]:
@@ -86,7 +87,8 @@ def parted(wide: int, high: int) -> Iterator[str]:
         assert dots
         return {'l': [it >> dots.width - 1 for it in dots.rows], 'r': [it & 1 for it in dots.rows],
                 'u': dots.rows[:1], 'd': dots.rows[-1:]}
-    whole = {'lr': {boxes.ONE: '─', boxes.TWO: '═', boxes.THICK: '━'}, 'ud': {boxes.ONE: '│', boxes.TWO: '║', boxes.THICK: '┃'}}
+    whole = {'lr': {boxes.ONE: '─', boxes.TWO: '═', boxes.THICK: '━'},
+             'ud': {boxes.ONE: '│', boxes.TWO: '║', boxes.THICK: '┃'}}
     for char in map(chr, range(0x2500, 0x2580)):
         form = boxes.form_of(char)
         if form and not form.dashes and not form.diagonals:

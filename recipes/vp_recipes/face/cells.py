@@ -1,8 +1,9 @@
 """The face of receipts: its characters in cells of one width, of the same skeletons with a thinner pen."""
+import functools
 from typing import Dict, List, NamedTuple, Optional, Tuple
 
 from ..drawing import block, box
-from .fitting import Fitted, Size, fitted, near, shifted, size_of
+from .fitting import Fitted, Size, fitted, near, shifted, size_of, unfitted
 from .glyphs import parts_of, with_marks
 from .letters import Letter, Letters
 from .outlines import ends
@@ -29,6 +30,8 @@ SETTINGS: Dict[Cell, Setting] = {(12, 24): Setting(21, 19, 2, 2, Letters({**LINE
 # Signs up to this advance aren't made wider, letters from this one on may be a dot wider than others.
 NARROW, WIDE = 320, 640
 WIDTHS = (1.4, 1.3, 1.2, 1.15, 1.1, 1.05, *(n / 100 for n in range(100, 40, -5)))
+# By how many dots a letter that isn't fitted is wider than a cell that it can't be fitted into.
+FAR = 1
 # By how many dots an em is less high where a mark would leave the cell.
 LOWERED = (0, 1, 2)
 # What goes on in the next cell, and is cut at the edge of its own.
@@ -46,18 +49,26 @@ def marked(found: Letter, strokes: Fitted, size: Size, narrower: float) -> Fitte
 def narrowed(found: Letter, setting: Setting, wide: int, lowered: int) -> Fitted:
     """The strokes of a letter as wide as a cell lets it be, a dot of white beside it, with the widest pen."""
     room = wide - (1 if found.advance >= WIDE else 2)
-    widths = (1,) if found.advance <= NARROW else WIDTHS
     for thinner in range(setting.stem):
         size = size_of(setting.em, setting.em - lowered, setting.stem - thinner, setting.bar)
-        for most in range(room, wide):
-            for narrower in widths:
-                strokes = marked(found, parts_of(found, size, narrower), size, narrower)
-                left, right = map(near, ends(strokes))
-                if right - left <= most:
+        least, most = ends(unfitted(found.strokes(), size))
+        wider: List[Tuple[int, Fitted]] = []
+        for narrower in (1,) if found.advance <= NARROW else WIDTHS:
+            if (most - least) * narrower > wide + FAR and narrower > WIDTHS[-1]:
+                continue
+            strokes = marked(found, parts_of(found, size, narrower), size, narrower)
+            left, right = map(near, ends(strokes))
+            if right - left <= room:
+                return strokes
+            wider.append((right - left, strokes))
+        for room_now in range(room + 1, wide):
+            for across, strokes in wider:
+                if across <= room_now:
                     return strokes
     return strokes
 
 
+@functools.lru_cache(2048)
 def letter(char: str, cell: Cell) -> Optional[Dots]:
     """The dots of a letter in a cell, from the cell's corner, or None."""
     setting = SETTINGS[cell]
