@@ -226,6 +226,7 @@ for shell in bash fish zsh; do
         offers "$shell" 'vp-job ord' order.bin
         offers "$shell" 'vp-viewer --width ' 384 576
         offers "$shell" 'vp-sheet --font ' a b
+        offers "$shell" 'vp-face --b' --between
         echo "completions of $shell: ok"
     fi
 done

@@ -23,6 +23,11 @@ _vp_tools() {
     vp-expand:--table) options='' only=yes ;;
     vp-expand:--from) options='' only=yes ;;
     vp-expand:--now) options='' only=yes ;;
+    vp-face:--wide) options='' only=yes ;;
+    vp-face:--between) options='' only=yes ;;
+    vp-face:--table) options='' only=yes ;;
+    vp-face:--chars) options='' only=yes ;;
+    vp-face:--text) options='' only=yes ;;
     vp-golden:--ignore) options='' only=yes ;;
     vp-golden:--most-rows) options='' only=yes ;;
     vp-golden:--most-bytes) options='' only=yes ;;
@@ -77,6 +82,7 @@ _vp_tools() {
         case $tool:$word in
         vp-device:-*) options='--help --listen --port --http --token --state --state-file --script --busy --buffer --language --idle --at-once --while-stdin --share --store --expand --most-rows --most-bytes --most-images --most-seconds' ;;
         vp-expand:-*) options='--help --lang --table --from --nearest --keep-sizes --map --store --now --font-a --tell' ;;
+        vp-face:-*) options='--help --wide --between --table --chars --text' ;;
         vp-golden:-*) options='--help --report --junit --ignore --incomplete --prune --as-it-came --most-rows --most-bytes --most-images --most-seconds' ;;
         vp-job:-*) options='--help --expand --most-rows --most-bytes --most-images --most-seconds' ;;
         vp-lint:-*) options='--help --lang --font-a --font-b --known --write-known --most-rows --most-bytes --most-images --most-seconds' ;;
@@ -84,7 +90,7 @@ _vp_tools() {
         vp-paper:-*) options='--help --each --dpmm --most-rows --most-bytes --most-images --most-seconds' ;;
         vp-past:-*) options='--most-rows --most-bytes --most-images --most-seconds --help' ;;
         vp-print:-*) options='--most-rows --most-bytes --most-images --most-seconds --guess --words --languages --expand --table --from --batch --sums --in-process --help' ;;
-        vp-sheet:-*) options='--help --font --table --blank' ;;
+        vp-sheet:-*) options='--help --font --table --face --blank' ;;
         vp-show:-*) options='--help --lang --font-a --font-b --to --as-it-came --table --from --open --most-rows --most-bytes --most-images --most-seconds' ;;
         vp-text:-*) options='--help --lang --table --most-rows --most-bytes --most-images --most-seconds' ;;
         vp-viewer:-*) options='--help --lang --width --font-a --font-b --port --as-it-came --open' ;;
@@ -99,4 +105,4 @@ _vp_tools() {
         while IFS= read -r it; do COMPREPLY+=("$it"); done < <(compgen -f -- "$word")
     fi
 }
-complete -F _vp_tools vp-device vp-expand vp-golden vp-job vp-lint vp-many vp-paper vp-past vp-print vp-sheet vp-show vp-text vp-viewer
+complete -F _vp_tools vp-device vp-expand vp-face vp-golden vp-job vp-lint vp-many vp-paper vp-past vp-print vp-sheet vp-show vp-text vp-viewer

@@ -16,7 +16,11 @@ COMMANDS = {
     'paper': 'makes PNG or PDF of images',
     'text': 'reads the text of a stream',
     'sheet': 'makes a glyph sheet of a font',
+    'face': 'writes a bold face of our own at any size',
 }
+
+# Those that are packages.
+PACKAGES = 'expand', 'face'
 
 
 def usage() -> str:
@@ -37,7 +41,7 @@ def main() -> int:
     if (top / 'crates.txt').is_file():
         sys.path.insert(0, str(top / 'recipes'))
     sys.argv = [f'python -m vp {name}', *words[1:]]
-    module = 'vp_recipes.expand.command' if name == 'expand' else f'vp_recipes.{name}'
+    module = f'vp_recipes.{name}.command' if name in PACKAGES else f'vp_recipes.{name}'
     status: int = importlib.import_module('vp_recipes.program').ended(importlib.import_module(module).main)
     return status
 

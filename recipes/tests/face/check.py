@@ -21,7 +21,7 @@ OF_PRINTERS = sorted({*PAGES.values(), *CHOICES.values()}.difference(WIDE))
 OTHERS = [f'iso8859-{n}' for n in range(1, 17) if n != 12] + ['koi8-r', 'koi8-u']
 # The letters with no hole, with one, with two. At another width than an em's own some have one too many.
 HOLES = {**dict.fromkeys('CEFGHIJKLMNSTUVWXYZcfhklmnrstuvwxyz12357ßΩЖжмшщ', 0),
-         **dict.fromkeys('ADOPQRabdegopq0469δσαБЫЮЯяюы#öð', 1), **dict.fromkeys('B8&%Φφв', 2)}
+         **dict.fromkeys('ADOPQRabdegopq0469δσαБЫЮЯяюы#öð@§', 1), **dict.fromkeys('B8&%Φφв', 2)}
 NOT_NARROW = 'Q&a%'
 # How far a letter may go beyond its advance, of an em.
 BEYOND = .12
@@ -71,7 +71,7 @@ def wrong(chars: Iterable[str], wide: int, high: int) -> Iterator[str]:
             yield f'{char} has {found} holes, not {HOLES[char]}'
         if not -beyond <= dots.left <= dots.left + dots.width <= it.ahead + beyond:
             yield f'{char} is outside its box: {dots.left} to {dots.left + dots.width} of {it.ahead}'
-        if not -.3 * high - 1 <= dots.top - len(dots.rows) <= dots.top <= 1.1 * high + 1:
+        if not -.3 * high - 1 <= dots.top - len(dots.rows) <= dots.top <= 1.2 * high:
             yield f'{char} is above or below its box'
         if char.isascii():
             form = (it.ahead, dots.left, dots.top, *dots.rows)

@@ -18,23 +18,35 @@ from typing import Iterable, List
 from .bdf import font
 from .glyphs import every, has
 from .text import pbm
-from ..faults import Fault
+from ..faults import Fault, shown
 from ..tables import characters
 
 LEAST, MOST = 8, 400
 
 
-def dots(text: str) -> int:
-    value = int(text)
-    if not LEAST <= value <= MOST:
-        raise argparse.ArgumentTypeError(f'{value} is not from {LEAST} to {MOST}')
+def bounded(text: str, least: int) -> int:
+    try:
+        value = int(text)
+    except ValueError:
+        value = least - 1
+    if not least <= value <= MOST:
+        raise argparse.ArgumentTypeError(f'{shown(text)} is no number from {least} to {MOST}')
     return value
+
+
+def dots(text: str) -> int:
+    return bounded(text, LEAST)
+
+
+def rows(text: str) -> int:
+    return bounded(text, 0)
 
 
 def words_of() -> argparse.ArgumentParser:
     words = argparse.ArgumentParser(description=__doc__, formatter_class=argparse.RawDescriptionHelpFormatter)
     words.add_argument('high', metavar='HIGH', type=dots, help='how many dots an em is high')
     words.add_argument('--wide', metavar='WIDE', type=dots, help='how many dots an em is wide')
+    words.add_argument('--between', metavar='ROWS', type=rows, default=0, help='how many rows are between lines of a text')
     which = words.add_mutually_exclusive_group()
     which.add_argument('--table', metavar='CODEC', help='the characters of a table, by its name in Python')
     which.add_argument('--chars', metavar='TEXT', help='the characters of a text')
@@ -61,7 +73,7 @@ def main() -> int:
     wide = given.wide or high
     if given.text is not None:
         held(given.text.replace('\n', ' '))
-        sys.stdout.buffer.write(pbm(given.text, wide, high))
+        sys.stdout.buffer.write(pbm(given.text, wide, high, given.between))
         return 0
     if given.table is not None:
         chars = held(it for it in characters(given.table).values() if unicodedata.category(it) != 'Cc')

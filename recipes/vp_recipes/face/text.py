@@ -17,12 +17,12 @@ class Placed(NamedTuple):
     dots: Dots
 
 
-def placed(lines: Iterable[str], wide: int, high: int) -> Tuple[List[Placed], int]:
+def placed(lines: Iterable[str], wide: int, high: int, between: int) -> Tuple[List[Placed], int]:
     """The dots of each character, and how wide the widest line is."""
     known: Dict[str, Optional[Glyph]] = {}
     found, widest = [], 0
     for n, line in enumerate(lines):
-        x, baseline = 0, (n + 1) * high - near(BELOW * high / EM)
+        x, baseline = 0, n * (high + between) + high - near(BELOW * high / EM)
         for char in line:
             if char not in known:
                 known[char] = glyph(char, wide, high)
@@ -34,13 +34,14 @@ def placed(lines: Iterable[str], wide: int, high: int) -> Tuple[List[Placed], in
     return found, widest
 
 
-def pbm(text: str, wide: int, high: int) -> bytes:
-    """An image of a text's lines, each as high as an em and what goes beyond, as raw PBM."""
+def pbm(text: str, wide: int, high: int, between: int = 0) -> bytes:
+    """An image of a text's lines, each as high as an em, with so many rows between, and of what goes beyond, as raw
+    PBM."""
     lines = text.split('\n')
-    found, widest = placed(lines, wide, high)
+    found, widest = placed(lines, wide, high, between)
     left, top = min([0, *(it.x for it in found)]), min([0, *(it.y for it in found)])
     right = max([widest, *(it.x + it.dots.width for it in found)])
-    bottom = max([len(lines) * high, *(it.y + len(it.dots.rows) for it in found)])
+    bottom = max([len(lines) * (high + between) - between, *(it.y + len(it.dots.rows) for it in found)])
     across = max(1, right - left)
     rows = [0] * (bottom - top)
     for x, y, dots in found:
