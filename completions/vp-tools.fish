@@ -33,7 +33,7 @@ complete -c vp-expand -l font-a -r -F -d 'the sheet that symbols have their text
 complete -c vp-expand -l tell -r -F -d 'tells vp\'s lines on standard input by a map'
 complete -c vp-face -s h -l help -d 'tells of the command'
 complete -c vp-face -l wide -x -d 'how many dots an em is wide'
-complete -c vp-face -l between -x -d 'how many rows are between lines of a text'
+complete -c vp-face -l between -x -d 'how many white rows are between lines of a text'
 complete -c vp-face -l table -x -d 'the characters of a table, by its name in Python'
 complete -c vp-face -l chars -x -d 'the characters of a text'
 complete -c vp-face -l text -x -d 'an image of a text, as PBM'

@@ -35,6 +35,7 @@ recipes/paper "$room/text.png" <"$room/text.pbm"
 testing same "$room/text.png" "$room/text.pbm"
 recipes/face 8 --text "$(printf 'Two\nlines: \303\204')" | head -n 2 | tr '\n' ' ' >"$room/said"
 says '^P4 [0-9]* 1[6-9] $'
+is 2 'a text that is too large' recipes/face 400 --text "$(head -c 20000 /dev/zero | tr '\0' A)"
 recipes/face 400 --chars 'A@' >"$room/400.bdf"
 grep -q '^DWIDTH 260 0$' "$room/400.bdf" || fail 'the largest size'
 echo 'a text and other sizes: ok'

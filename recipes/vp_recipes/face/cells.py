@@ -8,7 +8,7 @@ from .glyphs import parts_of, with_marks
 from .letters import Letter, Letters
 from .outlines import ends
 from .raster import NONE, Dots, drawn
-from .skeletons import IN_CELLS, IN_SMALL, LINES
+from .skeletons import IN_LARGE, IN_SMALL, LINES
 
 Cell = Tuple[int, int]
 
@@ -24,9 +24,8 @@ class Setting(NamedTuple):
     letters: Letters
 
 
-OWN = {**IN_CELLS, **IN_SMALL}
-SETTINGS: Dict[Cell, Setting] = {(12, 24): Setting(21, 19, 2, 2, Letters({**LINES, **IN_CELLS}, IN_CELLS)),
-                                 (9, 17): Setting(15, 14, 2, 1, Letters({**LINES, **OWN}, OWN))}
+SETTINGS: Dict[Cell, Setting] = {(12, 24): Setting(21, 19, 2, 2, Letters({**LINES, **IN_LARGE}, IN_LARGE)),
+                                 (9, 17): Setting(15, 14, 2, 1, Letters({**LINES, **IN_SMALL}, IN_SMALL))}
 # Signs up to this advance aren't made wider, letters from this one on may be a dot wider than others.
 NARROW, WIDE = 320, 640
 WIDTHS = (1.4, 1.3, 1.2, 1.15, 1.1, 1.05, *(n / 100 for n in range(100, 40, -5)))

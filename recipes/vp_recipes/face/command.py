@@ -46,7 +46,8 @@ def words_of() -> argparse.ArgumentParser:
     words = argparse.ArgumentParser(description=__doc__, formatter_class=argparse.RawDescriptionHelpFormatter)
     words.add_argument('high', metavar='HIGH', type=dots, help='how many dots an em is high')
     words.add_argument('--wide', metavar='WIDE', type=dots, help='how many dots an em is wide')
-    words.add_argument('--between', metavar='ROWS', type=rows, default=0, help='how many rows are between lines of a text')
+    words.add_argument('--between', metavar='ROWS', type=rows, default=0,
+                       help='how many white rows are between lines of a text')
     which = words.add_mutually_exclusive_group()
     which.add_argument('--table', metavar='CODEC', help='the characters of a table, by its name in Python')
     which.add_argument('--chars', metavar='TEXT', help='the characters of a text')

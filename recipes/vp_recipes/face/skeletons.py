@@ -1,5 +1,5 @@
 """The face as data: the skeleton of each character, which characters look alike, and where marks stand on letters."""
-from .cell_forms import FORMS, SMALL
+from .cell_forms import FORMS, LARGE, SMALL
 from .cyrillic import CYRILLIC
 from .greek import GREEK
 from .latin import OTHERS, PLAIN
@@ -8,8 +8,8 @@ from .notation import lines_of
 from .signs import MATHS, SIGNS
 
 LINES = lines_of(PLAIN, SIGNS, OTHERS, GREEK, CYRILLIC, MATHS, MARKS)
-# Of those whose form in cells is another one: in all cells, and in those of 9 by 17 dots alone.
-IN_CELLS, IN_SMALL = lines_of(FORMS), lines_of(SMALL)
+# Of those whose form is another one in cells of 12 by 24 dots, and of 9 by 17.
+IN_LARGE, IN_SMALL = lines_of(FORMS, LARGE), lines_of(FORMS, SMALL)
 # Letters that look as others.
 ALIKE = dict(zip('ΑΒΕΖΗΙΚΜΝΟΡΤΥΧκμνοАВЕКМНОРСТХЅІЈГПФаеорсухѕіјкфћҺһ∆Ω∑ҮÐ',
                  'ABEZHIKMNOPTYXĸµvoABEKMHOPCTXSIJΓΠΦaeopcyxsijĸφħHhΔΩΣYĐ'))

@@ -4,9 +4,12 @@ from typing import Dict, Iterable, List, NamedTuple, Optional, Tuple
 from .fitting import BELOW, EM, near
 from .glyphs import Glyph, glyph
 from .raster import Dots
+from ..faults import Fault
 
 # How wide a character is that the face lacks: so much stays white.
 LACKING = 500
+# The largest image.
+MOST_DOTS = 1 << 29
 
 
 class Placed(NamedTuple):
@@ -42,11 +45,19 @@ def pbm(text: str, wide: int, high: int, between: int = 0) -> bytes:
     left, top = min([0, *(it.x for it in found)]), min([0, *(it.y for it in found)])
     right = max([widest, *(it.x + it.dots.width for it in found)])
     bottom = max([len(lines) * (high + between) - between, *(it.y + len(it.dots.rows) for it in found)])
-    across = max(1, right - left)
-    rows = [0] * (bottom - top)
+    across, down = max(1, right - left), bottom - top
+    if across * down > MOST_DOTS:
+        raise Fault(f'the text has {across:,} by {down:,} dots, more than is drawn', 2)
+    rows = [bytearray((across + 7) // 8) for _ in range(down)]
     for x, y, dots in found:
         for n, row in enumerate(dots.rows, y - top):
-            rows[n] |= row << across - (x - left) - dots.width
-    octets = (across + 7) // 8
-    packed = b''.join((it << 8 * octets - across).to_bytes(octets, 'big') for it in rows)
-    return b'P4\n%d %d\n' % (across, len(rows)) + packed
+            put(rows[n], x - left, dots.width, row)
+    return b'P4\n%d %d\n' % (across, down) + b''.join(rows)
+
+
+def put(row: bytearray, x: int, wide: int, dots: int) -> None:
+    """Puts so many dots at a place of a row."""
+    first, last = x // 8, (x + wide + 7) // 8
+    octets = last - first
+    dots = int.from_bytes(row[first:last], 'big') | dots << 8 * octets - x % 8 - wide
+    row[first:last] = dots.to_bytes(octets, 'big')
