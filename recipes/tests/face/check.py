@@ -69,6 +69,8 @@ def wrong(chars: Iterable[str], wide: int, high: int) -> Iterator[str]:
         found = holes(dots.rows, dots.width) if char in HOLES else 0
         if found != HOLES.get(char, 0) and (wide == high or char not in NOT_NARROW):
             yield f'{char} has {found} holes, not {HOLES[char]}'
+        if unicodedata.combining(char) and not 0 <= dots.left <= dots.left + dots.width <= it.ahead:
+            yield f'U+{ord(char):04X} does not stand in its advance'
         if not -beyond <= dots.left <= dots.left + dots.width <= it.ahead + beyond:
             yield f'{char} is outside its box: {dots.left} to {dots.left + dots.width} of {it.ahead}'
         if not -.3 * high - 1 <= dots.top - len(dots.rows) <= dots.top <= 1.2 * high:
