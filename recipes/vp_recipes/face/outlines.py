@@ -1,5 +1,6 @@
 """Outlines: the four-cornered pieces that a pen leaves along a stroke. It is wide where the stroke goes up or down,
 thick where it goes across, and between the two on a slope; ends are cut level or upright."""
+import functools
 import math
 from typing import Iterator, List, NamedTuple, Tuple
 
@@ -53,17 +54,26 @@ def controls(a: Point, b: Point) -> Tuple[Pair, Pair]:
     return first, last
 
 
+@functools.lru_cache(None)
+def shares(steps: int) -> List[Tuple[float, ...]]:
+    """Of each step of a curve: how far it is, and the shares of the four points in its place and of the three ways
+    between them in its direction."""
+    found: List[Tuple[float, ...]] = []
+    for n in range(steps + 1):
+        t = n / steps
+        u = 1 - t
+        found.append((t, u ** 3, 3 * u * u * t, 3 * u * t * t, t ** 3, u * u, 2 * u * t, t * t))
+    return found
+
+
 def curve(a: Point, b: Point, steps: int) -> Part:
     """The samples of the curve from one point to the next."""
     (px, py), (sx, sy), ((qx, qy), (rx, ry)) = a[:2], b[:2], controls(a, b)
     found = []
-    for n in range(steps + 1):
-        t = n / steps
-        u = 1 - t
-        one, two, three, four = u ** 3, 3 * u * u * t, 3 * u * t * t, t ** 3
+    for t, one, two, three, four, first, second, third in shares(steps):
         at = one * px + two * qx + three * rx + four * sx, one * py + two * qy + three * ry + four * sy
-        wx = u * u * (qx - px) + 2 * u * t * (rx - qx) + t * t * (sx - rx)
-        wy = u * u * (qy - py) + 2 * u * t * (ry - qy) + t * t * (sy - ry)
+        wx = first * (qx - px) + second * (rx - qx) + third * (sx - rx)
+        wy = first * (qy - py) + second * (ry - qy) + third * (sy - ry)
         if math.hypot(wx, wy) < 1e-6:
             wx, wy = b.x - a.x, b.y - a.y + 1e-9
         long = math.hypot(wx, wy)
