@@ -3,7 +3,8 @@ use Rattle.std.proofs.Common.{◌++◌, drop, ◌≡◌, ℕ, ◌/◌, ◌<◌, 
 use Rattle.std.proofs.lemmas.Bool.Decides.{nat_tests}
 use Rattle.std.proofs.lemmas.List.{get_or-drop, get_or_append_left, get_or-append_right, get_or_past, get_or-replicate, length-replicate}
 use Rattle.std.proofs.lemmas.Nat.Bits.{bit_at-zero}
-use Rattle.vp_page.specs.declared.page.TheConstants.{PAGE_ROWS, PAPER_BYTES}
+use Rattle.vp_page.specs.declared.page.TheConstants.{PAGE_ROWS, PAPER_BYTES, PAPER_DOTS}
+use Rattle.vp_page.specs.declared.line.TheConstants.{LINE_BYTES}
 use Rattle.vp_dots.specs.Dots.{dot, bit}
 use Rattle.vp_page.specs.Pages.{HasPage}
 
@@ -11,8 +12,9 @@ pub dot_white : (n x : ℕ) → x / 8 < n → dot (replicate n 0) x ≡ false
 unfolding dot bit
 dot_white n x h = grind (arith, get_or-replicate, bit_at-zero)
 
-pub blank : (high wide : ℕ) (band : List (List ℕ)) → high ≡ PAGE_ROWS → wide ≡ PAPER_BYTES → band ≡ replicate high (replicate wide 0) → HasPage [] (record { rows = band; laid = 0; wiped = 0 })
-blank high wide band a b e = grind (arith, get_or, get_or-replicate, replicate, length-replicate, dot_white)
+pub blank : (rows columns : List (List ℕ)) → rows ≡ replicate PAGE_ROWS (replicate PAPER_BYTES 0) → columns ≡ replicate PAPER_DOTS (replicate LINE_BYTES 0)
+    → HasPage [] (record { rows = rows; columns = columns; laid = 0; wiped = 0 })
+blank rows columns r c = grind (arith, get_or-replicate, length-replicate, dot_white)
 
 -- a row with white bytes behind it
 pub white_end : (row : List ℕ) (m u : ℕ) → dot (row ++ drop (length row) (replicate {A = ℕ} m 0)) u ≡ dot row u

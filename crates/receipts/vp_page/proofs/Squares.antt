@@ -1,4 +1,4 @@
--- Squares laid across the page.
+-- Words and lines without a dot.
 use Rattle.std.proofs.Common.{◌≡◌, ℕ, ◌<◌, ◌≤◌, Bool, false, ltb, ◌&&◌, ap, ◌∙◌, arith, List, [], length, get_or, replicate}
 use Rattle.std.proofs.lemmas.List.{get_or_past, get_or-replicate}
 use Rattle.std.proofs.lemmas.Bool.{lt-ltb, le-ltb}
@@ -20,18 +20,6 @@ pub white_word : (x : ℕ) → word_dot 0 x ≡ false
 unfolding bit
 white_word x = grind (arith, lt-ltb, bit_at-zero, le-ltb)
 
--- white words
-pub white_words : (y x : ℕ) → y < 64 → word_dot (get_or (replicate {A = ℕ} 64 0) y 0) x ≡ false
-white_words y x h = rw (get_or-replicate {A = ℕ} 64 y 0 0 h) (white_word x)
-
 -- where there is no line there is no dot
 pub no_line : (lines : List (List ℕ)) (i u : ℕ) → length lines ≤ i → line_dot lines i u ≡ false
 no_line lines i u h = rw (get_or_past {X = List ℕ} lines i [] h) (ap (λ b. ltb u LINE_DOTS && b) (dot_past [] u (omega arith)) ∙ and_false (ltb u LINE_DOTS))
-
--- all lines
-pub all_rows : (lines : List (List ℕ)) (i n u : ℕ) → n ≡ length lines → (ltb i n && line_dot lines i u) ≡ line_dot lines i u
-all_rows lines i n u e = grind (arith, lt-ltb, le-ltb, no_line)
-
--- no ink
-pub nothing_painted : (f : ℕ → ℕ → Bool) (a : List (List ℕ)) → ((x y : ℕ) → y < PAGE_ROWS → f x y ≡ false) → RowsPainted PAGE_ROWS Black f a a
-nothing_painted f a e = record { rows_are = λ y h. painted_none Black (λ x. f x y) (get_or a y []) (λ d l. e d y h) }
