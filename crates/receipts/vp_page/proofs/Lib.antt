@@ -9,6 +9,7 @@ pub mod Pages
 pub mod Rows
 pub mod Shown
 pub mod Squares
+pub mod SquaresTurned
 pub mod Whites
 pub mod Wipes
 pub mod Wiping

@@ -1,5 +1,5 @@
 -- Rows made of words, and laid along the page.
-use Rattle.std.proofs.Common.{◌≡◌, ℕ, ◌+◌, ◌-◌, ◌*◌, ◌/◌, ◌<◌, ◌≤◌, min, Bool, true, false, cond, ltb, leb, ◌&&◌, ◌∙◌, arith, List, length, take, replicate, ◌^◌, ◌%◌}
+use Rattle.std.proofs.Common.{◌≡◌, ℕ, ◌+◌, ◌-◌, ◌*◌, ◌/◌, ◌<◌, ◌≤◌, min, Bool, true, false, cond, ltb, leb, ◌&&◌, ◌∙◌, refl, arith, List, length, take, replicate, ◌^◌, ◌%◌}
 use Rattle.std.proofs.lemmas.Bool.{lt-ltb, le-ltb, lt-leb, le-leb}
 use Rattle.std.proofs.lemmas.List.{get_or-take, length-replicate, length-take}
 use Rattle.std.proofs.lemmas.Bool.Decides.{nat_tests}
@@ -9,7 +9,6 @@ use Rattle.vp_dots.specs.Words.{word_dot}
 use Rattle.vp_dots.specs.Painting.{Painted}
 use Rattle.vp_dots.specs.declared.Op.TheVariants.{Black}
 use Rattle.vp_dots.proofs.Words.{word_shr}
-use Rattle.vp_page.specs.declared.page.TheConstants.{PAGE_ROWS, PAPER_DOTS}
 use Rattle.vp_page.proofs.Blank.{dot_white}
 use Rattle.vp_page.proofs.Rows.{dot_past}
 use Rattle.vp_page.proofs.WordsOnRows.{first_eight, word_bytes}
@@ -68,5 +67,13 @@ clipped_left n begin long words k x b more all h = grind (arith, le-ltb, and_fal
 pub as_many : (high top i times k : ℕ) (b : Bool) → k < high → i ≡ min times (high - top) → (ltb k (top + i) && (leb top k && b)) ≡ (span top (top + times) k && b)
 as_many high top i times k b h e = grind (arith, nat_tests)
 
-pub below_top : (top k : ℕ) (a : Bool) → top ≤ k → a ≡ (leb top k && a)
-below_top top k a h = grind arith
+-- one of the rows from a place of the half on
+pub row_below : (top i : ℕ) (b : Bool) → b ≡ (leb top (top + i) && b)
+row_below top i b = rw (le-leb top (top + i) (omega arith)) refl
+
+pub row_at : (top i : ℕ) (b : Bool) (f : ℕ → Bool) → (b && f i) ≡ (leb top (top + i) && (b && f (top + i - top)))
+row_at top i b f = let here : top + i - top ≡ i = omega arith in rw (le-leb top (top + i) (omega arith), here) refl
+
+-- so many rows from a place on
+pub rows_between : (top i n k : ℕ) (b : Bool) → i ≡ n → (ltb k (top + i) && (leb top k && b)) ≡ (span top (top + n) k && b)
+rows_between top i n k b e = rw e (grind (arith, nat_tests))

@@ -1,5 +1,6 @@
 -- Layers, and what is painted for them.
 use Rattle.std.proofs.Common.{inl, inr, ◌⊎◌, ◌≡◌, ℕ, ◌+◌, ◌-◌, ◌*◌, ◌<◌, ◌≤◌, Bool, true, false, not, min, cond, ltb, leb, eqb, ◌&&◌, ◌||◌, refl, ap, ◌∙◌, arith, List, [], ◌∷◌, length, get_or}
+use Rattle.std.proofs.lemmas.Bool.{lt-ltb}
 use Rattle.std.proofs.lemmas.Bool.Decides.{nat_tests}
 use Rattle.vp_page.specs.declared.line.TheConstants.{LINE_BYTES}
 use Rattle.vp_page.specs.declared.page.TheConstants.{PAGE_ROWS, PAPER_BYTES, PAPER_DOTS}
@@ -14,7 +15,7 @@ use Rattle.vp_page.specs.Lines.{line_dot}
 use Rattle.vp_page.specs.Pages.{HasPage, IsShown, Paged}
 use Rattle.vp_page.specs.Work.{rows_laid, laid_rows, most_wiped, least_wiped, area_rows, area_columns, MOST}
 use Rattle.vp_page.specs.Laws.{RowsMakeAnImage}
-use Rattle.vp_page.proofs.Falling.{lies, within}
+use Rattle.vp_page.proofs.Falling.{held, lies, within}
 use Rattle.vp_page.proofs.Squares.{no_line}
 use Rattle.vp_page.proofs.Wiping.{few_black}
 
@@ -127,3 +128,54 @@ pub times_more : (m : Mark) (k n v : ℕ) (row : ℕ → Bool) (layers : List La
 times_more m k n v row layers page place same has = same_page _ _ page (λ x y. rw place (more_times (holds m.area x y) (row (along m.area m.direction x y)) (page_dot layers x y)
     (down m.area m.direction x y) m.top k n (m.dot (along m.area m.direction x y))
     (λ t i l. same (along m.area m.direction x y) i (lies m.area m.direction x y (within m.area x y t)).in_line l))) (record { laid = omega (arith, place); most = refl; least = refl }) has
+
+abbrev pub whole : Area
+whole = record { x = 0; y = 0; dx = PAPER_DOTS; dy = PAGE_ROWS }
+
+pub all_held : (x y : ℕ) → x < PAPER_DOTS → y < PAGE_ROWS → holds whole x y ≡ true
+all_held x y k h = held whole x y (record { left = omega arith; right = k; above = omega arith; below = h })
+
+pub all_turned : (x y : ℕ) → x < PAPER_DOTS → y < PAGE_ROWS → holds (turned whole) y x ≡ true
+all_turned x y k h = held (turned whole) y x (record { left = omega arith; right = h; above = omega arith; below = k })
+
+-- all made white in both halves
+module _ (old new : Paged) (long : (x : ℕ) → x < PAPER_DOTS → length (get_or new.columns x []) ≡ LINE_BYTES) (q : RowsPainted PAPER_DOTS White (holds (turned whole)) old.columns new.columns) where
+  white_column : (x y : ℕ) → x < PAPER_DOTS → y < PAGE_ROWS → dot (get_or new.columns x []) y ≡ false
+  white_column x y k h =
+      (q.rows_are x k).dots_are y (let n = long x k in let m = (q.rows_are x k).length_is in omega (arith, h, n, m)) ∙ ap (λ i. cond i false (dot (get_or old.columns x []) y)) (all_turned x y k h)
+
+  pub shown : IsShown new
+  shown = record { white = white_column }
+
+  pub cleared : ((y : ℕ) → y < PAGE_ROWS → length (get_or new.rows y []) ≡ PAPER_BYTES) → RowsPainted PAGE_ROWS White (holds whole) old.rows new.rows
+      → new.laid ≡ 0 → new.wiped ≤ PAGE_ROWS + PAPER_DOTS → HasPage [] new
+  cleared wide p n w = record {
+    rows_are = wide;
+    columns_are = long;
+    dots_are = λ x y k h. ap (λ b. b || dot (get_or new.columns x []) y)
+        ((p.rows_are y h).dots_are x (let n = wide y h in let m = (p.rows_are y h).length_is in omega (arith, k, n, m)) ∙ ap (λ i. cond i false (dot (get_or old.rows y []) x)) (all_held x y k h))
+        ∙ white_column x y k h;
+    work = record { laid_is = omega (arith, n); at_most = omega (arith, w); at_least = omega arith };
+  }
+
+  in_rows : (new columns i r c q : Bool) → new ≡ cond i true r → i ≡ c → columns ≡ false → (r || c) ≡ q → (new || columns) ≡ q
+  in_rows new columns i r c q e s t p = grind arith
+
+  -- what was laid along the columns turned into the rows
+  pub turned_in : (layers : List Layer) → HasPage layers old → RowsPainted PAGE_ROWS Black (λ x y. ltb x PAPER_DOTS && dot (get_or old.columns x []) y) old.rows new.rows
+      → new.laid ≡ old.laid → new.wiped ≡ old.wiped → HasPage layers new
+  turned_in layers page p n w = record {
+    rows_are = λ y h. (p.rows_are y h).length_is ∙ page.rows_are y h;
+    columns_are = long;
+    dots_are = λ x y k h.
+        in_rows _ _ (ltb x PAPER_DOTS && dot (get_or old.columns x []) y) (dot (get_or old.rows y []) x) (dot (get_or old.columns x []) y) _
+        ((p.rows_are y h).dots_are x (let long = page.rows_are y h in omega arith)) (ap (λ b. b && dot (get_or old.columns x []) y) (lt-ltb x PAPER_DOTS k)) (white_column x y k h) (page.dots_are x y k h);
+    work = record { laid_is = omega (arith, n, page.work.laid_is); at_most = omega (arith, w, page.work.at_most); at_least = omega (arith, w, page.work.at_least) };
+  }
+
+-- where nothing is left in the turned half, the rows show all
+pub shown_dot : (layers : List Layer) (page : Paged) (x y : ℕ) → HasPage layers page → IsShown page → x < PAPER_DOTS → y < PAGE_ROWS → dot (get_or page.rows y []) x ≡ page_dot layers x y
+shown_dot layers page x y has is k h = alone (dot (get_or page.rows y []) x) (dot (get_or page.columns x []) y) _ (is.white x y k h) (has.dots_are x y k h)
+  where
+    alone : (r c q : Bool) → c ≡ false → (r || c) ≡ q → r ≡ q
+    alone r c q e p = grind arith

@@ -1,18 +1,13 @@
 -- Rows of dots.
-use Rattle.std.proofs.Common.{inl, inr, zero, suc, take, ◌⊎◌, ◌≡◌, ℕ, ◌+◌, ◌-◌, ◌*◌, ◌/◌, ◌%◌, ◌<◌, ◌≤◌, Bool, true, false, cond, eqb, ◌&&◌, ◌||◌, ap, ◌∙◌, arith, List, ◌∷◌, length, get_or, set, bit_or, ℤ, pos, negsuc, ◌+ℤ◌, refl}
-use Rattle.std.proofs.lemmas.Int.{ints}
+use Rattle.std.proofs.Common.{zero, suc, take, ◌≡◌, ℕ, ◌+◌, ◌-◌, ◌/◌, ◌%◌, ◌<◌, ◌≤◌, Bool, false, eqb, ◌||◌, ap, arith, List, [], ◌∷◌, length, get_or, refl}
 use Rattle.std.proofs.lemmas.List.{get_or_past}
-use Rattle.std.proofs.lemmas.Bool.{cases_lt, le-leb, lt-leb}
 use Rattle.std.proofs.lemmas.Nat.Bits.{bit_at-zero}
-use Rattle.vp_dots.specs.Dots.{bit, dot, shifted}
+use Rattle.vp_dots.specs.Dots.{bit, dot, dots}
 use Rattle.vp_dots.specs.Images.{packed, row_from, row_of}
-use Rattle.vp_dots.specs.Painting.{Painted}
 use Rattle.vp_dots.specs.Places.{RowsPainted}
 use Rattle.vp_dots.specs.declared.Op.{Op}
 use Rattle.vp_dots.specs.declared.Op.TheVariants.{Black}
-use Rattle.vp_dots.proofs.Bits.{bit_of_or}
-use Rattle.vp_dots.proofs.Paints.{painted_same, painted_byte_at}
-use Rattle.vp_page.specs.declared.page.TheConstants.{PAGE_ROWS}
+use Rattle.vp_dots.proofs.Paints.{painted_same}
 
 -- past the row there is no dot
 pub dot_past : (row : List ℕ) (d : ℕ) → length row ≤ d / 8 → dot row d ≡ false

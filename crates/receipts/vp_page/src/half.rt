@@ -44,9 +44,26 @@ impl<const B: usize, const H: usize, A: Small> Model for Half<B, H, A> {
     } };
 }
 
-/// Blackens 64 rows of a band, from one on, where the rows of a square are black, eight of whose bytes are those
-/// from one on.
-fn lay_words<const B: usize, const H: usize, A: Small>(
+/// The dots of 64 rows of a band, from one on, that stand in eight bytes, from one on.
+fn square_at<const B: usize, const H: usize, A: Small>(
+    band: &Band<B, H, A>,
+    y: usize,
+    i: usize,
+) -> [u64; SIDE]
+    requires rows { y + SIDE ≤ H }
+    requires bytes { i + 8 ≤ B }
+    ensures { (k x : ℕ) → k < SIDE → x < 64 →
+        word_dot (slice_index result k) x ≡ dot (slice_index_or band.now (y + k) []) (8 * i + x) }
+{
+    let mut square = [0; SIDE];
+    for k in 0..SIDE {
+        square[k] = eight_at(band.row(y + k), i);
+    }
+    square
+}
+
+/// Blackens these dots where those of a square are black.
+fn lay_square<const B: usize, const H: usize, A: Small>(
     square: &[u64; SIDE],
     y: usize,
     i: usize,
@@ -164,11 +181,7 @@ impl<const B: usize, const H: usize, A: Small> Half<B, H, A> {
         ensures { (k x : ℕ) → k < SIDE → x < 64 →
             word_dot (slice_index result k) x ≡ dot (slice_index_or self.now (y + k) []) (8 * i + x) }
     {
-        let mut square = [0; SIDE];
-        for k in 0..SIDE {
-            square[k] = eight_at(self.band.row(y + k), i);
-        }
-        square
+        square_at(&self.band, y, i)
     }
 
     /// Blackens these dots where those of a square are black.
@@ -183,7 +196,7 @@ impl<const B: usize, const H: usize, A: Small> Half<B, H, A> {
             to: y + SIDE,
         };
         self.laid = self.laid.with(these, H);
-        lay_words(square, y, i, &mut self.band);
+        lay_square(square, y, i, &mut self.band);
     }
 
     /// The bytes of a row.

@@ -5,6 +5,7 @@ ghost use Rattle.vp_dots.specs.Painting.{Painted};
 ghost use Rattle.vp_dots.specs.Places.{RowsPainted};
 ghost use Rattle.vp_dots.specs.declared.Op.TheVariants.{White};
 ghost use Rattle.vp_page.specs.Areas.{holds};
+ghost use Rattle.vp_page.specs.declared.line.TheConstants.{LINE_BYTES};
 
 use crate::Area;
 use crate::white::Rows;
@@ -65,6 +66,7 @@ pub(crate) fn whiten<const B: usize, const H: usize, A: Small>(
     band: &mut Band<B, H, A>,
 )
     requires words { B % 8 ≡ 0 }
+    requires narrow { B ≤ LINE_BYTES }
     requires few { rows.to ≤ H }
     requires inside { area.y ≤ rows.from }
     requires below { rows.to ≤ area.y + area.dy }

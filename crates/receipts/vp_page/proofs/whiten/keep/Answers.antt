@@ -3,10 +3,7 @@ use Rattle.std.proofs.Common.{arith}
 use Rattle.vp_page.proofs.whiten.keep.Goals as goal
 
 pub loop-k-init : goal.loop-k-init
-loop-k-init c = grind (arith, nat_tests)
+loop-k-init g c = grind (arith, nat_tests)
 
 pub loop-k-preserved : goal.loop-k-preserved
-loop-k-preserved c = grind arith
-
-pub returns : goal.returns
-returns c = grind arith
+loop-k-preserved g c = grind (arith, nat_tests)

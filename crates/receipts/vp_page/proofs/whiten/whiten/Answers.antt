@@ -12,10 +12,10 @@ loop-i-init g c = grind arith
 
 pub loop-i-preserved : goal.loop-i-preserved
 loop-i-preserved g c =
-    let y = c.max-top.result + c.loop-i.i in
-    let next : c.max-top.result + (c.loop-i.i + 1) ≡ y + 1 = omega arith in
-    rw next (rows_more _ _ (λ x k. span c.args.rows.from c.args.rows.to k && holds c.args.area x k) y _ _ _ (omega (arith, c.row_mut.ensures.rows))
-    (omega (arith, c.requires, c.min-below.ensures, c.saturating_sub-i-end.ensures)) c.loop-i.invariant
+    let y = c.args.rows.from + c.loop-i.i in
+    let next : c.args.rows.from + (c.loop-i.i + 1) ≡ y + 1 = omega arith in
+    rw next (rows_more _ _ (λ x k. span c.args.rows.from c.args.rows.to k && holds c.args.area x k) y _ _ _ (omega (arith, c.row_mut.ensures.rows, c.requires.few, c.saturating_sub-i-end.ensures))
+    (omega (arith, c.requires.few, c.saturating_sub-i-end.ensures)) c.loop-i.invariant
     (painted_same White (λ d. not (dot c.kept_by-kept.result d)) _ _ _ (λ d l. grind (arith, nat_tests, c.kept_by-kept.ensures d, c.row_mut.ensures.len, c.row_mut.ensures.value))
     (rw (sym c.row_mut.ensures.value) c.keep.ensures)))
 
