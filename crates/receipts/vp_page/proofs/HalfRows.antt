@@ -1,5 +1,5 @@
 -- Lines of an area on the rows of a half, as lines of the page.
-use Rattle.std.proofs.Common.{◌≡◌, ℕ, ◌+◌, ◌-◌, ◌*◌, ◌/◌, ◌%◌, ◌<◌, ◌≤◌, Bool, true, false, min, ltb, leb, eqb, ◌&&◌, arith, List, [], length, get_or, set}
+use Rattle.std.proofs.Common.{◌≡◌, ℕ, ◌+◌, ◌-◌, ◌*◌, ◌/◌, ◌%◌, ◌<◌, ◌≤◌, ◌∙◌, ap, sym, Bool, true, false, min, ltb, leb, eqb, ◌&&◌, arith, List, [], length, get_or, set}
 use Rattle.std.proofs.lemmas.Bool.Decides.{nat_tests}
 use Rattle.vp_dots.specs.Dots.{dot, dots, span}
 use Rattle.vp_dots.specs.Painting.{Painted}
@@ -41,8 +41,21 @@ module _ (a : Area) (d : Direction) (v top x y : ℕ) where
       → (span top (top + 1) y && (span a.x (a.x + a.dx) x && dot line (along_row a d x))) ≡ half_dot a d v (λ u w. eqb w 0 && dot line u) x y
   row_dot line e = rw e (grind (arith, nat_tests))
 
-  pub once_dot : (f g : ℕ → Bool) → ((u : ℕ) → f u ≡ g u) → half_dot a d v (λ u w. ltb w 1 && f u) x y ≡ half_dot a d v (λ u w. eqb w 0 && g u) x y
-  once_dot f g e = rw (e (along_row a d x)) (grind (arith, nat_tests))
+  span_first : (s q : Bool) → (s && q) ≡ true → s ≡ true
+  span_first s q e = grind arith
+
+  module _ (line : List ℕ) (e : span top (top + 1) y ≡ (span a.y (a.y + a.dy) y && (leb v (down_rows a d y) && ltb (down_rows a d y - v) 1))) where
+    pub on_row : y ≡ top → (span a.x (a.x + a.dx) x && dot line (along_row a d x)) ≡ half_dot a d v (λ u w. eqb w 0 && dot line u) x y
+    on_row at = let s : span top (top + 1) y ≡ true = grind (arith, nat_tests) in sym (ap (λ s. s && (span a.x (a.x + a.dx) x && dot line (along_row a d x))) s) ∙ row_dot line e
+
+    pub off_row : (y ≡ top → ⊥) → half_dot a d v (λ u w. eqb w 0 && dot line u) x y ≡ false
+    off_row n = let s : span top (top + 1) y ≡ false = grind (arith, nat_tests) in sym (row_dot line e) ∙ ap (λ s. s && (span a.x (a.x + a.dx) x && dot line (along_row a d x))) s
+
+    pub in_row : half_dot a d v (λ u w. eqb w 0 && dot line u) x y ≡ true → span top (top + 1) y ≡ true
+    in_row t = span_first _ _ (row_dot line e ∙ t)
+
+pub once_dot : (a : Area) (d : Direction) (v x y : ℕ) (f g : ℕ → Bool) → ((u : ℕ) → f u ≡ g u) → half_dot a d v (λ u w. ltb w 1 && f u) x y ≡ half_dot a d v (λ u w. eqb w 0 && g u) x y
+once_dot a d v x y f g e = rw (e (along_row a d x)) (grind (arith, nat_tests))
 
 -- a level area as it is, and one whose lines run up or down turned
 pub level_dot : (m : Mark) (x y : ℕ) → is_level m.direction ≡ true → half_dot m.area m.direction m.top m.dot x y ≡ mark_dot m x y

@@ -57,6 +57,6 @@ pub all_below : (r y : ℕ) (s d : Bool) → y < 64 * r → (s && (ltb y (64 * r
 all_below r y s d h = grind (arith, nat_tests)
 
 -- all columns but those that are white
-pub all_beside : (from to first n x : ℕ) (d : Bool) → first ≡ from / 64 → to ≤ 64 * (first + n) → (n ≡ 0 → to ≤ 64 * first) → first + n ≤ 9 → (x < 576 → span from to x ≡ false → d ≡ false)
+pub all_beside : (from to first n x : ℕ) (d : Bool) → first ≡ from / 64 → to ≤ 64 * (first + n) → (0 < n → first + n ≤ 9) → (x < 576 → span from to x ≡ false → d ≡ false)
     → (span (64 * first) (64 * (first + n)) x && d) ≡ (ltb x 576 && d)
-all_beside from to first n x d e f o g w = grind (arith, nat_tests)
+all_beside from to first n x d e f g w = grind (arith, nat_tests)

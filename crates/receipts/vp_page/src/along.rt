@@ -209,8 +209,7 @@ pub(crate) fn lay_times<const B: usize, const H: usize, A: Small>(
 /// Whether a row of so many bytes stands on whole words of a row of a half along which it is laid, and is no
 /// longer than a line of the area.
 pub(crate) fn stands_on_words<const B: usize>(area: Area, direction: Direction, wide: usize) -> bool
-    requires wide { wide ≤ LINE_BYTES }
-    requires few { B ≤ LINE_BYTES }
+    requires { wide ≤ LINE_BYTES }
     ensures { result ≡ true → IsOnWords B area direction wide }
 {
     let (left, right) = (area.x as usize, area.x as usize + area.dx as usize);
@@ -218,7 +217,7 @@ pub(crate) fn stands_on_words<const B: usize>(area: Area, direction: Direction, 
         Direction::LeftToRight | Direction::TopToBottom => left,
         Direction::RightToLeft | Direction::BottomToTop => right,
     };
-    wide % 8 == 0 && begin % 8 == 0 && 8 * wide <= area.dx as usize && right <= 8 * B
+    wide % 8 == 0 && begin % 8 == 0 && 8 * wide <= area.dx as usize && right.div_ceil(8) <= B
 }
 
 /// Blackens a row of a half where a row of dots is black that stands on whole words of it.

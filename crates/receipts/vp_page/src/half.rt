@@ -120,13 +120,13 @@ impl<const B: usize, const H: usize, A: Small> Half<B, H, A> {
         ensures { RowsPainted H Black (half_dot area direction v (λ u w. nat_lt w times && dot line.now u))
             self.old self.new }
     {
-        let row = row_along(line, area, direction);
         let top = top_of(area, direction, v, times);
         let these = Rows {
             from: top,
             to: top + times,
         };
         self.laid = self.laid.with(these, H);
+        let row = row_along(line, area, direction);
         lay_times(&row, times, top, &mut self.band);
     }
 
