@@ -138,15 +138,17 @@ all_held x y k h = held whole x y (record { left = omega arith; right = k; above
 pub all_turned : (x y : ℕ) → x < PAPER_DOTS → y < PAGE_ROWS → holds (turned whole) y x ≡ true
 all_turned x y k h = held (turned whole) y x (record { left = omega arith; right = h; above = omega arith; below = k })
 
--- all made white in both halves
-module _ (old new : Paged) (long : (x : ℕ) → x < PAPER_DOTS → length (get_or new.columns x []) ≡ LINE_BYTES) (q : RowsPainted PAPER_DOTS White (holds (turned whole)) old.columns new.columns) where
+-- a turned half that was made white
+module _ (old : List (List ℕ)) (new : Paged) (long : (x : ℕ) → x < PAPER_DOTS → length (get_or new.columns x []) ≡ LINE_BYTES) (q : RowsPainted PAPER_DOTS White (holds (turned whole)) old new.columns) where
   white_column : (x y : ℕ) → x < PAPER_DOTS → y < PAGE_ROWS → dot (get_or new.columns x []) y ≡ false
   white_column x y k h =
-      (q.rows_are x k).dots_are y (let n = long x k in let m = (q.rows_are x k).length_is in omega (arith, h, n, m)) ∙ ap (λ i. cond i false (dot (get_or old.columns x []) y)) (all_turned x y k h)
+      (q.rows_are x k).dots_are y (let n = long x k in let m = (q.rows_are x k).length_is in omega (arith, h, n, m)) ∙ ap (λ i. cond i false (dot (get_or old x []) y)) (all_turned x y k h)
 
   pub shown : IsShown new
   shown = record { white = white_column }
 
+module _ (old new : Paged) (long : (x : ℕ) → x < PAPER_DOTS → length (get_or new.columns x []) ≡ LINE_BYTES) (q : RowsPainted PAPER_DOTS White (holds (turned whole)) old.columns new.columns) where
+  -- all made white in both halves
   pub cleared : ((y : ℕ) → y < PAGE_ROWS → length (get_or new.rows y []) ≡ PAPER_BYTES) → RowsPainted PAGE_ROWS White (holds whole) old.rows new.rows
       → new.laid ≡ 0 → new.wiped ≤ PAGE_ROWS + PAPER_DOTS → HasPage [] new
   cleared wide p n w = record {
@@ -154,7 +156,7 @@ module _ (old new : Paged) (long : (x : ℕ) → x < PAPER_DOTS → length (get_
     columns_are = long;
     dots_are = λ x y k h. ap (λ b. b || dot (get_or new.columns x []) y)
         ((p.rows_are y h).dots_are x (let n = wide y h in let m = (p.rows_are y h).length_is in omega (arith, k, n, m)) ∙ ap (λ i. cond i false (dot (get_or old.rows y []) x)) (all_held x y k h))
-        ∙ white_column x y k h;
+        ∙ white_column old.columns new long q x y k h;
     work = record { laid_is = omega (arith, n); at_most = omega (arith, w); at_least = omega arith };
   }
 
@@ -169,7 +171,7 @@ module _ (old new : Paged) (long : (x : ℕ) → x < PAPER_DOTS → length (get_
     columns_are = long;
     dots_are = λ x y k h.
         in_rows _ _ (ltb x PAPER_DOTS && dot (get_or old.columns x []) y) (dot (get_or old.rows y []) x) (dot (get_or old.columns x []) y) _
-        ((p.rows_are y h).dots_are x (let long = page.rows_are y h in omega arith)) (ap (λ b. b && dot (get_or old.columns x []) y) (lt-ltb x PAPER_DOTS k)) (white_column x y k h) (page.dots_are x y k h);
+        ((p.rows_are y h).dots_are x (let long = page.rows_are y h in omega arith)) (ap (λ b. b && dot (get_or old.columns x []) y) (lt-ltb x PAPER_DOTS k)) (white_column old.columns new long q x y k h) (page.dots_are x y k h);
     work = record { laid_is = omega (arith, n, page.work.laid_is); at_most = omega (arith, w, page.work.at_most); at_least = omega (arith, w, page.work.at_least) };
   }
 

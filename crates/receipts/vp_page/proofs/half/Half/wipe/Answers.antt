@@ -7,7 +7,7 @@ use Rattle.vp_page.proofs.Whites.{black_rows, now_white, wiped_rows}
 use Rattle.vp_page.proofs.half.Half.wipe.Given.{Over}
 use Rattle.vp_page.proofs.half.Half.wipe.Goals as goal
 
-module _ (g : Over) (c : goal.After-self-3-1 g) where
+module _ (g : Over) (c : goal.After-self-1 g) where
   white : (x y : ℕ) → x < 8 * g.row.B → y < g.row.H → holds c.args.area x y ≡ true → span c.unknown_in.result.from c.unknown_in.result.to y ≡ false → dot (get_or c.self.inside.band y []) x ≡ false
   white x y k h t f = ap (λ (rows : List (List ℕ)). dot (get_or rows y []) x) c.self.view_is ∙ c.unknown_in.ensures.white x y k h t f
 
