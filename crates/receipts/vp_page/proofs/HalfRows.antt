@@ -1,5 +1,5 @@
 -- Lines of an area on the rows of a half, as lines of the page.
-use Rattle.std.proofs.Common.{◌≡◌, ℕ, ◌+◌, ◌-◌, ◌*◌, ◌/◌, ◌%◌, ◌<◌, ◌≤◌, ◌∙◌, ap, sym, Bool, true, false, min, ltb, leb, eqb, ◌&&◌, arith, List, [], length, get_or, set}
+use Rattle.std.proofs.Common.{◌≡◌, ℕ, ◌+◌, ◌-◌, ◌*◌, ◌/◌, ◌%◌, ◌<◌, ◌≤◌, ◌∙◌, ap, sym, Bool, true, false, ltb, leb, eqb, ◌&&◌, arith, List, [], length, get_or, set}
 use Rattle.std.proofs.lemmas.Bool.Decides.{nat_tests}
 use Rattle.vp_dots.specs.Dots.{dot, dots, span}
 use Rattle.vp_dots.specs.Painting.{Painted}

@@ -1,25 +1,16 @@
 -- The dots of rows that a wipe keeps.
-use Rattle.std.proofs.Common.{◌≡◌, ℕ, ◌+◌, ◌-◌, ◌*◌, ◌/◌, ◌%◌, ◌<◌, ◌≤◌, Bool, true, false, not, cond, eqb, ltb, ◌&&◌, ◌||◌, refl, ap, arith, List, length, get_or, replicate, bit_and}
+use Rattle.std.proofs.Common.{◌≡◌, ℕ, ◌+◌, ◌-◌, ◌*◌, ◌/◌, ◌%◌, ◌<◌, ◌≤◌, true, not, eqb, ◌&&◌, refl, arith, List, length, replicate, bit_and}
 use Rattle.std.specs.Int.{bit_at}
 use lib.Lanes.{zip2, chunk, put_chunk}
 use Rattle.std.proofs.lemmas.Simd.{get_or-zip2, get_or-chunk, length-chunk}
-use Rattle.std.proofs.lemmas.Bool.Decides.{nat_tests}
-use Rattle.std.proofs.lemmas.Nat.Bits.{bit_at-zero}
 use Rattle.std.proofs.lemmas.List.{get_or-replicate, length-replicate}
-use Rattle.std.proofs.lemmas.Bool.{lt-ltb, true≢false}
 use Rattle.vp_dots.specs.Dots.{bit, dot, span}
-use Rattle.vp_dots.specs.Words.{word_dot}
 use Rattle.vp_dots.specs.Painting.{Painted}
 use Rattle.vp_dots.specs.declared.Op.TheVariants.{White}
 use Rattle.vp_dots.proofs.Blocks.{painted_block}
-use Rattle.vp_dots.proofs.Columns.{white_dot}
-use Rattle.vp_dots.proofs.Paints.{painted_same}
 use Rattle.vp_dots.proofs.Rows.{dot_at}
 use Rattle.vp_dots.proofs.Spans.{bit_of_and}
 use Rattle.vp_dots.proofs.Swaps.{every_at}
-use Rattle.vp_dots.proofs.Words.{and_true}
-use Rattle.vp_page.specs.declared.line.TheConstants.{LINE_DOTS}
-use Rattle.vp_page.specs.declared.page.TheConstants.{PAPER_DOTS}
 use Rattle.vp_page.proofs.WordsOnRows.{long_on}
 
 -- some bytes of a row, of which the kept dots stay

@@ -1,7 +1,6 @@
 -- Squares of the turned half on the upright one.
-use Rattle.std.proofs.Common.{inl, inr, ◌≡◌, ℕ, ◌+◌, ◌-◌, ◌*◌, ◌/◌, ◌<◌, ◌≤◌, ◌∙◌, Bool, true, false, ltb, leb, ◌&&◌, ◌||◌, ap, sym, arith, List, [], get_or}
+use Rattle.std.proofs.Common.{◌≡◌, ℕ, ◌+◌, ◌-◌, ◌*◌, ◌/◌, ◌<◌, ◌≤◌, ◌∙◌, Bool, true, false, ltb, leb, ◌&&◌, ◌||◌, sym, arith, List, [], get_or}
 use Rattle.std.proofs.lemmas.Bool.Decides.{nat_tests}
-use Rattle.std.proofs.lemmas.Bool.{cases_Bool}
 use Rattle.vp_dots.specs.Dots.{dot, span}
 use Rattle.vp_dots.specs.Words.{word_dot}
 

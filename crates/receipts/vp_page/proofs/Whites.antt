@@ -35,11 +35,13 @@ module _ (wide high : ℕ) (a : Area) (rows : Rows) (old new : List (List ℕ)) 
 
   -- an area made white on the rows on which it may not be
   pub wiped_rows : RowsPainted high White (λ x k. span (max rows.from a.y) (min rows.to (a.y + a.dy)) k && holds a x k) old new → RowsPainted high White (holds a) old new
-  wiped_rows p = record { rows_are = λ y h. record {
-    length_is = (p.rows_are y h).length_is;
-    dots_are = λ x l. (p.rows_are y h).dots_are x l ∙ white_but (span (max rows.from a.y) (min rows.to (a.y + a.dy)) y) (holds a x y) _
-        (λ t f. white x y (let n = long y h in omega (arith, l, n)) h t (beside x y t f));
-  } }
+  wiped_rows p = record {
+    rows_are = λ y h. record {
+      length_is = (p.rows_are y h).length_is;
+      dots_are = λ x l. (p.rows_are y h).dots_are x l ∙ white_but (span (max rows.from a.y) (min rows.to (a.y + a.dy)) y) (holds a x y) _
+          (λ t f. white x y (let n = long y h in omega (arith, l, n)) h t (beside x y t f));
+    };
+  }
 
   -- what was black there stands on them
   pub black_rows : (x y : ℕ) → x < 8 * wide → y < high → holds a x y ≡ true → dot (get_or old y []) x ≡ true → span (max rows.from a.y) (min rows.to (a.y + a.dy)) y ≡ true

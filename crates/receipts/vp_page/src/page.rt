@@ -121,7 +121,8 @@ impl<A: Small> Page<A> {
         if direction.is_level() {
             self.upright.lay_row(area, direction, v as usize, row);
         } else {
-            self.turned.lay_row(area.turned(), direction, v as usize, row);
+            self.turned
+                .lay_row(area.turned(), direction, v as usize, row);
         }
     }
 
@@ -145,7 +146,8 @@ impl<A: Small> Page<A> {
         let shown = times.min(depth - v) as usize;
         self.rows_laid = self.rows_laid.saturating_add(shown as u64);
         if direction.is_level() {
-            self.upright.lay_times(area, direction, v as usize, shown, row);
+            self.upright
+                .lay_times(area, direction, v as usize, shown, row);
         } else {
             self.turned
                 .lay_times(area.turned(), direction, v as usize, shown, row);
