@@ -188,14 +188,15 @@ impl<A: Small> Page<A> {
         lines: &[[u8; LINE_BYTES]],
         same: &[bool],
     )
-        requires { v + length lines.now < 2 ^ 32 }
         ensures { (layers : List Layer) → HasPage layers self.old →
             HasPage (Laid (lines_mark area direction v (shown_lines same.now lines.now)) ∷ layers)
             self.new }
     {
+        let depth = u32::from(area.depth(direction));
+        let shown = lines.len().min(depth.saturating_sub(v) as usize);
         let mut i = 0;
-        while i < lines.len() {
-            let times = run_from(lines, same, i);
+        while i < shown {
+            let times = run_from(lines, same, i).min(shown - i);
             self.lay_times(area, direction, v + i as u32, times as u32, &lines[i]);
             i += times;
         }

@@ -4,7 +4,7 @@ use std::alloc::Global;
 use std::process::Abort;
 use std::test::Fail;
 use vp_dots::{Ink, Op, paint_dot};
-use vp_page::{AT_ONCE, Area, Direction, LINE_BYTES, PAGE_ROWS, Page};
+use vp_page::{Area, Direction, LINE_BYTES, PAGE_ROWS, Page};
 use vp_qr::{Level, Mode, QrInk, encode};
 
 /// A wedge: line y has ink at its first side - y places.
@@ -193,8 +193,8 @@ static DIRECTIONS: [Direction; 4] = [
 static DEPTHS: [u32; 5] = [0, 5, 32, 33, 52];
 
 /// As many rows as are laid at once: they have dots all over, and end black, or each third one white.
-fn many_rows() -> [[u8; LINE_BYTES]; AT_ONCE] {
-    let mut rows = [[0; LINE_BYTES]; AT_ONCE];
+fn many_rows() -> [[u8; LINE_BYTES]; MANY] {
+    let mut rows = [[0; LINE_BYTES]; MANY];
     for i in 0..192u8 {
         for j in 0..40u8 {
             rows[usize::from(i)][usize::from(j)] = (j ^ (i << 5)) & 0xb7;
@@ -207,10 +207,10 @@ fn many_rows() -> [[u8; LINE_BYTES]; AT_ONCE] {
 }
 
 /// Rows of which each of 24 stands eight times, as those of a large character do.
-fn large_rows() -> [[u8; LINE_BYTES]; AT_ONCE] {
+fn large_rows() -> [[u8; LINE_BYTES]; MANY] {
     let few = many_rows();
-    let mut rows = [[0; LINE_BYTES]; AT_ONCE];
-    for i in 0..AT_ONCE {
+    let mut rows = [[0; LINE_BYTES]; MANY];
+    for i in 0..MANY {
         rows[i] = few[i / 8];
     }
     rows
@@ -312,7 +312,7 @@ fn lays_lines(
     v: u32,
     lines: &[[u8; LINE_BYTES]],
 ) -> Result<(), Fail> {
-    let lines = &lines[..lines.len().min(AT_ONCE)];
+    let lines = &lines[..lines.len().min(MANY)];
     let want = painted(alloc, area, direction, v, lines)?;
     let mut at_once = Page::new(alloc)?;
     at_once.lay_lines(area, direction, v, lines, &[]);
@@ -366,17 +366,17 @@ fn more_lines_than_two_squares(rt: HostRuntime) -> Result<(), Fail> {
 
 #[test]
 fn as_many_lines_as_go(rt: HostRuntime) -> Result<(), Fail> {
-    lays_everywhere(&rt, rt.alloc(), &many_rows(), AT_ONCE)
+    lays_everywhere(&rt, rt.alloc(), &many_rows(), MANY)
 }
 
 #[test]
 fn lines_that_are_the_same_in_runs(rt: HostRuntime) -> Result<(), Fail> {
-    lays_everywhere(&rt, rt.alloc(), &large_rows(), AT_ONCE)
+    lays_everywhere(&rt, rt.alloc(), &large_rows(), MANY)
 }
 
 #[test]
 fn some_of_them(rt: HostRuntime) -> Result<(), Fail> {
-    lays_everywhere(&rt, rt.alloc(), &large_rows()[3..149], AT_ONCE)
+    lays_everywhere(&rt, rt.alloc(), &large_rows()[3..149], MANY)
 }
 
 /// A line of so many bytes is laid as dot by dot, from column `x` on.
@@ -416,8 +416,8 @@ fn lines_of_whole_words(rt: HostRuntime) -> Result<(), Fail> {
 }
 
 /// The lines of a symbol, dot by dot.
-fn lines_of(ink: &QrInk) -> [[u8; LINE_BYTES]; AT_ONCE] {
-    let mut lines = [[0; LINE_BYTES]; AT_ONCE];
+fn lines_of(ink: &QrInk) -> [[u8; LINE_BYTES]; MANY] {
+    let mut lines = [[0; LINE_BYTES]; MANY];
     for y in 0..192u32 {
         for x in 0..192u32 {
             if ink.ink(x, y) {

@@ -1,4 +1,4 @@
-use Rattle.std.proofs.Common.{◌≡◌, ◌+◌, ◌&&◌, ◌∙◌, ap, sym, refl, ltb, [], get_or, arith}
+use Rattle.std.proofs.Common.{◌≡◌, ◌+◌, ◌<◌, ◌&&◌, ◌∙◌, ap, sym, refl, ltb, [], get_or, length, arith}
 use Rattle.std.proofs.lemmas.Bool.{false_from_ne_true}
 use Rattle.vp_dots.specs.Dots.{dot}
 use Rattle.vp_page.specs.declared.line.TheConstants.{LINE_DOTS}
@@ -13,12 +13,14 @@ pub loop-i-preserved : goal.loop-i-preserved
 loop-i-preserved g c =
     let i = c.loop-i.i in
     let lines = c.args.lines.now in
-    let own : get_or (shown_lines c.args.same.now lines) i [] ≡ get_or lines i [] =
-    shows_own c.args.same.now lines i c.loop-i-test.true (λ some. grind (arith, c.loop-i.invariant.own some, false_from_ne_true, c.loop-i-test.true)) in record {
-      within = c.run_from-times.ensures.within;
-      own = λ _. c.run_from-times.ensures.next;
-      laid = λ layers page. times_more (lines_mark c.args.area c.args.direction c.args.v (shown_lines c.args.same.now lines)) i c.run_from-times.result (c.args.v + i) (dot (get_or lines i [])) layers c.lay_times.new.self refl
-          (λ u k h l. past_line (get_or lines i []) u (omega (arith, c.told-lines i c.loop-i-test.true)) ∙ ap (λ line. ltb u LINE_DOTS && dot line u) (sym (c.run_from-times.ensures.same k l ∙ own)))
+    let there : i < length lines = omega (arith, c.min-shown.ensures, c.loop-i-test.true) in
+    let own : get_or (shown_lines c.args.same.now lines) i [] ≡ get_or lines i [] = shows_own c.args.same.now lines i there (λ some. c.loop-i.invariant.own some c.loop-i-test.true) in record {
+      within = omega (arith, c.min-times.ensures, c.loop-i-test.true);
+      own = λ some less.
+          let all : c.min-times.result ≡ c.run_from.result = omega (arith, c.min-times.ensures, less) in
+          false_from_ne_true _ (λ told. let last = c.run_from.ensures.next (rw all at told) in absurd (omega (arith, last, less, all, c.min-shown.ensures)));
+      laid = λ layers page. times_more (lines_mark c.args.area c.args.direction c.args.v (shown_lines c.args.same.now lines)) i c.min-times.result (c.args.v + i) (dot (get_or lines i [])) layers c.lay_times.new.self refl
+          (λ u k h l. past_line (get_or lines i []) u (omega (arith, c.told-lines i there)) ∙ ap (λ line. ltb u LINE_DOTS && dot line u) (sym (c.run_from.ensures.same k (omega (arith, l, c.min-times.ensures)) ∙ own)))
           (c.lay_times.ensures _ (c.loop-i.invariant.laid layers page));
     }
 
@@ -27,5 +29,6 @@ returns g c = λ layers page.
     let shown = shown_lines c.args.same.now c.args.lines.now in
     let all = length-shown c.args.same.now c.args.lines.now in
     let m : Mark = lines_mark c.args.area c.args.direction c.args.v shown in
-    rows_make_an_image.all m c.loop-i.i layers _ (λ u w e l. let there = some_line shown w u e in omega (arith, there, all, c.loop-i-test.false)) (omega (arith, all, c.loop-i-test.false, c.loop-i.invariant.within))
-    (c.loop-i.invariant.laid layers page)
+    rows_make_an_image.all m c.loop-i.i layers _
+    (λ u w e l. let there = some_line shown w u e in omega (arith, there, all, l, c.loop-i-test.false, c.min-shown.ensures, c.saturating_sub.ensures, c.from-depth.ensures, c.depth.ensures))
+    (omega (arith, all, c.loop-i-test.false, c.loop-i.invariant.within, c.min-shown.ensures, c.saturating_sub.ensures, c.from-depth.ensures, c.depth.ensures)) (c.loop-i.invariant.laid layers page)
