@@ -1,7 +1,6 @@
 -- A symbol as ink.
-use Rattle.std.specs.Prelude.{◌≡◌, ℕ, ◌*◌, ◌/◌, ◌<◌, ◌&&◌, nat_lt, Bool, true, List}
+use Rattle.std.specs.Prelude.{◌≡◌, ℕ, ◌*◌, ◌/◌, ◌<◌, ◌&&◌, nat_lt, Bool, true}
 use Rattle.std.proofs.lemmas.Bool.{and_parts, ltb-true}
-use Rattle.vp_pdf417.specs.declared.size.Size.{Size}
 use Rattle.vp_pdf417.specs.Modules.{across, module_of}
 use Rattle.vp_pdf417.specs.Encoding.{Pdf417Symbol}
 

@@ -1,12 +1,7 @@
 -- Codewords as they are written: as many as a symbol holds, or that there are more.
 use Rattle.std.specs.Prelude.{◌≡◌, ℕ, ◌%◌, ◌<◌, nat_lt, slice_index, length, List, [], ◌∷◌, ◌++◌, Option, Some, None, if◌then◌else◌}
-use Rattle.vp_pdf417.specs.declared.words.Words.{Words}
 use Rattle.vp_pdf417.specs.Text.{paired}
 use Rattle.vp_pdf417.specs.Places.{cut}
-
--- the codewords in hand, or that there are more
-abbrev pub held : Words → Option (List ℕ)
-held w = if w.full then None else Some w.items.items
 
 -- after one more
 abbrev pub pushed : Option (List ℕ) → ℕ → Option (List ℕ)

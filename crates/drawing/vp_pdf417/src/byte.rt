@@ -3,13 +3,13 @@
 ghost use Rattle.std.specs.Prelude.{◌≡◌, ◌*◌, ◌+◌, ◌<◌};
 ghost use Rattle.vp_pdf417.specs.Places.{base_900};
 ghost use Rattle.vp_pdf417.specs.Bytes.{six, byte_latch, by_six, bytes};
-ghost use Rattle.vp_pdf417.specs.Written.{held, written};
+ghost use Rattle.vp_pdf417.specs.Written.{written};
 
 use crate::words::Words;
 
 /// Writes a number as five codewords.
 fn push_five(words: &mut Words, value: u64)
-    ensures { held words.new ≡ written (held words.old) (base_900 5 value) }
+    ensures { words.new ≡ written words.old (base_900 5 value) }
 {
     words.push((value / 900 / 900 / 900 / 900 % 900) as u16);
     words.push((value / 900 / 900 / 900 % 900) as u16);
@@ -37,7 +37,7 @@ fn byte_latch(src: &[u8]) -> u16
 /// Writes bytes.
 #[tactic(auto, unfolding(crate::specs::Bytes::bytes))]
 pub fn push_bytes(words: &mut Words, src: &[u8])
-    ensures { held words.new ≡ written (held words.old) (bytes src.now) }
+    ensures { words.new ≡ written words.old (bytes src.now) }
 {
     words.push(byte_latch(src));
     let mut left = src;

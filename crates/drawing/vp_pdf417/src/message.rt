@@ -1,9 +1,9 @@
 //! The message codewords of bytes.
 
-ghost use Rattle.std.specs.Prelude.{◌≡◌, ◌&&◌, nat_le, length, [], Some};
+ghost use Rattle.std.specs.Prelude.{◌≡◌, [], Some};
 ghost use Rattle.std.specs.List.{list_all};
 ghost use Rattle.vp_pdf417.specs.Messages.{is_digit, is_text, message};
-ghost use Rattle.vp_pdf417.specs.Written.{held, written};
+ghost use Rattle.vp_pdf417.specs.Written.{written};
 
 use crate::byte::push_bytes;
 use crate::numeric::push_numeric;
@@ -24,11 +24,11 @@ fn is_text(byte: u8) -> bool
     matches!(byte, b'\t' | b'\n' | b'\r' | 32..=126)
 }
 
-/// 13 digits or more.
+/// Digits alone.
 fn are_digits(src: &[u8]) -> bool
-    ensures { result ≡ (nat_le 13 (length src.now) && list_all is_digit src.now) }
+    ensures { result ≡ list_all is_digit src.now }
 {
-    src.len() >= 13 && src.iter().all(|byte| is_digit(*byte))
+    src.iter().all(|byte| is_digit(*byte))
 }
 
 /// Characters of text compaction alone.
@@ -41,10 +41,10 @@ fn are_text(src: &[u8]) -> bool
 /// The message codewords of bytes.
 #[tactic(auto, unfolding(crate::specs::Messages::message))]
 pub fn message(src: &[u8]) -> Words
-    ensures { held result ≡ written (Some []) (message src.now) }
+    ensures { result ≡ written (Some []) (message src.now) }
 {
     let mut words = Words::new();
-    if are_digits(src) {
+    if src.len() >= 13 && are_digits(src) {
         push_numeric(&mut words, src);
     } else if are_text(src) {
         push_text(&mut words, src);

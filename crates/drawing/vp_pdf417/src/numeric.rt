@@ -3,7 +3,7 @@
 ghost use Rattle.std.specs.Prelude.{◌≡◌, ℕ, ◌+◌, ◌*◌, ◌/◌, ◌%◌, ◌<◌, ◌≤◌, length, slice_index};
 ghost use Rattle.vp_pdf417.specs.Places.{cut};
 ghost use Rattle.vp_pdf417.specs.Numeric.{number, group, numeric};
-ghost use Rattle.vp_pdf417.specs.Written.{held, written, IsNumber, AreSmall};
+ghost use Rattle.vp_pdf417.specs.Written.{written, IsNumber, AreSmall};
 
 use crate::words::Words;
 
@@ -41,7 +41,7 @@ fn number(digits: &[u8]) -> Places
 /// Writes a group of digits.
 fn push_group(words: &mut Words, digits: &[u8])
     requires { length digits.now ≤ 44 }
-    ensures { held words.new ≡ written (held words.old) (group digits.now) }
+    ensures { words.new ≡ written words.old (group digits.now) }
 {
     let places = number(digits);
     let n = digits.len() / 3 + 1;
@@ -53,7 +53,7 @@ fn push_group(words: &mut Words, digits: &[u8])
 /// Writes digits.
 #[tactic(auto, unfolding(crate::specs::Numeric::numeric))]
 pub fn push_numeric(words: &mut Words, src: &[u8])
-    ensures { held words.new ≡ written (held words.old) (numeric src.now) }
+    ensures { words.new ≡ written words.old (numeric src.now) }
 {
     words.push(902);
     let mut left = src;

@@ -2,7 +2,7 @@
 
 ghost use Rattle.std.specs.Prelude.{◌≡◌, ℕ, List, ◌<◌, ◌∷◌, ◌++◌, None, IfSome, slice_index};
 ghost use Rattle.vp_pdf417.specs.Text.{capital, home, is_shifted, latch, values_by, mode_by, values_of, mode_behind, text};
-ghost use Rattle.vp_pdf417.specs.Written.{held, written, coming};
+ghost use Rattle.vp_pdf417.specs.Written.{written, coming};
 
 use crate::submode::{Submode, is_capital, punctuation};
 use crate::words::Words;
@@ -14,8 +14,8 @@ type Half = Option<u8>;
 fn push_value(words: &mut Words, half: &mut Half, value: u8)
     requires half { IfSome half.old (λ first. first < 30) }
     requires value { value < 30 }
-    ensures written { (rest : List ℕ) → coming (held words.new) half.new rest
-        ≡ coming (held words.old) half.old (value ∷ rest) }
+    ensures written { (rest : List ℕ) → coming words.new half.new rest
+        ≡ coming words.old half.old (value ∷ rest) }
     ensures half { IfSome half.new (λ first. first < 30) }
 {
     match *half {
@@ -37,8 +37,8 @@ fn is_shifted(mode: Submode, byte: u8, more: bool) -> bool
 /// Writes the latch from a sub-mode to another.
 fn push_latch(words: &mut Words, half: &mut Half, from: Submode, to: Submode)
     requires { IfSome half.old (λ first. first < 30) }
-    ensures written { (rest : List ℕ) → coming (held words.new) half.new rest
-        ≡ coming (held words.old) half.old (latch from to ++ rest) }
+    ensures written { (rest : List ℕ) → coming words.new half.new rest
+        ≡ coming words.old half.old (latch from to ++ rest) }
     ensures half { IfSome half.new (λ first. first < 30) }
 {
     match (from, to) {
@@ -61,8 +61,8 @@ fn push_elsewhere(
     more: bool,
 ) -> Submode
     requires { IfSome half.old (λ first. first < 30) }
-    ensures written { (rest : List ℕ) → coming (held words.new) half.new rest
-        ≡ coming (held words.old) half.old (values_by None None mode byte more ++ rest) }
+    ensures written { (rest : List ℕ) → coming words.new half.new rest
+        ≡ coming words.old half.old (values_by None None mode byte more ++ rest) }
     ensures mode { result ≡ mode_by None None mode byte more }
     ensures half { IfSome half.new (λ first. first < 30) }
 {
@@ -87,8 +87,8 @@ fn push_character(
     more: bool,
 ) -> Submode
     requires { IfSome half.old (λ first. first < 30) }
-    ensures written { (rest : List ℕ) → coming (held words.new) half.new rest
-        ≡ coming (held words.old) half.old (values_of mode byte more ++ rest) }
+    ensures written { (rest : List ℕ) → coming words.new half.new rest
+        ≡ coming words.old half.old (values_of mode byte more ++ rest) }
     ensures mode { result ≡ mode_behind mode byte more }
     ensures half { IfSome half.new (λ first. first < 30) }
 {
@@ -113,7 +113,7 @@ fn begins_capital(bytes: &[u8]) -> bool
 
 /// Writes characters.
 pub fn push_text(words: &mut Words, src: &[u8])
-    ensures { held words.new ≡ written (held words.old) (text src.now) }
+    ensures { words.new ≡ written words.old (text src.now) }
 {
     let mut half = None;
     let mut mode = Submode::Alpha;

@@ -4,9 +4,10 @@ ghost use Rattle.std.specs.Prelude.{◌≡◌, ℕ, ◌<◌, ◌≤◌, [], leng
 ghost use Rattle.arrayvec.specs.ArrayVec.{array_vec_len};
 ghost use Rattle.vp_reed_solomon.specs.declared.field.Field.TheVariants.{Gf929};
 ghost use Rattle.vp_reed_solomon.specs.Fields.{AreElements};
-ghost use Rattle.vp_pdf417.specs.Written.{held, pushed};
+ghost use Rattle.vp_pdf417.specs.Written.{pushed};
 
 use arrayvec::ArrayVec;
+use std::marker::Model;
 
 /// As many codewords as a symbol holds.
 pub type Held = ArrayVec<u16, 928>;
@@ -16,14 +17,24 @@ pub type Held = ArrayVec<u16, 928>;
 pub struct Words {
     items: Held,
     full: bool,
-    ghost small: { (k : ℕ) → slice_index items.items k < 929 },
-    ghost few: { length items.items ≤ 928 },
+}
+
+impl Model for Words {
+    ghost use Rattle.std.specs.Prelude.{ℕ, ◌≤◌, length, List, Option, Some, None, if◌then◌else◌};
+    ghost use Rattle.vp_reed_solomon.specs.declared.field.Field.TheVariants.{Gf929};
+    ghost use Rattle.vp_reed_solomon.specs.Fields.{AreElements};
+
+    ghost Value = { Option (List ℕ) };
+
+    ghost view = { λ s. if s.full then None else Some s.items.items };
+
+    ghost invariant = { λ s. record { elements : AreElements Gf929 s.items.items; few : length s.items.items ≤ 928 } };
 }
 
 impl Words {
     /// None yet.
     pub fn new() -> Self
-        ensures { held result ≡ Some [] }
+        ensures { result ≡ Some [] }
     {
         Words {
             items: ArrayVec::new(),
@@ -34,7 +45,7 @@ impl Words {
     /// Writes one more.
     pub fn push(&mut self, word: u16)
         requires { word < 929 }
-        ensures { held self.new ≡ pushed (held self.old) word }
+        ensures { self.new ≡ pushed self.old word }
     {
         if self.items.try_push(word).is_err() {
             self.full = true;
@@ -43,8 +54,8 @@ impl Words {
 
     /// All of them, or none where there are more.
     pub fn all(&self) -> Option<&[u16]>
-        ensures none { IfNone result (held self.now ≡ None) }
-        ensures all { IfSome result (λ all. held self.now ≡ Some all.now) }
+        ensures none { IfNone result (self.now ≡ None) }
+        ensures all { IfSome result (λ all. self.now ≡ Some all.now) }
         ensures elements { IfSome result (λ all. AreElements Gf929 all.now) }
         ensures few { IfSome result (λ all. length all.now ≤ 928) }
     {

@@ -1,0 +1,6 @@
+mod FirstFrom
+mod NumberWords
+mod TextWords
+mod Held
+mod Elements
+mod SizeWords
