@@ -4,3 +4,4 @@ mod TextWords
 mod Held
 mod Elements
 mod SizeWords
+mod InkLines

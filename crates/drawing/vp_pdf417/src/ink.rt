@@ -3,6 +3,7 @@
 ghost use Rattle.std.specs.Prelude.{◌≡◌, ◌<◌, ◌≤◌};
 
 use crate::symbol::Pdf417;
+use std::alloc::AllocError;
 use vp_dots::Ink;
 
 /// A symbol as ink, without a quiet zone.
@@ -16,6 +17,14 @@ pub struct Pdf417Ink<'a> {
     ghost most: { scale ≤ 64 },
     ghost high_some: { 0 < high },
     ghost high_most: { high ≤ 1000 },
+}
+
+impl Copy for Pdf417Ink<'_> {}
+
+impl Clone for Pdf417Ink<'_> {
+    fn clone(&self) -> Result<Self, AllocError> {
+        Ok(*self)
+    }
 }
 
 impl Pdf417 {
@@ -62,5 +71,13 @@ impl Ink for Pdf417Ink<'_> {
         }
         let row = (y / self.high) as usize;
         self.symbol.is_dark(row, (x / self.scale) as usize)
+    }
+
+    fn alike(&self, y: u32) -> (u32, u32) {
+        if y >= self.high * self.symbol.size().rows as u32 {
+            return (y, y);
+        }
+        let first = y / self.high * self.high;
+        (first, first + self.high - 1)
     }
 }

@@ -1,13 +1,19 @@
 //! Draws the symbols that are asked for on standard input, for readers of others to read them back. Each
-//! has what stands before the data, the rows and columns of its size (0 rows for a square and 1 for a
-//! rectangle), the number of its bytes in two bytes, and its bytes. What comes out is a plain PBM of single
-//! dots each, or `refused`.
+//! has the letter of its kind, three bytes, the number of its data in two bytes, and its data. What comes out
+//! is a plain PBM each, or `refused`.
+//!
+//! - `D`, Data Matrix: what stands before the data, and the rows and columns of its size (0 rows for a square
+//!   and 1 for a rectangle); a dot a module
+//! - `F` and `C`, PDF417, full and compact: the digit of the level, or another byte for the one that is
+//!   recommended, and the rows and columns, 0 where they are left open; a row is three dots high
 #![tactic(auto)]
 
 use std::alloc::{AllocError, Global};
 use std::io::{Read, Write};
 use std::process::ExitCode;
 use vp_data_matrix::{DataMatrix, Lead, Shape, encode};
+use vp_dots::Ink;
+use vp_pdf417::{Asked, Pdf417};
 
 /// What stands before the data, by its byte.
 fn lead_of(byte: u8) -> Lead {
@@ -45,22 +51,74 @@ fn draw(paper: &mut Vec<u8>, symbol: &DataMatrix) -> Result<(), AllocError> {
     Ok(())
 }
 
+/// A number that 0 leaves open.
+fn some_of(number: u8) -> Option<usize> {
+    if number == 0 {
+        None
+    } else {
+        Some(usize::from(number))
+    }
+}
+
+/// What is asked for of PDF417, by its bytes.
+fn asked_of(kind: u8, level: u8, rows: u8, columns: u8) -> Asked {
+    Asked {
+        columns: some_of(columns),
+        rows: some_of(rows),
+        level: match level {
+            b'0'..=b'9' => Some(usize::from(level - b'0')),
+            _ => None,
+        },
+        compact: kind == b'C',
+    }
+}
+
+/// Draws a symbol of PDF417.
+fn draw_stack(paper: &mut Vec<u8>, symbol: &Pdf417) -> Result<(), AllocError> {
+    let ink = symbol.scaled(1, 3);
+    let (width, height) = ink.size();
+    let _ = writeln!(paper, "P1\n{} {}", width, height);
+    for y in 0..height {
+        for x in 0..width {
+            paper.push(if ink.ink(x, y) { b'1' } else { b'0' })?;
+        }
+        paper.push(b'\n')?;
+    }
+    Ok(())
+}
+
+/// Draws the symbol of bytes, or says why there is none.
+fn draw_one(paper: &mut Vec<u8>, asked: [u8; 4], bytes: &[u8]) -> Result<(), AllocError> {
+    let [kind, first, rows, columns] = asked;
+    if kind == b'D' {
+        match encode(bytes, lead_of(first), shape_of(rows, columns)) {
+            Ok(symbol) => draw(paper, &symbol)?,
+            Err(fault) => {
+                let _ = writeln!(paper, "refused {}", fault);
+            }
+        }
+        return Ok(());
+    }
+    match vp_pdf417::encode(bytes, asked_of(kind, first, rows, columns)) {
+        Ok(symbol) => draw_stack(paper, &symbol)?,
+        Err(why) => {
+            let _ = writeln!(paper, "refused {:?}", why);
+        }
+    }
+    Ok(())
+}
+
 /// The symbols that are asked for.
 fn drawn(alloc: Global, asked: &[u8]) -> Result<Vec<u8>, AllocError> {
     let mut paper = Vec::new(alloc);
     let mut left = asked;
-    while let [lead, rows, columns, high, low, rest @ ..] = left {
+    while let [kind, first, rows, columns, high, low, rest @ ..] = left {
         let n = 256 * usize::from(*high) + usize::from(*low);
         if n > rest.len() {
             break;
         }
         let (bytes, behind) = rest.split_at(n);
-        match encode(bytes, lead_of(*lead), shape_of(*rows, *columns)) {
-            Ok(symbol) => draw(&mut paper, &symbol)?,
-            Err(fault) => {
-                let _ = writeln!(paper, "refused {}", fault);
-            }
-        }
+        draw_one(&mut paper, [*kind, *first, *rows, *columns], bytes)?;
         left = behind;
     }
     Ok(paper)
