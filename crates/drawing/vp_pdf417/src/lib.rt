@@ -29,5 +29,6 @@ mod text;
 mod words;
 
 pub use ink::Pdf417Ink;
+pub use pattern::patterns_are_of_their_cluster;
 pub use size::{Asked, Size};
 pub use symbol::{Pdf417, Refusal, encode};
