@@ -5,3 +5,4 @@ mod Held
 mod Elements
 mod SizeWords
 mod InkLines
+mod ModeWords

@@ -5,7 +5,7 @@
 //!
 //! - `words`: the codewords as they are written
 //! - `submode`, `text`, `byte`, `numeric`: the compactions
-//! - `message`: the message codewords of the bytes
+//! - `mode`, `message`: which compaction bytes are in, and their message codewords
 //! - `size`: columns, rows and level
 //! - `codewords`: pads and check codewords
 //! - `cluster_0`, `cluster_3`, `cluster_6`, `pattern`: the patterns of codewords
@@ -20,6 +20,7 @@ mod cluster_6;
 mod codewords;
 mod ink;
 mod message;
+mod mode;
 mod numeric;
 mod pattern;
 mod size;

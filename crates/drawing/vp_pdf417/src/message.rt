@@ -1,41 +1,41 @@
 //! The message codewords of bytes.
 
 ghost use Rattle.std.specs.Prelude.{◌≡◌, [], Some};
-ghost use Rattle.std.specs.List.{list_all};
-ghost use Rattle.vp_pdf417.specs.Messages.{is_digit, is_text, message};
+ghost use Rattle.vp_pdf417.specs.Messages.{segment, all_segments, message};
 ghost use Rattle.vp_pdf417.specs.Written.{written};
 
 use crate::byte::push_bytes;
+use crate::mode::Mode;
 use crate::numeric::push_numeric;
 use crate::text::push_text;
 use crate::words::Words;
 
-/// A digit.
-fn is_digit(byte: u8) -> bool
-    ensures { result ≡ is_digit byte }
+/// Writes bytes in a compaction, behind its latch.
+#[tactic(auto, unfolding(crate::specs::Messages::segment))]
+fn push_segment(words: &mut Words, mode: Mode, src: &[u8])
+    ensures { words.new ≡ written words.old (segment mode src.now) }
 {
-    byte.is_ascii_digit()
+    match mode {
+        Mode::Text => {
+            words.push(900);
+            push_text(words, src);
+        }
+        Mode::Bytes => push_bytes(words, src),
+        Mode::Numeric => push_numeric(words, src),
+    }
 }
 
-/// A character of text compaction.
-fn is_text(byte: u8) -> bool
-    ensures { result ≡ is_text byte }
+/// Writes bytes in segments.
+fn push_segments(words: &mut Words, src: &[u8])
+    ensures { words.new ≡ written words.old (all_segments src.now) }
 {
-    matches!(byte, b'\t' | b'\n' | b'\r' | 32..=126)
-}
-
-/// Digits alone.
-fn are_digits(src: &[u8]) -> bool
-    ensures { result ≡ list_all is_digit src.now }
-{
-    src.iter().all(|byte| is_digit(*byte))
-}
-
-/// Characters of text compaction alone.
-fn are_text(src: &[u8]) -> bool
-    ensures { result ≡ list_all is_text src.now }
-{
-    src.iter().all(|byte| is_text(*byte))
+    let mut left = src;
+    while !left.is_empty() {
+        let mode = Mode::at(left);
+        let (front, rest) = left.split_at(mode.front(left));
+        push_segment(words, mode, front);
+        left = rest;
+    }
 }
 
 /// The message codewords of bytes.
@@ -44,12 +44,13 @@ pub fn message(src: &[u8]) -> Words
     ensures { result ≡ written (Some []) (message src.now) }
 {
     let mut words = Words::new();
-    if src.len() >= 13 && are_digits(src) {
-        push_numeric(&mut words, src);
-    } else if are_text(src) {
-        push_text(&mut words, src);
-    } else {
-        push_bytes(&mut words, src);
+    match Mode::at(src) {
+        Mode::Text => {
+            let (front, rest) = src.split_at(Mode::Text.front(src));
+            push_text(&mut words, front);
+            push_segments(&mut words, rest);
+        }
+        _ => push_segments(&mut words, src),
     }
     words
 }

@@ -34,5 +34,4 @@ pub fn patterns_are_of_their_cluster()
     ensures cluster_0 { are_of_cluster 0 CLUSTER_0 ≡ true }
     ensures cluster_3 { are_of_cluster 3 CLUSTER_3 ≡ true }
     ensures cluster_6 { are_of_cluster 6 CLUSTER_6 ≡ true }
-{
-}
+{}
