@@ -21,7 +21,7 @@ SIZES = [(10, 10, 3), (12, 12, 5), (14, 14, 8), (16, 16, 12), (18, 18, 18), (20,
 HEADS = {b"5": b"[)>\x1e05\x1d", b"6": b"[)>\x1e06\x1d"}
 COMMANDS = {"ZXingReader": ["ZXingReader", "-format", "DataMatrix", "-ispure", "-bytes"],
             "dmtxread": ["dmtxread", "-N1", "-m", "5000"],
-            "ZXingReader of PDF417": ["ZXingReader", "-format", "PDF417", "-bytes"]}
+            "ZXingReader of PDF417": ["ZXingReader", "-format", "PDF417", "-ispure", "-bytes"]}
 # kinds of text, each of which another encodation takes in the fewest codewords, and how many of its characters a
 # codeword has at most
 CAPITALS = b"ABCDEFGHIJKLMNOPQRSTUVWXYZ"
@@ -73,11 +73,9 @@ def stacked(number: int) -> List[Case]:
     for at in range(number):
         level = at % 10
         check = 2 ** (level + 1) if level < 9 else 64
-        kind = random.choice(list(STACKED))
-        # a character takes at most one and a half codewords
-        most = random.choice([20, 100, 926 - check]) if check < 512 else 926 - check
-        length = random.randint(1, min(most, 926 - check) * 2 // 3)
-        need = length * 3 // 2 + 2 + check
+        # a character takes at most one codeword and a half, and two where segments are short
+        length = random.randint(1, min(random.choice([20, 100, 900]), 924 - check) // 2)
+        need = 2 * length + 2 + check
         columns = random.choice([it for it in range(1, 31)
                                  if -(-need // it) <= 90 and it * max(3, -(-need // it)) <= 928])
         rows = max(3, -(-need // columns))
@@ -87,7 +85,11 @@ def stacked(number: int) -> List[Case]:
             columns = 0
         if random.randrange(3) == 0:
             rows, columns = 0, 0
-        data = bytes(random.choices(STACKED[kind], k=length))
+        data = b""
+        while len(data) < length:
+            run = random.choice([length, random.randint(1, 30)])
+            data += bytes(random.choices(STACKED[random.choice(list(STACKED))], k=run))
+        data = data[:length]
         some.append((random.choice(b"FFC").to_bytes(1, "big") + (b"%d" % level if level < 9 else b"-"),
                      rows, columns, data))
     return some
@@ -131,7 +133,7 @@ def said(tool: str, room: str, rows: List[str]) -> bytes:
     """Returns what a reader reads. A symbol that it doesn't find is shown to it in other sizes."""
     name, png = f"{room}/symbol.pbm", f"{room}/symbol.png"
     text = b""
-    for scale in (4, 6, 9):
+    for scale in (4, 6, 9, 3, 5):
         write(name, rows, scale)
         with open(png, "wb") as image:
             subprocess.run(["pnmtopng", "-quiet", name], stdout=image, check=True)
