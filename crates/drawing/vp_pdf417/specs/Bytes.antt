@@ -1,4 +1,4 @@
--- Byte compaction (ISO/IEC 15438, 5.4.3).
+-- Byte compaction (ISO/IEC 15438, Byte Compaction mode).
 use Rattle.std.specs.Prelude.{ℕ, ◌+◌, ◌*◌, ◌%◌, ◌==◌, length, List, [], ◌∷◌, ◌++◌, if◌then◌else◌}
 use Rattle.vp_pdf417.specs.Places.{base_900}
 

@@ -1,4 +1,4 @@
--- All codewords of a symbol (ISO/IEC 15438, 5.4.1 and 5.7).
+-- All codewords of a symbol (ISO/IEC 15438, error detection and correction).
 use Rattle.std.specs.Prelude.{ℕ, ◌-◌, length, List, ◌∷◌, ◌++◌, replicate}
 use Rattle.vp_reed_solomon.specs.declared.field.Field.TheVariants.{Gf929}
 use Rattle.vp_reed_solomon.specs.Polynomials.{generator, check_of}

@@ -18,7 +18,8 @@ ink_of s scale high x y = nat_lt x (wide s scale) && nat_lt y (tall s high)
     && module_of s.size s.words (y / high) (x / scale)
 
 -- there is none outside
-pub no_ink_outside : (s : Pdf417Symbol) (scale high x y : ℕ) → ink_of s scale high x y ≡ true → (x < wide s scale) × (y < tall s high)
+pub no_ink_outside : (s : Pdf417Symbol) (scale high x y : ℕ) → ink_of s scale high x y ≡ true
+    → (x < wide s scale) × (y < tall s high)
 no_ink_outside s scale high x y h =
     let parts = and_parts _ _ (and_parts _ _ h).0 in
     (ltb-true _ _ parts.0, ltb-true _ _ parts.1)

@@ -1,4 +1,4 @@
--- The message codewords of bytes (ISO/IEC 15438, 5.4 and annex P).
+-- The message codewords of bytes (ISO/IEC 15438, high level encodation).
 use Rattle.std.specs.Prelude.{ℕ, zero, suc, ◌+◌, ◌==◌, ◌&&◌, ◌||◌, not, nat_le, Bool, length, List, [], ◌∷◌, ◌++◌, take, drop, slice_index, true, false, if◌then◌else◌}
 use Rattle.std.specs.List.{list_all}
 use Rattle.vp_pdf417.specs.declared.mode.Mode.{Mode}
@@ -18,8 +18,8 @@ is_text byte = byte == 9 || byte == 10 || byte == 13 || nat_le 32 byte && nat_le
 abbrev pub begins_numeric : List ℕ → Bool
 begins_numeric src = nat_le 13 (length src) && list_all is_digit (take 13 src)
 
--- the compaction in which bytes begin: numeric at 13 digits, text at five characters of it or where all that are
--- left are such, and byte else
+-- the compaction in which bytes begin: numeric at 13 digits, text at five characters of it or where all that
+-- are left are such, and byte else
 unfoldable pub mode_at : List ℕ → Mode
 mode_at src = if begins_numeric src then Numeric else if list_all is_text (take 5 src) then Text else Bytes
 
@@ -51,7 +51,8 @@ segments zero src = []
 segments (suc n) [] = []
 segments (suc n) (byte ∷ rest) =
     let mode = mode_at (byte ∷ rest) in
-    segment mode (take (front mode (byte ∷ rest)) (byte ∷ rest)) ++ segments n (drop (front mode (byte ∷ rest)) (byte ∷ rest))
+    segment mode (take (front mode (byte ∷ rest)) (byte ∷ rest))
+    ++ segments n (drop (front mode (byte ∷ rest)) (byte ∷ rest))
 
 -- all of them
 abbrev pub all_segments : List ℕ → List ℕ

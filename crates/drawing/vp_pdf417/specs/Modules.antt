@@ -1,4 +1,4 @@
--- The modules of a finished symbol (ISO/IEC 15438, 5.3 and 5.11.3).
+-- The modules of a finished symbol (ISO/IEC 15438, low level encodation).
 use Rattle.std.specs.Prelude.{ℕ, ◌+◌, ◌-◌, ◌*◌, ◌/◌, ◌%◌, ◌==◌, nat_le, Bool, true, List, slice_index, if◌then◌else◌}
 use Rattle.std.specs.Int.{bit_at}
 use Rattle.vp_pdf417.specs.declared.size.Size.{Size}

@@ -1,4 +1,4 @@
--- Numeric compaction (ISO/IEC 15438, 5.4.4).
+-- Numeric compaction (ISO/IEC 15438, Numeric Compaction mode).
 use Rattle.std.specs.Prelude.{ℕ, zero, suc, ◌+◌, ◌*◌, ◌/◌, ◌%◌, length, List, [], ◌∷◌, ◌++◌, take, drop}
 use Rattle.vp_pdf417.specs.Places.{base_900}
 

@@ -1,4 +1,4 @@
--- The patterns of codewords (ISO/IEC 15438, 5.3.1 and annex A).
+-- The patterns of codewords (ISO/IEC 15438, clusters, and annex A).
 use Rattle.std.specs.Prelude.{ℕ, zero, suc, ◌+◌, ◌-◌, ◌*◌, ◌%◌, ◌==◌, ◌&&◌, nat_le, Bool, List, [], ◌∷◌, length, slice_index, if◌then◌else◌}
 use Rattle.std.specs.List.{list_all}
 use Rattle.std.specs.Int.{bit_at}
@@ -20,7 +20,8 @@ pattern row codeword = 65536 + 2 * inner row codeword
 -- the widths of bars and spaces, of which the first is so wide by now, in the n lowest bits of a number
 abbrev pub widths_from : ℕ → ℕ → ℕ → ℕ → List ℕ
 widths_from color wide modules zero = wide ∷ []
-widths_from color wide modules (suc n) = if bit_at modules n == color then widths_from color (wide + 1) modules n
+widths_from color wide modules (suc n) =
+    if bit_at modules n == color then widths_from color (wide + 1) modules n
     else wide ∷ widths_from (1 - color) 1 modules n
 
 abbrev pub widths : ℕ → List ℕ
@@ -33,4 +34,5 @@ is_of_cluster cluster w = length w == 8 && list_all (λ wide. nat_le 1 wide && n
 
 -- all of a table's are
 abbrev pub are_of_cluster : ℕ → List ℕ → Bool
-are_of_cluster cluster table = length table == 929 && list_all (λ modules. is_of_cluster cluster (widths (65536 + 2 * modules))) table
+are_of_cluster cluster table = length table == 929
+    && list_all (λ modules. is_of_cluster cluster (widths (65536 + 2 * modules))) table

@@ -1,4 +1,4 @@
--- The size of a symbol: its columns of data, its rows and its error correction level (ISO/IEC 15438, 5.2 and 5.7).
+-- The size of a symbol: columns of data, rows and error correction level (ISO/IEC 15438, symbol format).
 use Rattle.std.specs.Prelude.{ℕ, ◌+◌, ◌-◌, ◌*◌, ◌/◌, ◌^◌, ◌==◌, ◌&&◌, ◌||◌, ◌<◌, ◌≤◌, nat_le, not, max, Bool, true, Option, Some, None, is_none, unwrap_or, if◌then◌else◌}
 use Rattle.vp_pdf417.specs.Text.{first_from}
 use Rattle.vp_pdf417.specs.declared.size.Size.{Size}
@@ -10,7 +10,8 @@ check_count level = 2 ^ (level + 1)
 
 -- the level that is recommended for so many data codewords (annex E)
 abbrev pub recommended : ℕ → ℕ
-recommended count = if nat_le count 40 then 2 else if nat_le count 160 then 3 else if nat_le count 320 then 4 else 5
+recommended count =
+    if nat_le count 40 then 2 else if nat_le count 160 then 3 else if nat_le count 320 then 4 else 5
 
 abbrev pub level_of : Asked → ℕ → ℕ
 level_of asked count = unwrap_or asked.level (recommended count)
@@ -30,7 +31,8 @@ rows_of asked all columns = unwrap_or asked.rows (max 3 ((all + columns - 1) / c
 
 -- where neither columns nor rows are asked for, the symbol isn't higher than wide, with rows of three modules
 abbrev pub is_wide : Asked → ℕ → ℕ → Bool
-is_wide asked columns rows = not (is_none asked.columns && is_none asked.rows) || nat_le (3 * rows) (17 * columns + 69)
+is_wide asked columns rows =
+    not (is_none asked.columns && is_none asked.rows) || nat_le (3 * rows) (17 * columns + 69)
 
 -- so many columns have room for so many codewords: 3 to 90 rows, 928 codewords at most
 unfoldable pub fits : Asked → ℕ → ℕ → Bool

@@ -1,4 +1,4 @@
--- Text compaction (ISO/IEC 15438, 5.4.1.5).
+-- Text compaction (ISO/IEC 15438, Text Compaction mode).
 use Rattle.std.specs.Prelude.{ℕ, zero, suc, ◌+◌, ◌-◌, ◌*◌, ◌==◌, ◌&&◌, nat_le, not, Bool, false, length, List, [], ◌∷◌, ◌++◌, Option, Some, None, unwrap_or, slice_index, if◌then◌else◌}
 use Rattle.vp_pdf417.specs.declared.submode.Submode.{Submode}
 use Rattle.vp_pdf417.specs.declared.submode.Submode.TheVariants.{Alpha, Lower, Mixed}
@@ -15,7 +15,7 @@ abbrev pub first_from : (ℕ → Bool) → ℕ → ℕ → Option ℕ
 first_from p k zero = None
 first_from p k (suc n) = if p k then Some k else first_from p (k + 1) n
 
--- the value of a character by its place among those of a sub-mode (table 5)
+-- the value of a character by its place among those of a sub-mode
 unfoldable pub place_in : List ℕ → ℕ → Option ℕ
 place_in characters byte = first_from (λ k. slice_index characters k == byte) 0 (length characters)
 
@@ -29,7 +29,7 @@ value_in Mixed byte = if byte == 32 then Some 26 else place_in MIXED byte
 abbrev pub home : ℕ → Submode
 home byte = if capital byte then Alpha else if small byte then Lower else Mixed
 
--- the values that latch from a sub-mode to another (table 6): mixed and then alpha, lower, or the other two
+-- the values that latch from a sub-mode to another: mixed and then alpha, lower, or the other two
 abbrev pub latch : Submode → Submode → List ℕ
 latch Lower Alpha = 28 ∷ 28 ∷ []
 latch from Lower = 27 ∷ []
@@ -40,7 +40,7 @@ abbrev pub is_shifted : Submode → ℕ → Bool → Bool
 is_shifted Lower byte more = capital byte && not more
 is_shifted from byte more = false
 
--- the values of a character, by its value in the sub-mode in force and that in punctuation: punctuation stands
+-- the values of a character, by its value in the sub-mode in force and that in punctuation: punctuation is
 -- behind a shift, 29, and a character of another sub-mode behind a latch to it or a shift to alpha, 27
 abbrev pub values_by : Option ℕ → Option ℕ → Submode → ℕ → Bool → List ℕ
 values_by (Some value) mark mode byte more = value ∷ []

@@ -11,7 +11,7 @@ use crate::size::{Size, check_count};
 use crate::words::Held;
 use vp_reed_solomon::{Field, check, generator};
 
-/// Appends the data codewords: how many there are, the message, and pads.
+/// The data codewords: how many there are, the message, and pads.
 #[tactic(auto, unfolding(crate::specs::Codewords::padded))]
 fn padded(size: Size, message: &[u16]) -> Held
     requires sound { IsSound size }

@@ -126,7 +126,8 @@ impl Asked {
     fn columns_of(self, all: usize) -> Option<usize>
         requires { all ≤ 928 }
         ensures columns { result ≡ columns_of self all }
-        ensures fits { IfSome result (λ columns. (1 ≤ columns) × (columns ≤ 30) × (fits self all columns ≡ true)) }
+        ensures fits { IfSome result (λ columns.
+            (1 ≤ columns) × (columns ≤ 30) × (fits self all columns ≡ true)) }
     {
         for columns in 1..31usize {
             if self.fits(all, columns) {

@@ -43,7 +43,11 @@ impl Model for Pdf417 {
 
     ghost view = { λ s. record { size = s.size; words = s.words.items } };
 
-    ghost invariant = { λ s. record { sound : IsSound s.size; long : length s.words.items ≡ s.size.columns * s.size.rows; elements : AreElements Gf929 s.words.items } };
+    ghost invariant = { λ s. record {
+      sound : IsSound s.size;
+      long : length s.words.items ≡ s.size.columns * s.size.rows;
+      elements : AreElements Gf929 s.words.items;
+    } };
 }
 
 /// What a row indicator says: the row's number, and the rows, the level and the rows, or the columns.

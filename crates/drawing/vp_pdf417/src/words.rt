@@ -28,7 +28,10 @@ impl Model for Words {
 
     ghost view = { λ s. if s.full then None else Some s.items.items };
 
-    ghost invariant = { λ s. record { elements : AreElements Gf929 s.items.items; few : length s.items.items ≤ 928 } };
+    ghost invariant = { λ s. record {
+      elements : AreElements Gf929 s.items.items;
+      few : length s.items.items ≤ 928;
+    } };
 }
 
 impl Words {

@@ -6,13 +6,13 @@
 //!   and 1 for a rectangle); a dot a module
 //! - `F` and `C`, PDF417, full and compact: the digit of the level, or another byte for the one that is
 //!   recommended, and the rows and columns, 0 where they are left open; a row is three dots high
+//! - `E`, the same as `F`, but not drawn: its columns and rows alone, for bench/peers.sh
 #![tactic(auto)]
 
 use std::alloc::{AllocError, Global};
 use std::io::{Read, Write};
 use std::process::ExitCode;
 use vp_data_matrix::{DataMatrix, Lead, Shape, encode};
-use vp_dots::Ink;
 use vp_pdf417::{Asked, Pdf417};
 
 /// What stands before the data, by its byte.
@@ -73,22 +73,47 @@ fn asked_of(kind: u8, level: u8, rows: u8, columns: u8) -> Asked {
     }
 }
 
-/// Draws a symbol of PDF417.
-fn draw_stack(paper: &mut Vec<u8>, symbol: &Pdf417) -> Result<(), AllocError> {
-    let ink = symbol.scaled(1, 3);
-    let (width, height) = ink.size();
-    let _ = writeln!(paper, "P1\n{} {}", width, height);
-    for y in 0..height {
-        for x in 0..width {
-            paper.push(if ink.ink(x, y) { b'1' } else { b'0' })?;
+/// The dots of a row of a symbol of PDF417, and the line's end.
+fn line_of(alloc: Global, symbol: &Pdf417, row: usize) -> Result<Vec<u8>, AllocError> {
+    let mut line = Vec::new(alloc);
+    if row < symbol.size().rows {
+        for x in 0..symbol.across() {
+            line.push(if symbol.is_dark(row, x) { b'1' } else { b'0' })?;
         }
-        paper.push(b'\n')?;
+    }
+    line.push(b'\n')?;
+    Ok(line)
+}
+
+/// Draws a symbol of PDF417, or tells its columns and rows alone.
+fn draw_stack(
+    alloc: Global,
+    paper: &mut Vec<u8>,
+    symbol: &Pdf417,
+    alone: bool,
+) -> Result<(), AllocError> {
+    let size = symbol.size();
+    if alone {
+        let _ = writeln!(paper, "{} {}", size.columns, size.rows);
+        return Ok(());
+    }
+    let _ = writeln!(paper, "P1\n{} {}", symbol.across(), 3 * size.rows);
+    for row in 0..size.rows {
+        let line = line_of(alloc, symbol, row)?;
+        for _ in 0..3 {
+            paper.extend_from_slice(line.as_slice())?;
+        }
     }
     Ok(())
 }
 
 /// Draws the symbol of bytes, or says why there is none.
-fn draw_one(paper: &mut Vec<u8>, asked: [u8; 4], bytes: &[u8]) -> Result<(), AllocError> {
+fn draw_one(
+    alloc: Global,
+    paper: &mut Vec<u8>,
+    asked: [u8; 4],
+    bytes: &[u8],
+) -> Result<(), AllocError> {
     let [kind, first, rows, columns] = asked;
     if kind == b'D' {
         match encode(bytes, lead_of(first), shape_of(rows, columns)) {
@@ -100,7 +125,7 @@ fn draw_one(paper: &mut Vec<u8>, asked: [u8; 4], bytes: &[u8]) -> Result<(), All
         return Ok(());
     }
     match vp_pdf417::encode(bytes, asked_of(kind, first, rows, columns)) {
-        Ok(symbol) => draw_stack(paper, &symbol)?,
+        Ok(symbol) => draw_stack(alloc, paper, &symbol, kind == b'E')?,
         Err(why) => {
             let _ = writeln!(paper, "refused {:?}", why);
         }
@@ -118,7 +143,7 @@ fn drawn(alloc: Global, asked: &[u8]) -> Result<Vec<u8>, AllocError> {
             break;
         }
         let (bytes, behind) = rest.split_at(n);
-        draw_one(&mut paper, [*kind, *first, *rows, *columns], bytes)?;
+        draw_one(alloc, &mut paper, [*kind, *first, *rows, *columns], bytes)?;
         left = behind;
     }
     Ok(paper)
