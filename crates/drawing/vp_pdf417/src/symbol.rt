@@ -82,6 +82,14 @@ impl Pdf417 {
         self.size
     }
 
+    /// Parts of 17 modules in a row. Behind them is one dark module more.
+    pub fn parts(&self) -> usize
+        ensures parts { result ≡ parts self.now.size }
+        ensures most { result ≤ 34 }
+    {
+        parts(self.size)
+    }
+
     /// Modules in a row.
     pub fn across(&self) -> usize
         ensures across { result ≡ across self.now.size }
@@ -108,7 +116,7 @@ impl Pdf417 {
 
     /// Part number `k` of a row: 17 modules, the leftmost highest.
     #[tactic(auto, unfolding(crate::specs::Modules::part))]
-    fn part(&self, row: usize, k: usize) -> u32
+    pub fn part(&self, row: usize, k: usize) -> u32
         requires row { row < self.now.size.rows }
         ensures { result ≡ part self.now.size self.now.words row k }
     {

@@ -77,11 +77,14 @@ fn asked_of(kind: u8, level: u8, rows: u8, columns: u8) -> Asked {
 fn line_of(alloc: Global, symbol: &Pdf417, row: usize) -> Result<Vec<u8>, AllocError> {
     let mut line = Vec::new(alloc);
     if row < symbol.size().rows {
-        for x in 0..symbol.across() {
-            line.push(if symbol.is_dark(row, x) { b'1' } else { b'0' })?;
+        for k in 0..symbol.parts() {
+            let modules = symbol.part(row, k);
+            for x in 0..17u32 {
+                line.push(b'0' + (modules >> (16 - x) & 1) as u8)?;
+            }
         }
     }
-    line.push(b'\n')?;
+    line.extend_from_slice(b"1\n")?;
     Ok(line)
 }
 
