@@ -1,9 +1,9 @@
 #!/bin/sh
 # How long we take beside what Debian has for the same work: bench/peers.sh [VP], with the program that ./vp runs and the
-# library beside it. QR symbols beside qrencode and libqrencode, bars beside zint, libzint and barcode, and images that are
-# joined beside netpbm's pnmcat. Ours and theirs are timed by turns, and the least of seven counts. What isn't installed is
-# said. The times are those of the machine it runs on; the ratios are what to look at. Where valgrind is, the instructions of
-# libraries are counted too, which don't hang on the machine's load.
+# library beside it. QR symbols beside qrencode and libqrencode, bars beside zint, libzint and barcode, PDF417 symbols, which
+# no printer draws, beside libzint, and images that are joined beside netpbm's pnmcat. Ours and theirs are timed by turns, and
+# the least of seven counts. What isn't installed is said. The times are those of the machine it runs on; the ratios are what
+# to look at. Where valgrind is, the instructions of libraries are counted too, which don't hang on the machine's load.
 set -eu
 top=$(cd "$(dirname "$0")/.." && pwd)
 vp=$(realpath "${1:-$("$top/tools/dist/program")}")

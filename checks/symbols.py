@@ -138,6 +138,8 @@ def said(tool: str, room: str, rows: List[str]) -> bytes:
         with open(png, "wb") as image:
             subprocess.run(["pnmtopng", "-quiet", name], stdout=image, check=True)
         text = read(COMMANDS[tool] + [png])
+        if not text and tool.endswith("PDF417"):
+            text = read([word for word in COMMANDS[tool] if word != "-ispure"] + [png])
         if text:
             break
     return text
