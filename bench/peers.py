@@ -1,6 +1,7 @@
 #!/usr/bin/env python3
 """Writes the same data twice, for bench/peers.sh: a text a line for outside programs, and a receipt of a symbol of each
-text: peers.py KIND NUMBER TEXTS RECEIPT, a KIND of KINDS. The same words give the same bytes."""
+text, or what vp_draw_symbols is asked for: peers.py KIND NUMBER TEXTS RECEIPT, a KIND of KINDS. The same words give the
+same bytes."""
 import random
 import sys
 
@@ -29,6 +30,15 @@ def ean13(data):
     return b"\x1dk\x02" + data + b"\0"
 
 
+def words():
+    return "".join(CHOICE.choices(SMALL[:26] + SMALL[:26].upper() + "0123456789     ,.", k=60)).encode()
+
+
+def pdf417(kind):
+    """What vp_draw_symbols is asked for: the recommended level, and columns and rows left open."""
+    return lambda data: kind + b"-\0\0" + len(data).to_bytes(2, "big") + data
+
+
 # What comes first: modules of two dots, a hundred rows or one.
 HIGH, LOW = b"\x1dw\x02\x1dh\x64", b"\x1dw\x02\x1dh\x01"
 # Its data, what comes first, and its symbol.
@@ -38,6 +48,8 @@ KINDS = {
     "code128-row": (lambda: letters(6, 20), LOW, code128),
     "ean13": (lambda: digits(12), HIGH, ean13),
     "ean13-row": (lambda: digits(12), LOW, ean13),
+    "pdf417": (words, b"", pdf417(b"F")),
+    "pdf417-alone": (words, b"", pdf417(b"E")),
 }
 
 

@@ -1,9 +1,9 @@
 #!/bin/sh
 # How long we take beside what Debian has for the same work: bench/peers.sh [VP], with the program that ./vp runs and the
-# library beside it. QR symbols beside qrencode and libqrencode, bars beside zint, libzint and barcode, and images that are
-# joined beside netpbm's pnmcat. Ours and theirs are timed by turns, and the least of seven counts. What isn't installed is
-# said. The times are those of the machine it runs on; the ratios are what to look at. Where valgrind is, the instructions of
-# libraries are counted too, which don't hang on the machine's load.
+# library beside it. QR symbols beside qrencode and libqrencode, bars beside zint, libzint and barcode, PDF417 symbols, which
+# no printer draws, beside libzint, and images that are joined beside netpbm's pnmcat. Ours and theirs are timed by turns, and
+# the least of seven counts. What isn't installed is said. The times are those of the machine it runs on; the ratios are what
+# to look at. Where valgrind is, the instructions of libraries are counted too, which don't hang on the machine's load.
 set -eu
 top=$(cd "$(dirname "$0")/.." && pwd)
 vp=$(realpath "${1:-$("$top/tools/dist/program")}")
@@ -49,7 +49,7 @@ again() {
 }
 
 # 200 texts of each kind with a receipt of their symbols, and one of each
-for kind in qr code128 code128-row ean13 ean13-row; do
+for kind in qr code128 code128-row ean13 ean13-row pdf417 pdf417-alone; do
     "$top/bench/peers.py" "$kind" 200 "$kind.txt" "$kind.bin"
     "$top/bench/peers.py" "$kind" 1 "$kind-one.txt" "$kind-one.bin"
 done
@@ -91,6 +91,15 @@ inside() {
             END { printf "    %d instructions each, %d: %.2f times as few\n", ours, theirs, theirs / ours }'
 }
 
+# symbols NAME ASKED PEER WORDS: the instructions of 200 symbols that no printer draws, by vp_draw_symbols and by libzint
+symbols() {
+    command -v valgrind > /dev/null || return 0
+    asked() { valgrind --tool=callgrind --callgrind-out-file=/dev/null ./drawn 2>&1 < "$1" > out | sed -n 's/^==[0-9]*== Collected : //p'; }
+    echo "$(asked "$2") $(asked /dev/null) $(collected "./zint 1 $4") $(collected "./zint 0 $4")" |
+        awk -v name="$1" -v peer="$3" '{ ours = ($1 - $2) / 200; theirs = ($3 - $4) / 200
+            printf "%s: %d instructions each, %s %d: %.2f times as few\n", name, ours, peer, theirs, theirs / ours }'
+}
+
 echo 'many symbols in one process'
 library=$(dirname "$vp")/libvp.so
 [ -e "$library" ] || library=$top/dist/libvp.so
@@ -105,6 +114,12 @@ if has cc && made vp -DVP -I"$top/include" "$top/bench/peers.c" "$library"; then
         inside 'EAN-13, a hundred rows' 100 ean13.bin 'libzint, drawn,' zint 'ean13.txt 13 1'
         inside 'Code 128, a row' 100 code128-row.bin 'libzint, encoded alone,' zint 'code128.txt 20 0'
         inside 'EAN-13, a row' 100 ean13-row.bin 'libzint, encoded alone,' zint 'ean13.txt 13 0'
+        drawn=$top/crates/tests/vp_draw_symbols/out/vp_draw_symbols
+        if [ -e "$drawn" ]; then
+            ln -s "$drawn" drawn
+            symbols 'PDF417' pdf417.bin 'libzint, drawn,' 'pdf417.txt 55 1'
+            symbols 'PDF417, encoded' pdf417-alone.bin 'libzint, encoded alone,' 'pdf417.txt 55 0'
+        fi
     fi
     if has barcode; then
         beside 'EAN-13' 200 './vp 1 ean13.bin' 'barcode -i' 'barcode -E -n -e ean -i ean13.txt'

@@ -1,7 +1,7 @@
 #!/usr/bin/env python3
 """symbols.py [PROGRAM [NUMBER [SEED]]]: draws so many random payloads, 60 where none is said, as Data Matrix symbols
-of all sizes and leads, and has ZXingReader and dmtxread read them back. PROGRAM is vp_draw_symbols as the gate builds
-it."""
+of all sizes and leads, and as many as PDF417 symbols of all levels and shapes, and has ZXingReader, and of Data Matrix
+dmtxread too, read them back. PROGRAM is vp_draw_symbols as the gate builds it."""
 import os
 import random
 import shutil
@@ -20,7 +20,8 @@ SIZES = [(10, 10, 3), (12, 12, 5), (14, 14, 8), (16, 16, 12), (18, 18, 18), (20,
          (8, 18, 5), (8, 32, 10), (12, 26, 16), (12, 36, 22), (16, 36, 32), (16, 48, 49)]
 HEADS = {b"5": b"[)>\x1e05\x1d", b"6": b"[)>\x1e06\x1d"}
 COMMANDS = {"ZXingReader": ["ZXingReader", "-format", "DataMatrix", "-ispure", "-bytes"],
-            "dmtxread": ["dmtxread", "-N1", "-m", "5000"]}
+            "dmtxread": ["dmtxread", "-N1", "-m", "5000"],
+            "ZXingReader of PDF417": ["ZXingReader", "-format", "PDF417", "-ispure", "-bytes"]}
 # kinds of text, each of which another encodation takes in the fewest codewords, and how many of its characters a
 # codeword has at most
 CAPITALS = b"ABCDEFGHIJKLMNOPQRSTUVWXYZ"
@@ -28,6 +29,11 @@ LETTERS = {"mixed": (b"AB0123456789", 1.0), "capitals": (CAPITALS + b" ", 1.5),
            "small": (CAPITALS.lower() + b" 09", 1.5), "x12": (CAPITALS + b"0123456789*>\r ", 1.5),
            "edifact": (bytes(range(32, 95)), 1.33), "high": (CAPITALS + b"\xc1\xe9\x80\xff", 1.0)}
 KINDS = ["digits", "text", "bytes", "parts", *LETTERS]
+# characters of PDF417: of each compaction, and of each sub-mode of text
+STACKED = {"digits": b"0123456789", "capitals": CAPITALS + b" ", "words": CAPITALS[:2] + CAPITALS.lower() + b"  ,.",
+           "mixed": b"0123456789&#+%=^,:-.$/* \r\t", "marks": b";<>@[\\]_`~!\r\t,:\n-.$/\"|*()?{}' aB1",
+           "text": bytes(range(32, 127)) + b"\t\n\r", "bytes": bytes(range(256)), "high": CAPITALS + b"\xe9\xff"}
+# the letter of a kind and what stands before the data or the level, rows, columns, data
 Case = Tuple[bytes, int, int, bytes]
 
 
@@ -57,7 +63,35 @@ def cases(number: int) -> List[Case]:
         lead = b"P" if kind in ("bytes", "parts", "high") else random.choice([b"P", b"P", b"P", b"G", b"5", b"6"])
         if random.randrange(4) == 0:
             rows, columns = int(rows != columns), 0
-        some.append((lead, rows, columns, payload(kind, size)))
+        some.append((b"D" + lead, rows, columns, payload(kind, size)))
+    return some
+
+
+def stacked(number: int) -> List[Case]:
+    """Returns what is asked for of PDF417: each level by turns, and columns and rows of which some are left open."""
+    some = []
+    for at in range(number):
+        level = at % 10
+        check = 2 ** (level + 1) if level < 9 else 64
+        # a character takes at most one codeword and a half, and two where segments are short
+        length = random.randint(1, min(random.choice([20, 100, 900]), 924 - check) // 2)
+        need = 2 * length + 2 + check
+        columns = random.choice([it for it in range(1, 31)
+                                 if -(-need // it) <= 90 and it * max(3, -(-need // it)) <= 928])
+        rows = max(3, -(-need // columns))
+        if random.randrange(3) == 0:
+            rows = 0
+        elif random.randrange(3) == 0:
+            columns = 0
+        if random.randrange(3) == 0:
+            rows, columns = 0, 0
+        data = b""
+        while len(data) < length:
+            run = random.choice([length, random.randint(1, 30)])
+            data += bytes(random.choices(STACKED[random.choice(list(STACKED))], k=run))
+        data = data[:length]
+        some.append((random.choice(b"FFC").to_bytes(1, "big") + (b"%d" % level if level < 9 else b"-"),
+                     rows, columns, data))
     return some
 
 
@@ -99,11 +133,13 @@ def said(tool: str, room: str, rows: List[str]) -> bytes:
     """Returns what a reader reads. A symbol that it doesn't find is shown to it in other sizes."""
     name, png = f"{room}/symbol.pbm", f"{room}/symbol.png"
     text = b""
-    for scale in (4, 6, 9):
+    for scale in (4, 6, 9, 3, 5):
         write(name, rows, scale)
         with open(png, "wb") as image:
             subprocess.run(["pnmtopng", "-quiet", name], stdout=image, check=True)
         text = read(COMMANDS[tool] + [png])
+        if not text and tool.endswith("PDF417"):
+            text = read([word for word in COMMANDS[tool] if word != "-ispure"] + [png])
         if text:
             break
     return text
@@ -111,7 +147,8 @@ def said(tool: str, room: str, rows: List[str]) -> bytes:
 
 def wanted(lead: bytes, data: bytes) -> bytes:
     """Returns what a symbol says: a macro stands for its head and its end."""
-    return HEADS[lead] + data + b"\x1e\x04" if lead in HEADS else data
+    head = HEADS.get(lead[1:]) if lead[:1] == b"D" else None
+    return data if head is None else head + data + b"\x1e\x04"
 
 
 def offences(room: str, some: List[Case], symbols: List[List[str]], tools: List[str]) -> List[str]:
@@ -119,11 +156,13 @@ def offences(room: str, some: List[Case], symbols: List[List[str]], tools: List[
     wrong = []
     for at, ((lead, _, _, data), rows) in enumerate(zip(some, symbols)):
         for tool in tools:
+            if (lead[:1] == b"D") == tool.endswith("PDF417"):
+                continue
             # libdmtx gives the check codewords of 144 by 144 modules another order than the standard
             if tool == "dmtxread" and len(rows) == 144:
                 continue
             text = said(tool, room, rows)
-            if text != wanted(lead, data) and not (lead == b"G" and text.lstrip(b"\x1d") == data):
+            if text != wanted(lead, data) and not (lead == b"DG" and text.lstrip(b"\x1d") == data):
                 wrong.append(f"{tool}: symbol {at} of {len(rows)} rows, {some[at]}: {text!r}")
     return wrong
 
@@ -132,7 +171,7 @@ def main() -> int:
     program = sys.argv[1] if sys.argv[1:] else BUILT
     number = int(sys.argv[2]) if sys.argv[2:] else 60
     random.seed(int(sys.argv[3]) if sys.argv[3:] else 16022)
-    tools = [tool for tool in COMMANDS if shutil.which(tool) and shutil.which("pnmtopng")]
+    tools = [tool for tool in COMMANDS if shutil.which(COMMANDS[tool][0]) and shutil.which("pnmtopng")]
     for tool in COMMANDS.keys() - set(tools):
         print(f"symbols: left out: no {tool}")
         if os.environ.get("VP_TOOLS_INSTALLED") == "1":
@@ -140,17 +179,18 @@ def main() -> int:
         if "VP_LEFT_OUT" in os.environ:
             with open(os.environ["VP_LEFT_OUT"], "a", encoding="utf-8") as left:
                 left.write(f"symbols {tool}\n")
-    some = cases(number)
+    some = cases(number) + stacked(number)
     symbols = drawn(program, some)
-    if len(symbols) != number:
-        print(f"checks/symbols: {len(symbols)} symbols of {number}")
+    if len(symbols) != len(some):
+        print(f"checks/symbols: {len(symbols)} symbols of {len(some)}")
         return 1
     with tempfile.TemporaryDirectory() as room:
         wrong = offences(room, some, symbols, tools)
     for it in wrong:
         print(f"checks/symbols: {it}")
     if not wrong:
-        print(f"{number} Data Matrix symbols are read back by {' and '.join(tools) or 'no reader: none is there'}: ok")
+        print(f"{number} Data Matrix and {number} PDF417 symbols are read back by "
+              f"{', '.join(tools) or 'no reader: none is there'}: ok")
     return 1 if wrong else 0
 
 

@@ -1,13 +1,19 @@
 //! Draws the symbols that are asked for on standard input, for readers of others to read them back. Each
-//! has what stands before the data, the rows and columns of its size (0 rows for a square and 1 for a
-//! rectangle), the number of its bytes in two bytes, and its bytes. What comes out is a plain PBM of single
-//! dots each, or `refused`.
+//! has the letter of its kind, three bytes, the number of its data in two bytes, and its data. What comes out
+//! is a plain PBM each, or `refused`.
+//!
+//! - `D`, Data Matrix: what stands before the data, and the rows and columns of its size (0 rows for a square
+//!   and 1 for a rectangle); a dot a module
+//! - `F` and `C`, PDF417, full and compact: the digit of the level, or another byte for the one that is
+//!   recommended, and the rows and columns, 0 where they are left open; a row is three dots high
+//! - `E`, the same as `F`, but not drawn: its columns and rows alone, for bench/peers.sh
 #![tactic(auto)]
 
 use std::alloc::{AllocError, Global};
 use std::io::{Read, Write};
 use std::process::ExitCode;
 use vp_data_matrix::{DataMatrix, Lead, Shape, encode};
+use vp_pdf417::{Asked, Pdf417};
 
 /// What stands before the data, by its byte.
 fn lead_of(byte: u8) -> Lead {
@@ -45,22 +51,102 @@ fn draw(paper: &mut Vec<u8>, symbol: &DataMatrix) -> Result<(), AllocError> {
     Ok(())
 }
 
+/// A number that 0 leaves open.
+fn some_of(number: u8) -> Option<usize> {
+    if number == 0 {
+        None
+    } else {
+        Some(usize::from(number))
+    }
+}
+
+/// What is asked for of PDF417, by its bytes.
+fn asked_of(kind: u8, level: u8, rows: u8, columns: u8) -> Asked {
+    Asked {
+        columns: some_of(columns),
+        rows: some_of(rows),
+        level: match level {
+            b'0'..=b'9' => Some(usize::from(level - b'0')),
+            _ => None,
+        },
+        compact: kind == b'C',
+    }
+}
+
+/// The dots of a row of a symbol of PDF417, and the line's end.
+fn line_of(alloc: Global, symbol: &Pdf417, row: usize) -> Result<Vec<u8>, AllocError> {
+    let mut line = Vec::new(alloc);
+    if row < symbol.size().rows {
+        for k in 0..symbol.parts() {
+            let modules = symbol.part(row, k);
+            for x in 0..17u32 {
+                line.push(b'0' + (modules >> (16 - x) & 1) as u8)?;
+            }
+        }
+    }
+    line.extend_from_slice(b"1\n")?;
+    Ok(line)
+}
+
+/// Draws a symbol of PDF417, or tells its columns and rows alone.
+fn draw_stack(
+    alloc: Global,
+    paper: &mut Vec<u8>,
+    symbol: &Pdf417,
+    alone: bool,
+) -> Result<(), AllocError> {
+    let size = symbol.size();
+    if alone {
+        let _ = writeln!(paper, "{} {}", size.columns, size.rows);
+        return Ok(());
+    }
+    let _ = writeln!(paper, "P1\n{} {}", symbol.across(), 3 * size.rows);
+    for row in 0..size.rows {
+        let line = line_of(alloc, symbol, row)?;
+        for _ in 0..3 {
+            paper.extend_from_slice(line.as_slice())?;
+        }
+    }
+    Ok(())
+}
+
+/// Draws the symbol of bytes, or says why there is none.
+fn draw_one(
+    alloc: Global,
+    paper: &mut Vec<u8>,
+    asked: [u8; 4],
+    bytes: &[u8],
+) -> Result<(), AllocError> {
+    let [kind, first, rows, columns] = asked;
+    if kind == b'D' {
+        match encode(bytes, lead_of(first), shape_of(rows, columns)) {
+            Ok(symbol) => draw(paper, &symbol)?,
+            Err(fault) => {
+                let _ = writeln!(paper, "refused {}", fault);
+            }
+        }
+        return Ok(());
+    }
+    match vp_pdf417::encode(bytes, asked_of(kind, first, rows, columns)) {
+        Ok(symbol) => draw_stack(alloc, paper, &symbol, kind == b'E')?,
+        Err(why) => {
+            let _ = writeln!(paper, "refused {:?}", why);
+        }
+    }
+    Ok(())
+}
+
 /// The symbols that are asked for.
 fn drawn(alloc: Global, asked: &[u8]) -> Result<Vec<u8>, AllocError> {
     let mut paper = Vec::new(alloc);
     let mut left = asked;
-    while let [lead, rows, columns, high, low, rest @ ..] = left {
+    while let [kind, first, rows, columns, high, low, rest @ ..] = left {
         let n = 256 * usize::from(*high) + usize::from(*low);
         if n > rest.len() {
             break;
         }
         let (bytes, behind) = rest.split_at(n);
-        match encode(bytes, lead_of(*lead), shape_of(*rows, *columns)) {
-            Ok(symbol) => draw(&mut paper, &symbol)?,
-            Err(fault) => {
-                let _ = writeln!(paper, "refused {}", fault);
-            }
-        }
+        draw_one(alloc, &mut paper, [*kind, *first, *rows, *columns], bytes)?;
         left = behind;
     }
     Ok(paper)

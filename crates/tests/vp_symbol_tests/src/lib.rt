@@ -7,4 +7,6 @@ mod codewords;
 #[cfg(test)]
 mod data_matrix;
 #[cfg(test)]
+mod pdf417;
+#[cfg(test)]
 mod shapes;
