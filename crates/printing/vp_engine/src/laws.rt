@@ -131,9 +131,9 @@ pub fn a_label_is_images()
     vp_label::laws::what_is_printed_is_images();
 }
 
-/// What `Printer::work` is at most, by the bytes that the printer took: on a receipt's page the rows and columns
-/// of a page, and for each byte the rows of a line with those; of the label that was printed last, for each byte
-/// 7,327 in each of 250 bands.
+/// What `Printer::work` is at most, by the bytes that the printer took: on a receipt's page the rows and
+/// columns of a page, and for each byte the rows of a line with those; of the label that was printed last,
+/// for each byte 7,327 in each of 250 bands.
 pub fn work_is_by_bytes()
     ensures receipts { (setup : ReceiptSetup) (bytes : List ℕ) →
         most_work setup (history (receipts setup) (before_fault (receipts setup) bytes))

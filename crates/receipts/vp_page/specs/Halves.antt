@@ -41,8 +41,8 @@ pub record IsWhiteBut (wide high : ℕ) (area : Area) (rows : Rows) (half : List
   pub white : (x y : ℕ) → x < 8 * wide → y < high → holds area x y ≡ true →
       span rows.from rows.to y ≡ false → dot (slice_index_or half y []) x ≡ false
 
--- a row of so many bytes stands on whole words of a half's row along which it is laid, and is no longer than a
--- line of the area, which ends on the half
+-- a row of so many bytes stands on whole words of a half's row along which it is laid, and is no longer than
+-- a line of the area, which ends on the half
 pub record IsOnWords (wide : ℕ) (area : Area) (d : Direction) (bytes : ℕ) : Type 0 where
   pub words : bytes % 8 ≡ 0
   pub begins : begin_of area d % 8 ≡ 0

@@ -20,7 +20,8 @@ pub record HasPage (layers : List Layer) (page : Paged) : Type 0 where
   pub rows_are : (y : ℕ) → y < PAGE_ROWS → length (slice_index_or page.rows y []) ≡ PAPER_BYTES
   pub columns_are : (x : ℕ) → x < PAPER_DOTS → length (slice_index_or page.columns x []) ≡ LINE_BYTES
   pub dots_are : (x y : ℕ) → x < PAPER_DOTS → y < PAGE_ROWS →
-      (dot (slice_index_or page.rows y []) x || dot (slice_index_or page.columns x []) y) ≡ page_dot layers x y
+      (dot (slice_index_or page.rows y []) x || dot (slice_index_or page.columns x []) y)
+      ≡ page_dot layers x y
   pub work : IsCounted layers page.laid page.wiped
 
 -- no dot of the turned half is black, so that the rows of the upright one show all

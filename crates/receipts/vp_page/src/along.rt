@@ -1,5 +1,5 @@
-//! Lines laid along the rows of a half: each is moved, turned and clipped once, and laid on as many rows as show
-//! it.
+//! Lines laid along the rows of a half: each is moved, turned and clipped once, and laid on as many rows as
+//! show it.
 ghost use Rattle.std.specs.Prelude.{◌≡◌, ℕ, true, ◌+◌, ◌-◌, ◌*◌, ◌/◌, ◌%◌, ◌<◌, ◌≤◌, ◌^◌, ◌&&◌, min, nat_lt, nat_le, length};
 ghost use Rattle.vp_dots.specs.Dots.{dot, span};
 ghost use Rattle.vp_dots.specs.Painting.{Painted};
@@ -84,8 +84,8 @@ fn is_whole<const B: usize>(begin: usize, long: usize) -> bool
     begin % 8 == 0 && long % 64 == 0 && begin + long <= 8 * B
 }
 
-/// The row along which the first dots of a line are laid from a place on. Of its words those are made that the
-/// dots reach: as they stand in the line where they are whole there.
+/// The row along which the first dots of a line are laid from a place on. Of its words those are made that
+/// the dots reach: as they stand in the line where they are whole there.
 #[inline(always)]
 fn row_right<const B: usize>(line: &[u8; LINE_BYTES], begin: usize, long: usize) -> [u8; B]
     requires words { B % 8 ≡ 0 }

@@ -57,7 +57,12 @@ impl<A: Small> Model for Page<A> {
 
     ghost Value = { Paged };
 
-    ghost view = { λ s. record { rows = s.upright; columns = s.turned; laid = s.rows_laid; wiped = s.rows_wiped } };
+    ghost view = { λ s. record {
+      rows = s.upright;
+      columns = s.turned;
+      laid = s.rows_laid;
+      wiped = s.rows_wiped;
+    } };
 }
 
 impl<A: Small + Copy> Page<A> {
@@ -203,8 +208,8 @@ impl<A: Small> Page<A> {
     }
 
     /// Lays an image no wider than the longest line, with its top at a depth of an area, line by line: those
-    /// that are known to be alike at once. Dots past the line length and the depth are dropped, and what falls
-    /// off the page.
+    /// that are known to be alike at once. Dots past the line length and the depth are dropped, and what
+    /// falls off the page.
     pub fn lay<I: Ink>(&mut self, ink: &I, area: Area, direction: Direction, top: u32)
         requires { I.width ink.now ≤ LINE_DOTS }
         ensures { (layers : List Layer) → HasPage layers self.old →

@@ -1,4 +1,5 @@
-//! What stands in the turned half of a page, turned into the upright one: by squares, of which most are white.
+//! What stands in the turned half of a page, turned into the upright one: by squares, of which most are
+//! white.
 ghost use Rattle.std.specs.Prelude.{◌≡◌, ℕ, ◌+◌, ◌*◌, ◌/◌, ◌<◌, ◌&&◌, nat_lt, false, true, [], slice_index, slice_index_or};
 ghost use Rattle.vp_dots.specs.Dots.{dot, span};
 ghost use Rattle.vp_dots.specs.Places.{RowsPainted};
@@ -50,8 +51,8 @@ fn turn_columns<A: Small>(turned: &Turned<A>, column: usize, upright: &mut Uprig
 
 /// Blackens the upright half where a column of the turned one is black.
 pub(crate) fn turn<A: Small>(turned: &Turned<A>, upright: &mut Upright<A>)
-    ensures { RowsPainted PAGE_ROWS Black (λ x y. nat_lt x PAPER_DOTS && dot (slice_index_or turned.now x []) y)
-        upright.old upright.new }
+    ensures { RowsPainted PAGE_ROWS Black
+        (λ x y. nat_lt x PAPER_DOTS && dot (slice_index_or turned.now x []) y) upright.old upright.new }
 {
     let columns = turned.unknown_in(WHOLE.turned());
     let first = columns.from / SIDE;

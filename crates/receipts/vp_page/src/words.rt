@@ -1,5 +1,5 @@
-//! Rows of dots blackened by eight and sixteen bytes at once, which stand on whole bytes of them: as they are, or
-//! turned end for end.
+//! Rows of dots blackened by eight and sixteen bytes at once, which stand on whole bytes of them: as they
+//! are, or turned end for end.
 ghost use Rattle.std.specs.Prelude.{◌≡◌, ℕ, ◌+◌, ◌-◌, ◌*◌, ◌/◌, ◌%◌, ◌<◌, ◌≤◌, ◌&&◌, ◌^◌, nat_lt, nat_le, length, slice_index, bit_and, bit_or};
 ghost use Rattle.vp_dots.specs.Dots.{bit, dot, dots, span};
 ghost use Rattle.vp_dots.specs.Words.{word_dot};

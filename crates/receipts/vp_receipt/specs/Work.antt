@@ -1,5 +1,5 @@
--- What an item costs a page, in rows of dots: those that it lays on it, and the rows and columns that it makes
--- white.
+-- What an item costs a page, in rows of dots: those that it lays on it, and the rows and columns that it
+-- makes white.
 use Rattle.std.specs.Prelude.{◌≡◌, ◌≤◌, ◌⊎◌, ℕ, ◌+◌, ◌*◌, Bool, true, ◌&&◌, if◌then◌else◌, List, [], ◌∷◌, ◌++◌, length, reverse, Option, Some, None}
 use Rattle.vp_esc.specs.declared.item.EscItem.{EscItem}
 use Rattle.vp_esc.specs.declared.item.EscItem.TheVariants.{RasterByte, PageMode}
@@ -48,8 +48,8 @@ AddsAtMost =
     (setup : Setup) (before : List EscItem) (item : EscItem) → mode setup before ≡ Page →
     most_work setup (item ∷ before) ≤ counted_before setup before item + most_by setup before item
 
--- that is at most the rows of a line, and the rows and columns of a page, which CAN makes white; for a byte of
--- a raster it is two
+-- that is at most the rows of a line, and the rows and columns of a page, which CAN makes white; for a byte
+-- of a raster it is two
 pub record CostsAtMost : Type 0 where
   pub item : (setup : Setup) (before : List EscItem) (item : EscItem)
       → most_by setup before item ≤ LINE_ROWS + PAGE_ROWS + PAPER_DOTS
@@ -82,9 +82,9 @@ ended_counts setup [] = 0
 ended_counts setup (item ∷ before) =
     ended_counts setup before + (if counts_anew setup before item then most_work setup before else 0)
 
--- so any bytes, whatever came before them, lay and wipe at most the rows of a line and the rows and columns of
--- a page for each of them; and all that was ever counted is no more than that, beside the page that is white
--- from the start
+-- so any bytes, whatever came before them, lay and wipe at most the rows of a line and the rows and columns
+-- of a page for each of them; and all that was ever counted is no more than that, beside the page that is
+-- white from the start
 pub record BytesCostAtMost : Type 0 where
   pub bytes : (setup : Setup) (bytes more : List ℕ) → most_in_all setup (reverse (items (bytes ++ more)))
       ≤ most_in_all setup (reverse (items bytes)) + (LINE_ROWS + PAGE_ROWS + PAPER_DOTS) * length more
