@@ -1,5 +1,5 @@
 use Rattle.std.proofs.Common.{◌≡◌, ◌-◌, length, vec_capacity}
-use Rattle.vp_bands.proofs.painter.hold_marks.Given as goal
+use Rattle.vp_bands.proofs.marks.hold_marks.Given as goal
 
 abbrev pub invariant-loop-marks : goal.invariant-loop-marks
 invariant-loop-marks g l = vec_capacity l.marks ≡ vec_capacity l.initial.marks
