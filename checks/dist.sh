@@ -146,7 +146,7 @@ silent 'where nothing can be kept'
 rm "$tree/out"
 mv "$room/away" "$tree/out"
 mkdir "$tree/docs" "$tree/examples"
-cp "$root"/docs/*.1 "$root"/docs/*.md "$tree/docs"
+cp "$root"/docs/*.1 "$root"/docs/*.md "$root/docs/faces.png" "$tree/docs"
 cp "$root"/examples/*.pbm "$tree/examples"
 for part in install completions python recipes LICENSE-MIT LICENSE-APACHE NOTICE CHANGELOG.md; do
     cp -R "$root/$part" "$tree"

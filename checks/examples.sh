@@ -34,8 +34,8 @@ done
 if [ "${1:-}" = accept ]; then cp "$scratch/sums" examples/SHA256SUMS; fi
 diff examples/SHA256SUMS "$scratch/sums" || fail 'other images are printed than those that were accepted'
 for picture in docs/*.png; do
-    # (the viewer's page is drawn by its own test)
-    [ "$picture" != docs/viewer.png ] || continue
+    # (the viewer's page and the face are drawn by their own tests)
+    case $picture in docs/viewer.png | docs/faces.png) continue ;; esac
     name=${picture#docs/}
     printed=$(ls "$scratch/printed/${name%.png}".*.pbm)
     if [ "${1:-}" = accept ]; then recipes/paper "$picture" <"$printed"; fi

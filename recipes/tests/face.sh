@@ -27,6 +27,10 @@ else
     left_out python3-freetype
 fi
 
+# docs/faces.md shows the face as it is
+recipes/face 24 --between 8 --text "$(cat recipes/tests/face/picture.txt)" >"$room/picture.pbm"
+testing same docs/faces.png "$room/picture.pbm"
+
 # a text: as wide as its advances, and as high as an em with what goes beyond
 recipes/face 24 --text 'My text' >"$room/text.pbm"
 head -n 2 "$room/text.pbm" | tr '\n' ' ' >"$room/said"
