@@ -22,6 +22,13 @@ down_rows a BottomToTop y = y - a.y
 down_rows a RightToLeft y = a.y + a.dy - 1 - y
 down_rows a TopToBottom y = a.y + a.dy - 1 - y
 
+-- which of so many rows, laid one below the other along lines, stands i below the uppermost of them
+abbrev pub from_top : Direction → ℕ → ℕ → ℕ
+from_top LeftToRight rows i = i
+from_top BottomToTop rows i = i
+from_top RightToLeft rows i = rows - 1 - i
+from_top TopToBottom rows i = rows - 1 - i
+
 -- where lines begin
 abbrev pub begin_of : Area → Direction → ℕ
 begin_of a LeftToRight = a.x

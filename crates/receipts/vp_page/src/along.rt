@@ -6,7 +6,8 @@ ghost use Rattle.vp_dots.specs.Painting.{Painted};
 ghost use Rattle.vp_dots.specs.Places.{RowsPainted};
 ghost use Rattle.vp_dots.specs.Words.{word_dot};
 ghost use Rattle.vp_dots.specs.declared.Op.TheVariants.{Black};
-ghost use Rattle.vp_page.specs.Halves.{IsOnWords, along_row, down_rows};
+ghost use Rattle.vp_page.specs.Halves.{IsOnWords, along_row, down_rows, from_top};
+ghost use Rattle.vp_page.specs.Lines.{row_in};
 ghost use Rattle.vp_page.specs.declared.line.TheConstants.{LINE_BYTES, LINE_DOTS};
 
 use crate::area::{Area, Direction};
@@ -169,6 +170,8 @@ pub(crate) fn top_of(area: Area, direction: Direction, v: usize, times: usize) -
     ensures rows { (y : ℕ) → span result (result + times) y ≡ (span area.y (area.y + area.dy) y
         && (nat_le v (down_rows area direction y) && nat_lt (down_rows area direction y - v) times)) }
     ensures near { result + times ≤ area.y + area.dy }
+    ensures order { (y : ℕ) → span result (result + times) y ≡ true →
+        from_top direction times (y - result) ≡ down_rows area direction y - v }
 {
     match direction {
         Direction::LeftToRight | Direction::BottomToTop => area.y as usize + v,
@@ -221,7 +224,8 @@ pub(crate) fn stands_on_words<const B: usize>(area: Area, direction: Direction, 
 }
 
 /// Blackens a row of a half where a row of dots is black that stands on whole words of it.
-pub(crate) fn or_whole(bytes: &[u8], area: Area, direction: Direction, row: &mut [u8])
+#[inline(always)]
+fn or_whole(bytes: &[u8], area: Area, direction: Direction, row: &mut [u8])
     requires { IsOnWords (length row.old) area direction (length bytes.now) }
     ensures { Painted Black (λ x. span area.x (area.x + area.dx) x
         && dot bytes.now (along_row area direction x)) row.old row.new }
@@ -232,5 +236,46 @@ pub(crate) fn or_whole(bytes: &[u8], area: Area, direction: Direction, row: &mut
         Direction::RightToLeft | Direction::BottomToTop => {
             or_reversed(bytes, right / 8 - bytes.len(), row)
         }
+    }
+}
+
+/// Which of so many rows, laid one below the other, stands i below the uppermost of them.
+#[inline(always)]
+fn row_from_top(direction: Direction, rows: usize, i: usize) -> usize
+    requires { i < rows }
+    ensures value { result ≡ from_top direction rows i }
+    ensures within { result < rows }
+{
+    match direction {
+        Direction::LeftToRight | Direction::BottomToTop => i,
+        Direction::RightToLeft | Direction::TopToBottom => rows - 1 - i,
+    }
+}
+
+/// Blackens so many rows of a half, from one on, where rows of `wide` bytes are black that stand on whole
+/// words of them: those of them that there are.
+pub(crate) fn lay_whole<const B: usize, const H: usize, A: Small>(
+    bytes: &[u8],
+    wide: usize,
+    rows: usize,
+    area: Area,
+    direction: Direction,
+    top: usize,
+    band: &mut Band<B, H, A>,
+)
+    requires words { IsOnWords B area direction wide }
+    requires long { rows * wide ≤ length bytes.now }
+    ensures { RowsPainted H Black (λ x y. span top (top + rows) y && (span area.x (area.x + area.dx) x
+        && dot (row_in bytes.now wide (from_top direction rows (y - top))) (along_row area direction x)))
+        band.old band.new }
+{
+    for i in 0..rows.min(H.saturating_sub(top)) {
+        let at = row_from_top(direction, rows, i) * wide;
+        or_whole(
+            &bytes[at..at + wide],
+            area,
+            direction,
+            band.row_mut(top + i),
+        );
     }
 }

@@ -7,9 +7,10 @@ ghost use Rattle.vp_dots.specs.declared.Op.TheVariants.{Black, White};
 ghost use Rattle.vp_dots.specs.declared.square.TheConstants.{SIDE};
 ghost use Rattle.vp_page.specs.Areas.{holds};
 ghost use Rattle.vp_page.specs.Halves.{IsOnWords, half_dot};
+ghost use Rattle.vp_page.specs.Lines.{row_in};
 ghost use Rattle.vp_page.specs.declared.line.TheConstants.{LINE_BYTES};
 
-use crate::along::{lay_times, or_whole, row_along, stands_on_words, top_of};
+use crate::along::{lay_times, lay_whole, row_along, stands_on_words, top_of};
 use crate::area::{Area, Direction};
 use crate::line::{LINE_BYTES, lengthened};
 use crate::white::Rows;
@@ -130,19 +131,30 @@ impl<const B: usize, const H: usize, A: Small> Half<B, H, A> {
         lay_times(&row, times, top, &mut self.band);
     }
 
-    /// Lays a row of dots that stands on whole words of the half.
-    fn lay_whole(&mut self, area: Area, direction: Direction, v: usize, row: &[u8])
-        requires words { IsOnWords B area direction (length row.now) }
-        requires deep { v < area.dy }
-        ensures { RowsPainted H Black (half_dot area direction v (λ u w. nat_eq w 0 && dot row.now u))
-            self.old self.new }
+    /// Lays rows of `wide` bytes, one behind the other in bytes, that stand on whole words of the half: one
+    /// below the other, the first at the depth v of an area.
+    pub fn lay_rows(
+        &mut self,
+        area: Area,
+        direction: Direction,
+        v: usize,
+        wide: usize,
+        rows: usize,
+        bytes: &[u8],
+    )
+        requires words { IsOnWords B area direction wide }
+        requires deep { v + rows ≤ area.dy }
+        requires long { rows * wide ≤ length bytes.now }
+        ensures { RowsPainted H Black (half_dot area direction v
+            (λ u w. nat_lt w rows && dot (row_in bytes.now wide w) u)) self.old self.new }
     {
-        let y = top_of(area, direction, v, 1);
-        if y >= H {
-            return;
-        }
-        self.laid = self.laid.with(Rows { from: y, to: y + 1 }, H);
-        or_whole(row, area, direction, self.band.row_mut(y));
+        let top = top_of(area, direction, v, rows);
+        let these = Rows {
+            from: top,
+            to: top + rows,
+        };
+        self.laid = self.laid.with(these, H);
+        lay_whole(bytes, wide, rows, area, direction, top, &mut self.band);
     }
 
     /// Lays a row of dots at the depth v of an area.
@@ -153,7 +165,7 @@ impl<const B: usize, const H: usize, A: Small> Half<B, H, A> {
             self.old self.new }
     {
         if stands_on_words::<B>(area, direction, row.len()) {
-            self.lay_whole(area, direction, v, row);
+            self.lay_rows(area, direction, v, row.len(), 1, row);
         } else {
             self.lay_times(area, direction, v, 1, &lengthened(row));
         }

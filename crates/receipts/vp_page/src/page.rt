@@ -1,11 +1,14 @@
 //! The page.
-ghost use Rattle.std.specs.Prelude.{◌≡◌, ℕ, ◌+◌, ◌*◌, ◌^◌, ◌<◌, ◌≤◌, List, [], ◌∷◌, IfOk, length, slice_index_or, take};
+ghost use Rattle.std.specs.Prelude.{◌≡◌, ℕ, ◌+◌, ◌*◌, ◌^◌, ◌<◌, ◌≤◌, true, false, List, [], ◌∷◌, IfOk, length, slice_index_or, take};
 ghost use Rattle.vp_dots.specs.Dots.{dot};
 ghost use Rattle.vp_dots.specs.Images.{row_of};
+ghost use Rattle.vp_page.specs.Areas.{is_level, turned};
+ghost use Rattle.vp_page.specs.Halves.{IsOnWords};
 ghost use Rattle.vp_page.specs.Layers.{row_mark, rows_mark, times_mark};
 ghost use Rattle.vp_page.specs.declared.line.TheConstants.{LINE_BYTES, LINE_DOTS};
 ghost use Rattle.vp_page.specs.declared.page.TheConstants.{PAPER_BYTES, PAPER_DOTS, PAGE_ROWS};
 
+use crate::along::stands_on_words;
 use crate::area::{Area, Direction};
 use crate::half::Half;
 use crate::line::{LINE_BYTES, drawn, run_from};
@@ -39,6 +42,21 @@ pub(crate) const WHOLE: Area = Area {
     dx: PAPER_DOTS,
     dy: PAGE_ROWS as u16,
 };
+
+/// Whether rows of so many bytes stand on whole words of the half along which they are laid.
+fn stand_on_words(area: Area, direction: Direction, wide: usize) -> bool
+    requires { wide ≤ LINE_BYTES }
+    ensures level { result ≡ true → is_level direction ≡ true →
+        IsOnWords PAPER_BYTES area direction wide }
+    ensures turned { result ≡ true → is_level direction ≡ false →
+        IsOnWords LINE_BYTES (turned area) direction wide }
+{
+    if direction.is_level() {
+        stands_on_words::<PAPER_BYTES>(area, direction, wide)
+    } else {
+        stands_on_words::<LINE_BYTES>(area.turned(), direction, wide)
+    }
+}
 
 /// The dots of a page.
 #[derive(Drop)]
@@ -159,6 +177,38 @@ impl<A: Small> Page<A> {
         }
     }
 
+    /// Lays rows as `lay_rows` does, all at once, that stand on whole words of the half along which they are
+    /// laid.
+    fn lay_whole(
+        &mut self,
+        area: Area,
+        direction: Direction,
+        v: u32,
+        wide: usize,
+        rows: usize,
+        bytes: &[u8],
+    )
+        requires level { is_level direction ≡ true → IsOnWords PAPER_BYTES area direction wide }
+        requires turned { is_level direction ≡ false → IsOnWords LINE_BYTES (turned area) direction wide }
+        requires long { rows * wide ≤ length bytes.now }
+        ensures { (layers : List Layer) → HasPage layers self.old →
+            HasPage (Laid (rows_mark area direction v wide rows bytes.now) ∷ layers) self.new }
+    {
+        let depth = u32::from(area.depth(direction));
+        if v >= depth {
+            return;
+        }
+        let high = rows.min((depth - v) as usize);
+        self.rows_laid = self.rows_laid.saturating_add(high as u64);
+        if direction.is_level() {
+            self.upright
+                .lay_rows(area, direction, v as usize, wide, high, bytes);
+        } else {
+            self.turned
+                .lay_rows(area.turned(), direction, v as usize, wide, high, bytes);
+        }
+    }
+
     /// Lays rows of `wide` bytes, one behind the other in bytes, as `lay_row` lays each: the first at the
     /// depth v of an area.
     pub fn lay_rows(
@@ -176,6 +226,10 @@ impl<A: Small> Page<A> {
         ensures { (layers : List Layer) → HasPage layers self.old →
             HasPage (Laid (rows_mark area direction v wide rows bytes.now) ∷ layers) self.new }
     {
+        if stand_on_words(area, direction, wide) {
+            self.lay_whole(area, direction, v, wide, rows, bytes);
+            return;
+        }
         for k in 0..rows {
             let at = k * wide;
             self.lay_row(area, direction, v + k as u32, &bytes[at..at + wide]);
