@@ -11,8 +11,8 @@ from .store import Store
 # How long it waits before each try, in seconds: a store may be away for a moment.
 TRIES = 0, 1, 5
 MOST_SECONDS = 300
-# How many jobs are stored by one run of the command, and how many may wait.
-MOST_AT_ONCE, MOST_WAITING = 50, 10_000
+# How many files are stored by one run of the command, but for one job's that has more, and how many jobs may wait.
+MOST_AT_ONCE, MOST_WAITING = 500, 10_000
 
 
 class Storing:
@@ -39,7 +39,7 @@ class Storing:
         while True:
             with self.changes:
                 self.changes.wait_for(lambda: self.waiting or self.is_over)
-                jobs = self.waiting[:MOST_AT_ONCE]
+                jobs = self.first()
             wrong = self.stored([name for _, names in jobs for name in names])
             with self.changes:
                 if self.is_over:
@@ -47,6 +47,16 @@ class Storing:
                 del self.waiting[:len(jobs)]
             for number, _ in jobs if wrong else ():
                 self.store.say(number, f'not stored: {wrong}')
+
+    def first(self) -> List[Tuple[str, List[str]]]:
+        """The jobs that are stored next."""
+        jobs, files = self.waiting[:1], 0
+        for job in self.waiting[1:MOST_AT_ONCE]:
+            files += len(job[1])
+            if len(jobs[0][1]) + files > MOST_AT_ONCE:
+                break
+            jobs.append(job)
+        return jobs
 
     def stored(self, names: List[str]) -> str:
         """Stores files, and says what is wrong where that fails each time."""
@@ -59,6 +69,9 @@ class Storing:
                 wrong = self.tried(names)
             except tools.program.Fault as fault:
                 wrong = str(fault)
+            except OSError as error:
+                # as on a full disk
+                wrong = error.strerror or str(error)
             if not wrong:
                 break
         return wrong
