@@ -82,6 +82,7 @@ tried() {
 run ./checks/evidence.py
 run ./checks/pages.py
 run ./checks/trust.py
+run ./checks/walks.py
 if [ -n "$quick" ]; then
     export VP="$PWD/dist/vp"
     of=--sources

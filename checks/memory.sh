@@ -45,11 +45,11 @@ tests::formats 2
 tests::label_printers 7
 tests::label_sessions 7
 tests::labels 7
-tests::printers 5
-tests::receipts 5
-tests::sessions 5
+tests::printers 6
+tests::receipts 6
+tests::sessions 6
 tests::sheets 3
-tests::whole_inputs 6
+tests::whole_inputs 7
 tests::whole_labels 11
 END
 before=0

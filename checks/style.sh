@@ -12,7 +12,7 @@ UNTYPED=''
 SHELL_NOT_YET='recipes/many recipes/tests/[egjmp]*.sh recipes/tests/common.sh'
 SCRIPTS_NOT_YET='recipes/viewer/[!bdkm]*.js recipes/viewer/mending.js recipes/web/*.js'
 # What is held to mypy beside the packages vp and vp_recipes.
-TYPED='checks/pages.py checks/trust.py javascript/pack.py recipes/web/bundle.py tools/dist/keeping.py tools/docs/commands.py
+TYPED='checks/pages.py checks/trust.py checks/walks.py javascript/pack.py recipes/web/bundle.py tools/dist/keeping.py tools/docs/commands.py
     tools/gate/edits.py tools/gate/gate.py tools/gate/minutes.py tools/gate/passing.py tools/gate/record.py
     tools/gate/refused.py tools/gate/within'
 

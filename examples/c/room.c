@@ -13,7 +13,7 @@
 enum { ALIGNED = 16 };
 
 /* What a receipt needs without sheets: what vp_memory tells of it, and one block. */
-static _Alignas(ALIGNED) unsigned char room[159744 + VP_BLOCK];
+static _Alignas(ALIGNED) unsigned char room[279552 + VP_BLOCK];
 static size_t taken;
 
 void *malloc(size_t length) {

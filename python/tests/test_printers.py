@@ -60,7 +60,7 @@ class Faults(unittest.TestCase):
             self.assertEqual((printer.held.fields, printer.held.stored), (1, 3))
 
     def test_memory_stays(self):
-        for setup, without_sheets in (vp.Receipt(), 159744), (vp.Label(), 1254176):
+        for setup, without_sheets in (vp.Receipt(), 279552), (vp.Label(), 1254176):
             with setup.start() as printer:
                 memory = printer.memory
                 self.assertGreater(memory, without_sheets)

@@ -29,5 +29,5 @@ looks_bounded = record {
   at_most = λ sheets held view b t before le.
       let all : b + (bands_of view - b) ≡ bands_of view = omega arith in
       omega (arith, before.at_most, rw all at (grows (pairs sheets held.stored view held.fields) (λ k. omega (arith, pairs_more sheets held.stored view held.fields k)) b (bands_of view - b)));
-  at_least = λ sheets held view t before. before.at_least;
+  at_least = λ sheets held view t before. omega (arith, before.at_least);
 }

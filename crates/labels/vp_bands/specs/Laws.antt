@@ -13,7 +13,7 @@ use Rattle.vp_field.specs.declared.axis.Lines.TheVariants.{Along}
 use Rattle.vp_field.specs.declared.view.View.{View}
 use Rattle.vp_field.specs.Views.{seen_y}
 use Rattle.vp_bands.specs.Meeting.{box_meets, pairs, copy_work, shown_pairs, bands_of}
-use Rattle.vp_bands.specs.Standing.{Threaded, IsBefore}
+use Rattle.vp_bands.specs.Standing.{looks_since, Threaded, IsBefore}
 use Rattle.vp_label_size.specs.declared.TheConstants.{BAND_ROWS, WIDEST}
 use Rattle.vp_zpl.specs.declared.item.Orientation.{Orientation}
 
@@ -30,10 +30,10 @@ pub record BandsMet : Type 0 where
 pub record LooksBounded : Type 0 where
   pub at_most : (sheets : Sheets) (held : Held) (view : View) (b : ℕ) (t : Threaded)
       → IsBefore sheets held view b t → b ≤ bands_of view
-      → t.looks ≤ bands_of view + 2 * pairs sheets held.stored view held.fields (bands_of view)
+      → looks_since t ≤ bands_of view + 2 * pairs sheets held.stored view held.fields (bands_of view)
   pub at_least : (sheets : Sheets) (held : Held) (view : View) (t : Threaded)
       → IsBefore sheets held view (bands_of view) t
-      → pairs sheets held.stored view held.fields (bands_of view) ≤ t.looks
+      → pairs sheets held.stored view held.fields (bands_of view) ≤ looks_since t
 
 -- at each band of a copy painting took at most the work of the pairs of a field and a band that it meets, and
 -- behind the last band at least one for each pair where the field has ink on a dot of the label in the band

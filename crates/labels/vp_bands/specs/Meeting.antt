@@ -37,6 +37,10 @@ meeting sheets stored view fields b = count_by (field_meets sheets stored view b
 unfoldable pub pairs : Sheets → List ℕ → View → List Field → ℕ → ℕ
 pairs sheets stored view fields n = sum_by (meeting sheets stored view fields) (range_with_len 0 n)
 
+-- how many looks the first n bands take at most
+abbrev pub most_looks : Sheets → List ℕ → View → List Field → ℕ → ℕ
+most_looks sheets stored view fields n = n + 2 * pairs sheets stored view fields n
+
 -- what painting the fields that meet band b takes at most
 abbrev pub band_work : Sheets → List ℕ → View → List Field → ℕ → ℕ
 band_work sheets stored view fields b =

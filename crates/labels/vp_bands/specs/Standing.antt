@@ -1,24 +1,24 @@
 -- What is kept of the fields of a label while it is put out.
-use Rattle.std.specs.Prelude.{◌≡◌, ℕ, ◌+◌, ◌*◌, ◌^◌, ◌<◌, ◌≤◌, true, List, filter, length, vec_capacity, Option, slice_index_or}
+use Rattle.std.specs.Prelude.{◌≡◌, ℕ, ◌+◌, ◌-◌, ◌*◌, ◌^◌, ◌<◌, ◌≤◌, true, List, filter, length, Option, slice_index_or}
 use Rattle.std.specs.List.{All}
 use Rattle.vp_glyph.specs.Sheets.{Sheets}
 use Rattle.vp_format.specs.declared.field.Field.{Field}
-use Rattle.vp_format.specs.declared.format.TheConstants.{FIELDS}
 use Rattle.vp_format.specs.Formats.{Held}
 use Rattle.vp_fields_by_band.specs.declared.table.Entry.{Entry}
 use Rattle.vp_fields_by_band.specs.Held.{table_memory}
 use Rattle.vp_fields_by_band.specs.Threads.{entry_at, link_at, meets, begins_at, carried_at, IsNext, IsTable, IsThreaded}
 use Rattle.vp_field.specs.declared.marks.Marks.{Marks}
 use Rattle.vp_field.specs.declared.view.View.{View}
-use Rattle.vp_field.specs.Fields.{no_marks, IsKept, AreMarksOf}
+use Rattle.vp_field.specs.Fields.{IsKept, AreMarksOf}
 use Rattle.vp_bands.specs.Meeting.{field_meets, field_shows, pairs, copy_work, shown_pairs}
 use Rattle.vp_bands.specs.declared.meeting.TheConstants.{BANDS}
-use Rattle.vp_bands.specs.declared.painter.TheConstants.{MARKS_BYTES}
+use Rattle.vp_bands.specs.Kept.{marks_at, marks_memory}
 use Rattle.vp_bands.specs.declared.painter.BandPainter.TheInside.{Inside}
 
 -- the entries of the fields, in the order of closing; the first that begins in each band; of each entry that
 -- is carried over the next such one; what earlier bands left of each field; the first entry that is carried
--- to the next band; how often an entry or a link was read since the copy's start, and what painting took
+-- to the next band; how often an entry or a link was read so far, how often it had been at the copy's start,
+-- and how often a field's marks were lent; what painting took since that start
 pub record Threaded : Type 0 where
   pub entries : List Entry
   pub heads : List (Option ℕ)
@@ -26,6 +26,8 @@ pub record Threaded : Type 0 where
   pub marks : List Marks
   pub carried : Option ℕ
   pub looks : ℕ
+  pub begun : ℕ
+  pub marked : ℕ
   pub work : ℕ
 
 abbrev pub threaded_by : {A : Type 0} → Inside A → Threaded
@@ -37,8 +39,14 @@ threaded_by p =
       marks = p.marks.items;
       carried = p.carried;
       looks = p.threads.looks;
+      begun = p.threads.begun;
+      marked = p.marks.read;
       work = p.work;
     }
+
+-- the looks since the copy's start
+abbrev pub looks_since : Threaded → ℕ
+looks_since t = t.looks - t.begun
 
 -- there is room for 1,024 fields and 250 bands, and each field has marks
 pub record HasRoom {A : Type 0} (p : Inside A) : Type 0 where
@@ -46,11 +54,10 @@ pub record HasRoom {A : Type 0} (p : Inside A) : Type 0 where
   pub heads : length p.threads.heads ≡ 250
   pub links : length p.threads.links ≡ 1024
   pub marks : length p.threads.entries ≤ length p.marks.items
-  pub room : vec_capacity p.marks ≡ 1024
 
 -- the bytes of memory of a painter
 abbrev pub painter_memory : ℕ
-painter_memory = table_memory BANDS + MARKS_BYTES * FIELDS
+painter_memory = table_memory BANDS + marks_memory
 
 -- the fields that meet band b
 abbrev pub met : Sheets → List ℕ → View → ℕ → List Field → List Field
@@ -69,9 +76,6 @@ pub record AreSpanned (sheets : Sheets) (held : Held) (view : View) (entries : L
   pub each : length entries ≡ length held.fields
   pub bands : (k : ℕ) (f : Field) → k < length held.fields →
       IsSpanned sheets held.stored view (slice_index_or held.fields k f) (entry_at entries k)
-
-abbrev pub marks_at : List Marks → ℕ → Marks
-marks_at marks k = slice_index_or marks k no_marks
 
 -- what is left of the fields from one to another that are carried to band b is of what they show
 abbrev pub AreMarked : Held → List Entry → List Marks → ℕ → ℕ → ℕ → Type 0
@@ -94,8 +98,8 @@ pub record IsBefore (sheets : Sheets) (held : Held) (view : View) (b : ℕ) (t :
   pub label : IsThreadedFor sheets held view t.entries t.heads
   pub carried : IsThreaded t.entries t.links b t.carried
   pub marks : AreMarked held t.entries t.marks b 0 (length t.entries)
-  pub at_least : pairs sheets held.stored view held.fields b ≤ t.looks
-  pub at_most : t.looks ≤ b + 2 * pairs sheets held.stored view held.fields b
+  pub at_least : t.begun + pairs sheets held.stored view held.fields b ≤ t.looks
+  pub at_most : t.looks ≤ t.begun + b + 2 * pairs sheets held.stored view held.fields b
   pub work : t.work ≤ copy_work sheets held.stored view held.fields b
   pub shown : shown_pairs sheets held.stored view held.fields b ≤ t.work
   pub countable : t.work ≤ 2 ^ 37 * b

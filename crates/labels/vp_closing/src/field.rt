@@ -2,6 +2,7 @@
 ghost use Rattle.std.specs.Prelude.{◌≡◌, ◌≤◌, length, IfOk, IfSome};
 ghost use Rattle.vp_label_settings.specs.Laws.{AreInRange, AreParts, IsFieldBlockIf, IsContent, IsSymbolIf};
 ghost use Rattle.vp_field.specs.Fields.{IsKept};
+ghost use Rattle.vp_format.specs.Formats.{held};
 ghost use Rattle.vp_closing.specs.Closing.{asked_orientation, closed, colour_of, field_of, operation, paint_of};
 
 use crate::content::content_of;
@@ -89,7 +90,8 @@ pub fn closed<A: Small>(
 ) -> Option<Result<Field, Fault>>
     requires settings { AreInRange settings.now }
     requires parts { AreParts (length format.now.stored) parts.now }
-    ensures value { result ≡ closed sheets.now format.now settings.now parts.now }
+    ensures value { result ≡ closed sheets.now (held format.now.fields format.now.stored)
+        settings.now parts.now }
     ensures kept { IfSome result (λ field. IfOk field (IsKept format.now.stored)) }
 {
     let content = parts.content?;

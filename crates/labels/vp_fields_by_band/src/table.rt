@@ -1,18 +1,22 @@
 //! The table: which bands each field meets, and which field comes next in its band. It is read
 //! by calls alone, each of which is counted.
-ghost use Rattle.std.specs.Prelude.{◌≡◌, ℕ, ◌+◌, ◌^◌, ◌<◌, ◌≤◌, [], ◌∷◌, ◌++◌, Option, None, length, slice_set, IfOk};
+ghost use Rattle.std.specs.Prelude.{◌≡◌, ℕ, ◌+◌, ◌-◌, ◌%◌, ◌^◌, ◌<◌, ◌≤◌, [], ◌∷◌, ◌++◌, Option, None, length, slice_set, IfOk, ⊤};
+ghost use Rattle.std.specs.Borrow.{follows_so, sem};
+ghost use mathlib.Core.Option.{none};
 ghost use Rattle.vp_fields_by_band.specs.Threads.{entry_at, link_at, IsPlaced, KeepsSpans, ThreadedFrom};
 ghost use Rattle.vp_fields_by_band.specs.Held.{looked, table_memory};
+ghost use Rattle.vp_fields_by_band.specs.contracts.table.Threads.{the_row};
 
 use std::alloc::{AllocError, Global};
 use std::marker::Model;
 use std::mem::size_of;
+use vp_count::Count;
 use vp_dots::{Small, filled};
 use vp_format::FIELDS;
 
 /// The bands that a field begins and ends in, and the next field that begins in the same band. One that ends
-/// before it begins meets none.
-#[derive(Clone, Copy, Debug, PartialEq, Eq)]
+/// before it begins meets none. It is lent, and never copied.
+#[derive(Debug, Drop, PartialEq, Eq)]
 pub struct Entry {
     pub first: usize,
     pub last: usize,
@@ -47,12 +51,9 @@ fn thread_all(entries: &mut [Entry], heads: &mut [Option<usize>])
     let mut k = entries.len();
     while k > 0 {
         k -= 1;
-        let entry = entries[k];
+        let entry = &mut entries[k];
         if entry.first <= entry.last {
-            entries[k] = Entry {
-                next: heads[entry.first],
-                ..entry
-            };
+            entry.next = heads[entry.first];
             heads[entry.first] = Some(k);
         }
     }
@@ -65,7 +66,8 @@ pub struct Threads<A: Small = Global> {
     entries: Vec<Entry, A>,
     heads: Vec<Option<usize>, A>,
     links: Vec<Option<usize>, A>,
-    looks: u64,
+    since: u64,
+    looks: Count,
 }
 
 impl<A: Small> Model for Threads<A> {
@@ -86,13 +88,14 @@ impl<A: Small> Threads<A> {
         ensures none { IfOk result (λ threads. threads.entries ≡ []) }
         ensures bands { IfOk result (λ threads. length threads.heads ≡ bands) }
         ensures links { IfOk result (λ threads. length threads.links ≡ FIELDS) }
-        ensures looks { IfOk result (λ threads. threads.looks ≡ 0) }
+        ensures looks { IfOk result (λ threads. (threads.looks ≡ 0) × (threads.begun ≡ 0)) }
     {
         Ok(Threads {
             entries: Vec::with_capacity(alloc, FIELDS)?,
             heads: filled(alloc, bands, None)?,
             links: filled(alloc, FIELDS, None)?,
-            looks: 0,
+            since: 0,
+            looks: Count::new(),
         })
     }
 
@@ -120,48 +123,56 @@ impl<A: Small> Threads<A> {
         ensures entries { length self.new.entries ≡ length self.old.entries }
         ensures heads { length self.new.heads ≡ length self.old.heads }
         ensures links { self.new.links ≡ self.old.links }
-        ensures looks { self.new.looks ≡ self.old.looks }
+        ensures looks { (self.new.looks ≡ self.old.looks) × (self.new.begun ≡ self.old.begun) }
     {
         thread_all(&mut self.entries, &mut self.heads);
     }
 
-    /// Counts the looks anew, from none on.
-    pub fn start(&mut self)
-        ensures { self.new ≡ record self.old { looks = 0 } }
+    /// From here on the looks are told anew. How many there were in all stays.
+    pub fn begin(&mut self)
+        ensures { self.new ≡ record self.old { begun = self.old.looks } }
     {
-        self.looks = 0;
+        self.since = 0;
+        self.looks.begin();
     }
 
-    /// Reads an entry, which is counted.
-    pub fn entry(&mut self, n: usize) -> Entry
-        requires within { n < length self.old.entries }
-        requires countable { self.old.looks < 2 ^ 63 }
-        ensures value { result ≡ entry_at self.old.entries n }
-        ensures look { self.new ≡ looked self.old }
+    /// Counts a look.
+    fn look(&mut self)
+        ensures { self.new ≡ looked self.old }
     {
-        self.looks += 1;
-        self.entries[n]
+        self.since = self.since.wrapping_add(1);
+        self.looks.more();
+    }
+
+    /// Lends an entry, which is counted.
+    pub fn entry(&mut self, n: usize) -> &Entry
+        requires { n < length self.old.entries }
+        ensures* counted { sem 𝓛 (follows_so (the_row A.row A.Allocator) (the_row A.row A.Allocator)
+            self.entry.ghost_name none (λ _ _. ⊤) (λ new. new ≡ looked self.old)) }
+        ensures value { result.now ≡ entry_at self.old.entries n }
+        ensures few { n < FIELDS }
+    {
+        self.look();
+        &self.entries[n]
     }
 
     /// Reads which entry is the first that begins in a band, which is counted.
     pub fn first_in(&mut self, b: usize) -> Option<usize>
-        requires within { b < length self.old.heads }
-        requires countable { self.old.looks < 2 ^ 63 }
+        requires { b < length self.old.heads }
         ensures value { result ≡ link_at self.old.heads b }
         ensures look { self.new ≡ looked self.old }
     {
-        self.looks += 1;
+        self.look();
         self.heads[b]
     }
 
     /// Reads a link, which is counted.
     pub fn link(&mut self, n: usize) -> Option<usize>
-        requires within { n < FIELDS }
-        requires countable { self.old.looks < 2 ^ 63 }
+        requires { n < FIELDS }
         ensures value { result ≡ link_at self.old.links n }
         ensures look { self.new ≡ looked self.old }
     {
-        self.looks += 1;
+        self.look();
         self.links[n]
     }
 
@@ -182,10 +193,10 @@ impl<A: Small> Threads<A> {
             + LINK_BYTES * (self.links.capacity() + self.heads.capacity())
     }
 
-    /// How often an entry, the first of a band or a link was read since the copy's start.
-    pub fn looks(&self) -> u64
-        ensures { result ≡ self.now.looks }
+    /// How often an entry, the first of a band or a link was read since `begin`.
+    pub fn since(&self) -> u64
+        ensures { result ≡ (self.now.looks - self.now.begun) % 2 ^ 64 }
     {
-        self.looks
+        self.since
     }
 }

@@ -1,11 +1,11 @@
 //! A walk over the fields that meet a band, in the order of closing.
-ghost use Rattle.std.specs.Prelude.{◌≡◌, ℕ, ◌+◌, ◌^◌, ◌<◌, ◌≤◌, ◌↔◌, List, Option, None, Some, length, IsTrue};
+ghost use Rattle.std.specs.Prelude.{◌≡◌, ℕ, ◌+◌, ◌<◌, ◌≤◌, ◌↔◌, List, Option, None, Some, length, nat_le, IsTrue};
 ghost use Rattle.std.specs.Option.{ForSome};
 ghost use Rattle.vp_fields_by_band.specs.declared.table.Entry.{Entry};
 ghost use Rattle.vp_fields_by_band.specs.Held.{looked, Stays};
 ghost use Rattle.vp_fields_by_band.specs.Threads.{entry_at, begins_at, carried_at, meets_at, IsNext, IsTable, IsWalk, link_at, linked, ended, first_kept};
 
-use crate::table::{Entry, Threads};
+use crate::table::Threads;
 use vp_dots::Small;
 use vp_format::FIELDS;
 
@@ -50,8 +50,7 @@ fn leads_to(link: Option<usize>, n: usize) -> bool
 impl Walk {
     /// A walk before the first field of band b, to which the fields from `carried` on are carried over.
     pub fn start<A: Small>(b: usize, carried: Option<usize>, threads: &mut Threads<A>) -> Walk
-        requires within { b < length threads.old.heads }
-        requires countable { threads.old.looks < 2 ^ 62 }
+        requires { b < length threads.old.heads }
         ensures walk { result ≡ record {
           carried = carried;
           begins = link_at threads.old.heads b;
@@ -70,15 +69,16 @@ impl Walk {
         }
     }
 
-    /// The walk past field `n`, whose entry is given. What it keeps is the same.
-    fn passed<A: Small>(self, n: usize, entry: Entry, threads: &mut Threads<A>) -> Walk
-        requires within { n < FIELDS }
-        requires countable { threads.old.looks < 2 ^ 62 }
+    /// The walk past field `n`, which `next` follows among those that begin in its band. What it keeps is the
+    /// same.
+    fn passed<A: Small>(self, n: usize, next: Option<usize>, threads: &mut Threads<A>) -> Walk
+        requires { n < FIELDS }
         ensures seen { result.seen ≡ n + 1 }
         ensures kept { (result.kept ≡ self.kept) × (result.tail ≡ self.tail) }
         ensures heads { (entries : List Entry) (b : ℕ) →
             IsTable entries → IsWalk entries threads.old.links b self →
-            IsNext (meets_at entries b) self.seen (length entries) (Some n) → entry ≡ entry_at entries n →
+            IsNext (meets_at entries b) self.seen (length entries) (Some n) →
+            next ≡ (entry_at entries n).next →
             IsNext (carried_at entries b) (n + 1) (length entries) result.carried
             × IsNext (begins_at entries b) (n + 1) (length entries) result.begins }
         ensures stays { threads.new ≡ record threads.old { looks = threads.new.looks } }
@@ -93,7 +93,7 @@ impl Walk {
             }
         } else {
             Walk {
-                begins: entry.next,
+                begins: next,
                 seen: n + 1,
                 ..self
             }
@@ -132,24 +132,26 @@ impl Walk {
         self.kept
     }
 
-    /// The walk after field `n`, whose entry is given.
-    pub fn after<A: Small>(self, n: usize, b: usize, entry: Entry, threads: &mut Threads<A>) -> Walk
-        requires within { n < FIELDS }
+    /// The walk after field `n`, whose entry is read, and whether the field begins in band b or behind it.
+    pub fn after<A: Small>(self, n: usize, b: usize, threads: &mut Threads<A>) -> (Walk, bool)
+        requires within { n < length threads.old.entries }
         requires tail { ForSome self.tail (λ t. t < length threads.old.links) }
-        requires countable { threads.old.looks < 2 ^ 62 }
-        ensures seen { result.seen ≡ n + 1 }
-        ensures walk { (entries : List Entry) → IsTable entries → IsWalk entries threads.old.links b self →
-            IsNext (meets_at entries b) self.seen (length entries) (Some n) → entry ≡ entry_at entries n →
-            IsWalk entries threads.new.links b result }
+        ensures seen { result.0.seen ≡ n + 1 }
+        ensures walk { IsTable threads.old.entries → IsWalk threads.old.entries threads.old.links b self →
+            IsNext (meets_at threads.old.entries b) self.seen (length threads.old.entries) (Some n) →
+            IsWalk threads.old.entries threads.new.links b result.0 }
+        ensures begins { result.1 ≡ nat_le b (entry_at threads.old.entries n).first }
         ensures stays { Stays threads.old threads.new }
-        ensures looks { (threads.old.looks ≤ threads.new.looks)
-            × (threads.new.looks ≤ threads.old.looks + 1) }
+        ensures looks { (threads.old.looks + 1 ≤ threads.new.looks)
+            × (threads.new.looks ≤ threads.old.looks + 2) }
     {
-        let passed = self.passed(n, entry, threads);
-        if entry.last > b {
-            passed.keep(n, threads)
+        let entry = threads.entry(n);
+        let (begins, last, next) = (entry.first >= b, entry.last, entry.next);
+        let passed = self.passed(n, next, threads);
+        if last > b {
+            (passed.keep(n, threads), begins)
         } else {
-            passed
+            (passed, begins)
         }
     }
 }

@@ -84,9 +84,10 @@ pub enum Content {
     Qr(QrSymbol),
 }
 
-/// A closed field. The place is the upper left corner of the turned box, in dots from the label's upper left
-/// corner, with the home added; it may lie off the label. The rows are those of the turned box.
-#[derive(Clone, Copy, Debug, PartialEq, Eq)]
+/// A closed field, which is lent and never copied. The place is the upper left corner of the turned box, in
+/// dots from the label's upper left corner, with the home added; it may lie off the label. The rows are those
+/// of the turned box.
+#[derive(Debug, Drop, PartialEq, Eq)]
 pub struct Field {
     pub left: i64,
     pub top: i64,

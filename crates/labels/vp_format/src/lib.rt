@@ -7,7 +7,7 @@
 //! - `row`: the row that starts at a place of the codes.
 //! - `rows`: the rows, one after the other. `checking`: whether any is refused.
 //! - `law`: the laws of codes.
-//! - `field`, `format`: closed fields, and the format that holds them.
+//! - `field`, `format`: closed fields, and the format that holds them, of which each reading is counted.
 #![tactic(auto)]
 
 mod checking;
@@ -26,6 +26,6 @@ mod short_runs;
 
 pub use checking::check;
 pub use field::{BarSymbol, Content, Field, GraphicBox, Picture, QrSymbol, Span, Text, TextBlock};
-pub use format::{FIELDS, Format, STORED};
+pub use format::{FIELDS, Fields, Format, STORED};
 pub use law::{binary_law, codes_law, digits_law};
 pub use rows::{Coding, RunMark, RunRows};

@@ -57,5 +57,5 @@ same_image sheets held v p wide high = grind arith
 
 -- which is that of the items
 pub printed_image : {A : Type 0} (sheets : Sheets) (g : Gathered A) (earlier : List Item) → IsPrinted sheets g earlier →
-    label_image sheets (view_of g.in_force.settings) g.format.stored g.format.fields ≡ image sheets earlier
+    label_image sheets (view_of g.in_force.settings) g.format.stored g.format.fields.items ≡ image sheets earlier
 printed_image sheets g earlier printed = grind arith

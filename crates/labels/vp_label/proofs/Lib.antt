@@ -7,3 +7,5 @@ pub mod Work
 pub mod ByBytes
 pub mod Counts
 pub mod Images
+pub mod Behind
+pub mod Read

@@ -10,7 +10,7 @@ use Rattle.vp_format.specs.Formats.{Held}
 use Rattle.vp_field.specs.declared.view.View.{View}
 use Rattle.vp_bands.specs.Laws.{LooksBounded}
 use Rattle.vp_bands.specs.Meeting.{bands_of, pairs}
-use Rattle.vp_bands.specs.Standing.{IsBefore, Threaded}
+use Rattle.vp_bands.specs.Standing.{looks_since, IsBefore, Threaded}
 use Rattle.vp_label.specs.Press.{bands_above, IsBetween, IsNextBand}
 
 abbrev pub at : ℕ → Line → ℕ → Place
@@ -21,7 +21,7 @@ band_is copies l byte b e = grind arith
 
 -- at no band are there more looks than that
 pub most : (sheets : Sheets) (held : Held) (view : View) (t : Threaded) → LooksBounded → (b : ℕ) × (b ≤ bands_of view) × IsBefore sheets held view b t →
-    t.looks ≤ bands_of view + 2 * pairs sheets held.stored view held.fields (bands_of view)
+    looks_since t ≤ bands_of view + 2 * pairs sheets held.stored view held.fields (bands_of view)
 most sheets held view t law w = law.at_most sheets held view w.0 t w.2 w.1
 
 -- which band is next is no more than there are

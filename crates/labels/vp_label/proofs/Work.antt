@@ -39,7 +39,7 @@ newest_least sheets before item pending old new is idle le none = omega (arith, 
 held_last : {A : Type 0} (number : Sheets → List ℕ → View → List Field → ℕ) (last : Sheets → List Item → ℕ)
     → ((sheets : Sheets) (before : List Item) → last sheets before ≡ number sheets (stored before) (view_of (settings_of before)) (printed_entries sheets before))
     → (sheets : Sheets) (p : Printing A) (before : List Item) → p.sheets ≡ sheets → IsPrinting sheets p.gathered p.pending before → 0 < length p.pending
-    → number p.sheets p.gathered.format.stored (view_of p.gathered.in_force.settings) p.gathered.format.fields ≡ of_last last sheets before
+    → number p.sheets p.gathered.format.stored (view_of p.gathered.in_force.settings) p.gathered.format.fields.items ≡ of_last last sheets before
 held_last number last by_last sheets p before same printing some = grind (arith, length-drop)
 
 pub printing_most : {A : Type 0} (sheets : Sheets) (p : Printing A) (before : List Item) → p.sheets ≡ sheets → IsPrinting sheets p.gathered p.pending before → 0 < length p.pending → painting p ≡ most_work sheets before

@@ -4,7 +4,7 @@ use Rattle.std.specs.List.{All}
 use Rattle.vp_glyph.specs.Sheets.{Sheets}
 use Rattle.vp_zpl.specs.Items.{Item}
 use Rattle.vp_format.specs.declared.field.Field.{Field}
-use Rattle.vp_format.specs.Formats.{Held}
+use Rattle.vp_format.specs.Formats.{held, Held}
 use Rattle.vp_format.specs.declared.format.TheConstants.{STORED}
 use Rattle.vp_field.specs.Fields.{IsKept}
 use Rattle.vp_label_settings.specs.Formats.{is_open, stored}
@@ -26,16 +26,20 @@ pub record Holds (sheets : Sheets) (before : List Item) (held : Held) : Type 0 w
   pub kept : AreKept held.stored held.fields
   pub few : length held.stored ≤ STORED
 
+-- what the format holds
+abbrev pub held_of : {A : Type 0} → Gathered A → Held
+held_of g = held g.format.fields g.format.stored
+
 -- what is gathered after these items
 pub record Gathers {A : Type 0} (sheets : Sheets) (g : Gathered A) (before : List Item) : Type 0 where
   pub in_force : StandsAfter g.in_force before
-  pub held : is_open before ≡ true → Holds sheets before g.format
+  pub held : is_open before ≡ true → Holds sheets before (held_of g)
 
 -- it is what ^XZ printed, after these items
 pub record IsPrinted {A : Type 0} (sheets : Sheets) (g : Gathered A) (before : List Item) : Type 0 where
   pub view : view_of g.in_force.settings ≡ view_of (settings_of before)
   pub stored : g.format.stored ≡ stored before
-  pub fields : g.format.fields ≡ printed_entries sheets before
+  pub fields : g.format.fields.items ≡ printed_entries sheets before
 
 -- it is gathered after some items
 abbrev pub IsGathered : {A : Type 0} → Sheets → Gathered A → Type 0
@@ -49,4 +53,5 @@ data_room g = if g.in_force.is_open then STORED - length g.format.stored else ST
 -- `copies` copies of an image with the fields of the format that has ended
 abbrev pub to_print : {A : Type 0} → Sheets → Gathered A → ℕ → List ℕ
 to_print sheets g copies =
-    copies_text (label_image sheets (view_of g.in_force.settings) g.format.stored g.format.fields) copies
+    copies_text (label_image sheets (view_of g.in_force.settings) g.format.stored g.format.fields.items)
+    copies

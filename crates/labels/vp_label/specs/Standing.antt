@@ -25,19 +25,19 @@ bands p = bands_of (view_of p.gathered.in_force.settings)
 abbrev pub met : {A : Type 0} → Printing A → ℕ
 met p =
     let view = view_of p.gathered.in_force.settings in
-    pairs p.sheets p.gathered.format.stored view p.gathered.format.fields (bands_of view)
+    pairs p.sheets p.gathered.format.stored view p.gathered.format.fields.items (bands_of view)
 
 -- what painting a copy of the format takes at most
 abbrev pub painting : {A : Type 0} → Printing A → ℕ
 painting p =
     let view = view_of p.gathered.in_force.settings in
-    copy_work p.sheets p.gathered.format.stored view p.gathered.format.fields (bands_of view)
+    copy_work p.sheets p.gathered.format.stored view p.gathered.format.fields.items (bands_of view)
 
 -- how many pairs there are of a band of the label and a field that has ink on a dot of the label there
 abbrev pub shown : {A : Type 0} → Printing A → ℕ
 shown p =
     let view = view_of p.gathered.in_force.settings in
-    shown_pairs p.sheets p.gathered.format.stored view p.gathered.format.fields (bands_of view)
+    shown_pairs p.sheets p.gathered.format.stored view p.gathered.format.fields.items (bands_of view)
 
 -- as many bytes as whole copies of the format that is held have: none of no copies
 abbrev pub AreCopies : {A : Type 0} → Printing A → List ℕ → Type 0

@@ -96,6 +96,7 @@ impl<A: Small> Gathered<A> {
             Gathers sheets self.new (followed_by before (data_items bytes.now))) }
         ensures some { OnOk result ((sheets : Given_sheets) →
             IsGathered sheets self.old → IsGathered sheets self.new) }
+        ensures fields { self.new.format.fields ≡ self.old.format.fields }
         ensures room { (sheets : Given_sheets) → IsGathered sheets self.old →
             length bytes.now ≤ data_room self.old → IsOk result }
         ensures err { OnErr result (self.new ≡ self.old) }
@@ -123,9 +124,10 @@ impl<A: Small> Gathered<A> {
         ensures in_force { self.new.in_force ≡ self.old.in_force }
         ensures fields { OnOk result ((before : List Item) → Gathers sheets.now self.old before →
             is_open before ≡ true →
-            self.new.format.fields ≡ printed_entries sheets.now before) }
+            self.new.format.fields.items ≡ printed_entries sheets.now before) }
         ensures stored { self.new.format.stored ≡ self.old.format.stored }
-        ensures kept { OnOk result (AreKept self.new.format.stored self.new.format.fields) }
+        ensures read { self.new.format.fields.read ≡ self.old.format.fields.read }
+        ensures kept { OnOk result (AreKept self.new.format.stored self.new.format.fields.items) }
         ensures err { OnErr result (self.new ≡ self.old) }
     {
         in_range();
@@ -143,7 +145,7 @@ impl<A: Small> Gathered<A> {
     /// The copies that are printed of the format: none where it has no field.
     fn copies(&self) -> u32
         ensures { result ≡
-            (if length self.now.format.fields == 0 then 0 else self.now.in_force.settings.quantity) }
+            (if length self.now.format.fields.items == 0 then 0 else self.now.in_force.settings.quantity) }
     {
         if self.format.len() == 0 {
             return 0;
@@ -167,8 +169,9 @@ impl<A: Small> Gathered<A> {
         ensures printed { IfOk result (λ copies. (before : List Item) → Gathers sheets.now self.old before →
             0 < copies → IsPrinted sheets.now self.new before) }
         ensures kept { IfOk result (λ copies. 0 < copies →
-            AreKept self.new.format.stored self.new.format.fields) }
+            AreKept self.new.format.stored self.new.format.fields.items) }
         ensures some { OnOk result (IsGathered sheets.now self.new) }
+        ensures read { self.new.format.fields.read ≡ self.old.format.fields.read }
         ensures err { OnErr result (self.new ≡ self.old) }
     {
         let start = self.format.stored().len() as u32;

@@ -1,5 +1,5 @@
 //! The printer: what it stands after, and what is still to be put out.
-ghost use Rattle.std.specs.Prelude.{◌≡◌, ◌<◌, ◌≤◌, ◌+◌, ◌*◌, ◌++◌, ◌↔◌, ◌⊎◌, ◌∷◌, [], List, ℕ, true, IsTrue, IfOk, IsOk, OnOk, OnErr, MatchResult, None, Some, length, min, take, drop};
+ghost use Rattle.std.specs.Prelude.{◌≡◌, ◌<◌, ◌≤◌, ◌+◌, ◌*◌, ◌%◌, ◌^◌, ◌++◌, ◌↔◌, ◌⊎◌, ◌∷◌, [], List, ℕ, true, IsTrue, IfOk, IsOk, OnOk, OnErr, MatchResult, None, Some, length, min, take, drop};
 ghost use Rattle.vp_glyph.specs.Sheets.{Sheets as Given_sheets};
 ghost use Rattle.vp_zpl.specs.Items.{Item, data_items};
 ghost use Rattle.vp_zpl.specs.Items.Item.{Given};
@@ -11,7 +11,9 @@ ghost use Rattle.vp_label.specs.Memory.{label_memory};
 ghost use Rattle.vp_label.specs.Held.{band_rows_after, fields_after, stored_after};
 ghost use Rattle.vp_label_size.specs.declared.TheConstants.{BAND_ROWS};
 ghost use Rattle.vp_format.specs.declared.format.TheConstants.{FIELDS, STORED};
-ghost use Rattle.vp_label.specs.Gathered.{Gathers, IsPrinted, data_room};
+ghost use Rattle.vp_bands.specs.Standing.{looks_since};
+ghost use Rattle.vp_label.specs.Gathered.{Gathers, IsPrinted, data_room, held_of};
+ghost use Rattle.vp_label.specs.Press.{IsReadTo};
 ghost use Rattle.vp_label.specs.Prints.{all_print, is_at_rest, prints, view_of as seen};
 ghost use Rattle.vp_label.specs.Refusals.{first_refusal, refusal};
 ghost use Rattle.vp_label.specs.Standing.{bands, met, painting, shown, AreCopies, Stands};
@@ -101,10 +103,15 @@ impl<A: Small> Label<A> {
         ensures pending { OnOk result ((sheets : Given_sheets) (before : List Item) →
             Stands sheets self.old before →
             self.new.pending ≡ all_print sheets before (shown_item item.entry)) }
-        ensures looks { OnOk result (0 < length self.new.pending → self.new.press.painter.looks ≡ 0) }
+        ensures looks { OnOk result (self.new.press.painter.looks ≡ self.old.press.painter.looks) }
+        ensures marked { OnOk result (self.new.press.painter.marked ≡ self.old.press.painter.marked) }
+        ensures fields { OnOk result (self.new.gathered.format.fields.read
+            ≤ self.old.gathered.format.fields.read + length self.new.gathered.format.fields.items) }
+        ensures begun { OnOk result (0 < length self.new.pending →
+            looks_since self.new.press.painter ≡ 0) }
         ensures work { OnOk result (0 < length self.new.pending → self.new.press.painter.work ≡ 0) }
         ensures idle { OnOk result (self.new.pending ≡ [] →
-            self.new.press.painter.looks ≡ self.old.press.painter.looks) }
+            self.new.press.painter.begun ≡ self.old.press.painter.begun) }
         ensures idle_work { OnOk result (self.new.pending ≡ [] →
             self.new.press.painter.work ≡ self.old.press.painter.work) }
         ensures err { OnErr result (self.new ≡ self.old) }
@@ -151,6 +158,7 @@ impl<A: Small> Label<A> {
         ensures sheets { self.new.sheets ≡ self.old.sheets }
         ensures pending { OnOk result (self.new.pending ≡ []) }
         ensures idle { OnOk result (self.new.press ≡ self.old.press) }
+        ensures fields { OnOk result (self.new.gathered.format.fields ≡ self.old.gathered.format.fields) }
         ensures room { length bytes.now ≤ data_room self.old.gathered → IsOk result }
         ensures err { OnErr result (self.new ≡ self.old) }
     {
@@ -175,10 +183,15 @@ impl<A: Small> Label<A> {
         ensures printed { OnOk result ((before : List Item) →
             Gathers self.old.sheets self.old.gathered before →
             0 < length self.new.pending → IsPrinted self.old.sheets self.new.gathered before) }
-        ensures looks { OnOk result (0 < length self.new.pending → self.new.press.painter.looks ≡ 0) }
+        ensures looks { OnOk result (self.new.press.painter.looks ≡ self.old.press.painter.looks) }
+        ensures marked { OnOk result (self.new.press.painter.marked ≡ self.old.press.painter.marked) }
+        ensures fields { OnOk result (self.new.gathered.format.fields.read
+            ≤ self.old.gathered.format.fields.read + length self.new.gathered.format.fields.items) }
+        ensures begun { OnOk result (0 < length self.new.pending →
+            looks_since self.new.press.painter ≡ 0) }
         ensures work { OnOk result (0 < length self.new.pending → self.new.press.painter.work ≡ 0) }
         ensures idle { OnOk result (self.new.pending ≡ [] →
-            self.new.press.painter.looks ≡ self.old.press.painter.looks) }
+            self.new.press.painter.begun ≡ self.old.press.painter.begun) }
         ensures idle_work { OnOk result (self.new.pending ≡ [] →
             self.new.press.painter.work ≡ self.old.press.painter.work) }
         ensures err { OnErr result (self.new ≡ self.old) }
@@ -193,7 +206,7 @@ impl<A: Small> Label<A> {
         }
         in_range();
         let view = view_of(&self.gathered.in_force.settings);
-        self.press.begin(copies, &self.gathered.format, view);
+        self.press.begin(copies, &mut self.gathered.format, view);
         Ok(())
     }
 
@@ -212,9 +225,12 @@ impl<A: Small> Label<A> {
         ensures stands { (sheets : Given_sheets) (before : List Item) → Stands sheets self.old before →
             Stands sheets self.new before }
         ensures at_most { 0 < length self.old.pending →
-            self.new.press.painter.looks ≤ bands self.old + 2 * met self.old }
+            looks_since self.new.press.painter ≤ bands self.old + 2 * met self.old }
         ensures at_least { 0 < result → AreCopies self.old self.new.pending →
-            met self.old ≤ self.new.press.painter.looks }
+            met self.old ≤ looks_since self.new.press.painter }
+        ensures read { IsReadTo self.old.sheets (held_of self.old.gathered)
+            (seen self.old.gathered.in_force.settings) self.old.press self.new.press
+            self.old.gathered.format.fields.read self.new.gathered.format.fields.read }
         ensures work { 0 < length self.old.pending → self.new.press.painter.work ≤ painting self.old }
         ensures shown { 0 < result → AreCopies self.old self.new.pending →
             shown self.old ≤ self.new.press.painter.work }
@@ -227,8 +243,14 @@ impl<A: Small> Label<A> {
         work_bounded();
         place_law();
         let view = view_of(&self.gathered.in_force.settings);
-        self.press
-            .put(&self.sheets, &self.gathered.format, view, out)
+        let format = &mut self.gathered.format;
+        self.press.put(
+            &self.sheets,
+            &mut format.fields,
+            format.stored.bytes(),
+            view,
+            out,
+        )
     }
 
     /// Whether no format is open.
@@ -288,7 +310,7 @@ impl<A: Small> Label<A> {
 
     /// How often an entry of the table of fields or a link was read for the copy that is put out.
     pub fn visits(&self) -> u64
-        ensures { result ≡ self.now.press.painter.looks }
+        ensures { result ≡ looks_since self.now.press.painter % 2 ^ 64 }
     {
         self.press.painter.looks()
     }

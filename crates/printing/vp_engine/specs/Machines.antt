@@ -24,7 +24,10 @@ pub data Machine : Type 0 where
 abbrev pub plain : {A : Type 0} → LabelPrinting A → LabelPrinting (Unit {0})
 plain p = record {
   sheets = p.sheets;
-  gathered = record { in_force = p.gathered.in_force; format = p.gathered.format };
+  gathered = record {
+    in_force = p.gathered.in_force;
+    format = record { fields = p.gathered.format.fields; stored = p.gathered.format.stored };
+  };
   press = record { copies = p.press.copies; painter = p.press.painter; band = p.press.band };
   pending = p.pending;
 }

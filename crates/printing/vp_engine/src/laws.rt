@@ -8,7 +8,7 @@ ghost use Rattle.vp_join.specs.declared.fault.JoinFault.{JoinFault};
 ghost use Rattle.vp_glyph.specs.Sheets.{Sheets};
 ghost use Rattle.vp_label.specs.Images.{AreOfLabels};
 ghost use Rattle.vp_label.specs.Work.{most_work as most_painting};
-ghost use Rattle.vp_page.specs.declared.page.TheConstants.{PAGE_ROWS};
+ghost use Rattle.vp_page.specs.declared.page.TheConstants.{PAGE_ROWS, PAPER_DOTS};
 ghost use Rattle.vp_receipt.specs.Images.{AreAcross};
 ghost use Rattle.vp_receipt.specs.Work.{most_work};
 ghost use Rattle.vp_receipt_settings.specs.declared.text.TheConstants.{LINE_ROWS};
@@ -131,13 +131,13 @@ pub fn a_label_is_images()
     vp_label::laws::what_is_printed_is_images();
 }
 
-/// What `Printer::work` is at most, by the bytes that the printer took: on a receipt's page the rows of a
-/// page, and for each byte those of a line and of a page; of the label that was printed last, for each byte
-/// 7,327 in each of 250 bands.
+/// What `Printer::work` is at most, by the bytes that the printer took: on a receipt's page the rows and
+/// columns of a page, and for each byte the rows of a line with those; of the label that was printed last,
+/// for each byte 7,327 in each of 250 bands.
 pub fn work_is_by_bytes()
     ensures receipts { (setup : ReceiptSetup) (bytes : List ℕ) →
         most_work setup (history (receipts setup) (before_fault (receipts setup) bytes))
-        ≤ PAGE_ROWS + (LINE_ROWS + PAGE_ROWS) * length bytes }
+        ≤ PAGE_ROWS + PAPER_DOTS + (LINE_ROWS + PAGE_ROWS + PAPER_DOTS) * length bytes }
     ensures labels { (sheets : Sheets) (bytes : List ℕ) →
         most_painting sheets (history (labels sheets) (before_fault (labels sheets) bytes))
         ≤ 7327 * (250 * length bytes) }

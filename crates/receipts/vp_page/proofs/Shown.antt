@@ -1,5 +1,5 @@
 -- What lines show of which it is told that some are the same as the one above.
-use Rattle.std.proofs.Common.{◌≡◌, ℕ, ◌+◌, ◌-◌, ◌<◌, ◌≤◌, ◌∙◌, Bool, true, false, refl, ap, sym, subst, arith, List, [], ◌∷◌, length, take, min, get_or, zero, suc, if◌then◌else◌}
+use Rattle.std.proofs.Common.{◌≡◌, ℕ, ◌+◌, ◌-◌, ◌<◌, ◌≤◌, ◌∙◌, Bool, true, false, refl, ap, sym, arith, List, [], ◌∷◌, length, take, min, get_or, zero, suc, if◌then◌else◌}
 use Rattle.std.proofs.lemmas.List.{ext_get_or, get_or_past, get_or-take, length-take}
 use Rattle.vp_page.specs.declared.line.TheConstants.{LINE_BYTES}
 use Rattle.vp_page.specs.Lines.{shown_below, shown_lines}

@@ -1,15 +1,11 @@
--- Squares laid across the page.
-use Rattle.std.proofs.Common.{◌≡◌, ℕ, ◌<◌, ◌≤◌, Bool, false, ltb, ◌&&◌, ap, ◌∙◌, arith, List, [], length, get_or, replicate}
-use Rattle.std.proofs.lemmas.List.{get_or_past, get_or-replicate}
-use Rattle.std.proofs.lemmas.Bool.{lt-ltb, le-ltb}
+-- Words and lines without a dot.
+use Rattle.std.proofs.Common.{inl, inr, ◌≡◌, ℕ, ◌<◌, ◌≤◌, Bool, true, false, ltb, ◌&&◌, ap, sym, ◌∙◌, arith, List, [], length}
+use Rattle.std.proofs.lemmas.List.{get_or_past}
+use Rattle.std.proofs.lemmas.Bool.{cases_lt, lt-ltb, le-ltb, true≢false}
 use Rattle.std.proofs.lemmas.Nat.Bits.{bit_at-zero}
-use Rattle.vp_dots.specs.Dots.{bit}
+use Rattle.vp_dots.specs.Dots.{bit, dot}
 use Rattle.vp_dots.specs.Words.{word_dot}
-use Rattle.vp_dots.specs.Places.{RowsPainted}
-use Rattle.vp_dots.specs.declared.Op.TheVariants.{Black}
-use Rattle.vp_dots.proofs.Paints.{painted_none}
-use Rattle.vp_page.specs.declared.line.TheConstants.{LINE_DOTS}
-use Rattle.vp_page.specs.declared.page.TheConstants.{PAGE_ROWS}
+use Rattle.vp_page.specs.declared.line.TheConstants.{LINE_BYTES, LINE_DOTS}
 use Rattle.vp_page.specs.Lines.{line_dot}
 use Rattle.vp_page.proofs.Rows.{dot_past}
 
@@ -20,18 +16,16 @@ pub white_word : (x : ℕ) → word_dot 0 x ≡ false
 unfolding bit
 white_word x = grind (arith, lt-ltb, bit_at-zero, le-ltb)
 
--- white words
-pub white_words : (y x : ℕ) → y < 64 → word_dot (get_or (replicate {A = ℕ} 64 0) y 0) x ≡ false
-white_words y x h = rw (get_or-replicate {A = ℕ} 64 y 0 0 h) (white_word x)
-
 -- where there is no line there is no dot
 pub no_line : (lines : List (List ℕ)) (i u : ℕ) → length lines ≤ i → line_dot lines i u ≡ false
 no_line lines i u h = rw (get_or_past {X = List ℕ} lines i [] h) (ap (λ b. ltb u LINE_DOTS && b) (dot_past [] u (omega arith)) ∙ and_false (ltb u LINE_DOTS))
 
--- all lines
-pub all_rows : (lines : List (List ℕ)) (i n u : ℕ) → n ≡ length lines → (ltb i n && line_dot lines i u) ≡ line_dot lines i u
-all_rows lines i n u e = grind (arith, lt-ltb, le-ltb, no_line)
+pub some_line : (lines : List (List ℕ)) (i u : ℕ) → line_dot lines i u ≡ true → i < length lines
+some_line lines i u e = elim (cases_lt i (length lines)) [
+  | inl l ↦ l
+  | inr g ↦ absurd (true≢false (sym e ∙ no_line lines i u g))
+]
 
--- no ink
-pub nothing_painted : (f : ℕ → ℕ → Bool) (a : List (List ℕ)) → ((x y : ℕ) → y < PAGE_ROWS → f x y ≡ false) → RowsPainted PAGE_ROWS Black f a a
-nothing_painted f a e = record { rows_are = λ y h. painted_none Black (λ x. f x y) (get_or a y []) (λ d l. e d y h) }
+-- nor past the longest line
+pub past_line : (line : List ℕ) (u : ℕ) → length line ≤ LINE_BYTES → dot line u ≡ (ltb u LINE_DOTS && dot line u)
+past_line line u short = grind (arith, lt-ltb, le-ltb, dot_past)

@@ -1,5 +1,5 @@
 -- Words painted on rows of the page.
-use Rattle.std.proofs.Common.{min, ◌≡◌, ℕ, ◌+◌, ◌-◌, ◌*◌, ◌/◌, ◌%◌, ◌^◌, ◌<◌, ◌≤◌, Bool, true, cond, eqb, ltb, leb, ◌&&◌, sym, ap, ◌∙◌, arith, List, bit_and, bit_or, length, get_or, set}
+use Rattle.std.proofs.Common.{◌≡◌, ℕ, ◌+◌, ◌-◌, ◌*◌, ◌/◌, ◌%◌, ◌^◌, ◌<◌, ◌≤◌, Bool, true, cond, ltb, leb, ◌&&◌, sym, ap, ◌∙◌, arith, List, bit_or, length, get_or}
 use lib.Lanes.{zip2, chunk, put_chunk}
 use Rattle.std.specs.Int.{to_be_bytes, w64}
 use Rattle.std.proofs.lemmas.Simd.{get_or-zip2, get_or-chunk, length-zip2, length-chunk}
@@ -11,12 +11,10 @@ use Rattle.vp_dots.specs.Painting.{Painted}
 use Rattle.vp_dots.specs.declared.Op.TheVariants.{Black}
 use Rattle.vp_dots.proofs.Bits.{bit_of_or}
 use Rattle.vp_dots.proofs.Blocks.{painted_block}
-use Rattle.vp_dots.proofs.Paints.{painted_same, painted_byte_at}
-use Rattle.vp_dots.proofs.Words.{bit_shl, word_shr, word_row}
-use Rattle.vp_dots.proofs.Spans.{bit_of_all, bit_of_and}
+use Rattle.vp_dots.proofs.Paints.{painted_same}
+use Rattle.vp_dots.proofs.Words.{bit_shl, word_row}
 use Rattle.vp_dots.proofs.Cuts.{bit_low64}
 use Rattle.vp_dots.proofs.Rows.{dot_at}
-use Rattle.vp_page.specs.declared.page.TheConstants.{PAPER_DOTS}
 use Rattle.vp_page.proofs.Rows.{dot_past}
 
 -- some bytes of a row, each with a byte on it
@@ -52,27 +50,9 @@ pub turned_painted : (line lanes : List ℕ) (j i : ℕ) (row : List ℕ) → j 
 turned_painted line lanes j i row there room sixteen turned = painted_same Black _ _ _ _ (λ d l. grind (arith, nat_tests))
     (bytes_on (λ d. leb (8 * i) d && (ltb (d - 8 * i) 128 && dot line (8 * j + (127 - (d - 8 * i))))) row lanes i 16 room sixteen (λ n k p h. grind (arith, nat_tests, turned n k, dot_at line (j + (15 - n)) (7 - k))))
 
--- a byte with a mask on it
-pub byte_painted : (mask i : ℕ) (row : List ℕ) → i < length row → Painted Black (λ d. eqb (d / 8) i && bit mask (7 - d % 8)) row (set row i (bit_or (get_or row i 0) mask))
-byte_painted mask i row h = painted_byte_at Black (λ d. bit mask (7 - d % 8)) i _ row h
-    (λ k l. bit_of_or (get_or row i 0) mask k ∙ ap (λ n. cond (bit mask n) true (bit (get_or row i 0) k)) (let e : k ≡ 7 - (8 * i + (7 - k)) % 8 = omega arith in e))
-
--- what a word loses on the right
-pub lost_bit : (word s k : ℕ) → s < 8 → k < 8 → bit (bit_and (word * 2 ^ (8 - s) % 2 ^ 64) 255) k ≡ (leb (8 - s) k && bit word (k - (8 - s)))
-lost_bit word s k p h = grind (arith, bit_of_and, bit_of_all, bit_low64, bit_shl)
-
--- a word that begins in the last eight bytes of a row
-pub last_eight : (word at far d : ℕ) → word < 2 ^ 64 → at ≤ far → d < at + 64
-    → (leb at d && word_dot (word / 2 ^ (far - at)) (d - at)) ≡ (leb far d && word_dot word (d - far))
-last_eight word at far d fits from h = grind (arith, nat_tests, word_shr)
-
 -- a word that begins before a row
 pub first_eight : (word far d : ℕ) → (leb 0 d && word_dot (word * 2 ^ far % 2 ^ 64) (d - 0)) ≡ word_dot word (d + far)
 first_eight word far d = grind (arith, le-leb, lt-ltb, bit_low64, bit_shl, lt-leb, le-ltb)
-
--- half a word, from one of its dots on
-pub half_dot : (word mask skip x : ℕ) → ((d : ℕ) → word_dot mask d ≡ ltb d 32) → word_dot (bit_and (word * 2 ^ skip % 2 ^ 64) mask) x ≡ (ltb x 32 && word_dot word (x + skip))
-half_dot word mask skip x left = grind (arith, bit_of_and, bit_low64, bit_shl, left x)
 
 -- the bytes of a word, eight of a row
 pub word_bytes : (word x : ℕ) (bytes : List ℕ) → bytes ≡ to_be_bytes w64 word → (ltb x 64 && dot bytes (8 * 0 + x)) ≡ word_dot word x
@@ -81,8 +61,3 @@ word_bytes word x bytes e = grind (arith, word_row)
 -- the words of a line, after the last ones
 pub words_all : (line : List ℕ) (q k d : ℕ) → length line ≤ 8 * k → (ltb d (8 * q + 64 * k) && (leb (8 * q) d && dot line (d - 8 * q))) ≡ (leb (8 * q) d && dot line (d - 8 * q))
 words_all line q k d all = grind (arith, nat_tests, dot_past)
-
--- a dot that is black among those bytes alone
-pub among : (first bytes at n x top y : ℕ) (b c : Bool) → bytes ≤ 16 * n → at ≡ min first (72 - 16 * n) → n ≡ 2 → x < PAPER_DOTS → (b ≡ true → span first (first + bytes) (x / 8) ≡ true) → b ≡ c → top ≤ y
-    → (span at (at + 16 * n) (x / 8) && b) ≡ (leb top y && c)
-among first bytes at n x top y b c e a few h s t l = grind (arith, nat_tests)

@@ -1,5 +1,5 @@
 -- Areas of the page, and where dots fall in them.
-use Rattle.std.specs.Prelude.{ℕ, ◌+◌, ◌-◌, nat_lt, nat_le, Bool, ◌&&◌}
+use Rattle.std.specs.Prelude.{ℕ, ◌+◌, ◌-◌, nat_lt, nat_le, Bool, true, false, ◌&&◌}
 use Rattle.vp_page.specs.declared.area.Area.{Area}
 use Rattle.vp_page.specs.declared.area.Direction.{Direction}
 use Rattle.vp_page.specs.declared.area.Direction.TheVariants.{LeftToRight, BottomToTop, RightToLeft, TopToBottom}
@@ -49,3 +49,14 @@ down a LeftToRight x y = y - a.y
 down a BottomToTop x y = x - a.x
 down a RightToLeft x y = a.y + a.dy - 1 - y
 down a TopToBottom x y = a.x + a.dx - 1 - x
+
+-- whether lines run along the rows of the page, or along its columns
+abbrev pub is_level : Direction → Bool
+is_level LeftToRight = true
+is_level BottomToTop = false
+is_level RightToLeft = true
+is_level TopToBottom = false
+
+-- an area, its rows exchanged with its columns
+abbrev pub turned : Area → Area
+turned a = record { x = a.y; y = a.x; dx = a.dy; dy = a.dx }

@@ -1,12 +1,10 @@
 -- What is laid on a page, and the dots that this makes.
-use Rattle.std.specs.Prelude.{ℕ, ◌-◌, slice_index_or, nat_eq, nat_lt, nat_le, Bool, false, not, ◌&&◌, ◌||◌, List, [], ◌∷◌, length}
+use Rattle.std.specs.Prelude.{ℕ, ◌-◌, nat_eq, nat_lt, nat_le, Bool, false, not, ◌&&◌, ◌||◌, List, [], ◌∷◌, length}
 use Rattle.vp_dots.specs.Dots.{dot}
-use Rattle.vp_page.specs.declared.line.TheConstants.{LINE_DOTS}
-use Rattle.vp_page.specs.declared.across.TheConstants.{AT_ONCE}
 use Rattle.vp_page.specs.declared.area.Area.{Area}
 use Rattle.vp_page.specs.declared.area.Direction.{Direction}
 use Rattle.vp_page.specs.Areas.{holds, along, down}
-use Rattle.vp_page.specs.Lines.{row_in}
+use Rattle.vp_page.specs.Lines.{line_dot, row_in}
 
 -- an image that is laid with its left at the start of the lines, and its top at a vertical position of the
 -- area
@@ -51,15 +49,14 @@ times_mark a d v times row = record {
   dot = λ u w. nat_lt w times && row u;
 }
 
--- as many rows as are laid at once, no longer than the longest line, one below the other from a depth of the
--- area on
+-- rows no longer than the longest line, one below the other from a depth of the area on
 abbrev pub lines_mark : Area → Direction → ℕ → List (List ℕ) → Mark
 lines_mark a d v lines = record {
   area = a;
   direction = d;
   top = v;
   high = length lines;
-  dot = λ u w. nat_lt w AT_ONCE && (nat_lt u LINE_DOTS && dot (slice_index_or lines w []) u);
+  dot = λ u w. line_dot lines w u;
 }
 
 -- rows of `wide` bytes, one behind the other in bytes and laid one below the other from a depth of the area

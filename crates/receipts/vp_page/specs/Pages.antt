@@ -1,29 +1,29 @@
--- The rows of a page.
-use Rattle.std.specs.Prelude.{◌≡◌, ◌<◌, ◌≤◌, ℕ, true, false, List, [], length, slice_index_or}
-use Rattle.vp_dots.specs.Dots.{dot, span}
-use Rattle.vp_page.specs.Areas.{holds}
-use Rattle.vp_page.specs.declared.area.Area.{Area}
-use Rattle.vp_page.specs.declared.white.Rows.{Rows}
+-- The dots of a page.
+use Rattle.std.specs.Prelude.{◌≡◌, ◌<◌, ℕ, false, ◌||◌, List, [], length, slice_index_or}
+use Rattle.vp_dots.specs.Dots.{dot}
+use Rattle.vp_page.specs.declared.line.TheConstants.{LINE_BYTES}
 use Rattle.vp_page.specs.declared.page.TheConstants.{PAPER_DOTS, PAPER_BYTES, PAGE_ROWS}
 use Rattle.vp_page.specs.Layers.{Layer, page_dot}
 use Rattle.vp_page.specs.Work.{IsCounted}
 
--- the rows of a page, and how many rows were laid on it and made white since they were last counted anew
+-- the rows of a page's upright half, and those of its turned half, which are columns of the page; how many
+-- rows were laid on it and made white since they were last counted anew
 pub record Paged : Type 0 where
   pub rows : List (List ℕ)
+  pub columns : List (List ℕ)
   pub laid : ℕ
   pub wiped : ℕ
 
--- rows as wide as the wide paper, whose dots are those of the layers, and the count of what that took
+-- rows as wide as the wide paper and columns as long as the page, the dots of both of which are together
+-- those of the layers, and the count of what that took
 pub record HasPage (layers : List Layer) (page : Paged) : Type 0 where
   pub rows_are : (y : ℕ) → y < PAGE_ROWS → length (slice_index_or page.rows y []) ≡ PAPER_BYTES
+  pub columns_are : (x : ℕ) → x < PAPER_DOTS → length (slice_index_or page.columns x []) ≡ LINE_BYTES
   pub dots_are : (x y : ℕ) → x < PAPER_DOTS → y < PAGE_ROWS →
-      dot (slice_index_or page.rows y []) x ≡ page_dot layers x y
+      (dot (slice_index_or page.rows y []) x || dot (slice_index_or page.columns x []) y)
+      ≡ page_dot layers x y
   pub work : IsCounted layers page.laid page.wiped
 
--- an area of the page is white, but for some rows
-pub record IsWhiteBut (area : Area) (rows : Rows) (page : List (List ℕ)) : Type 0 where
-  pub within : rows.to ≤ PAGE_ROWS
-  pub rows_are : (y : ℕ) → y < PAGE_ROWS → length (slice_index_or page y []) ≡ PAPER_BYTES
-  pub white : (x y : ℕ) → x < PAPER_DOTS → y < PAGE_ROWS → holds area x y ≡ true →
-      span rows.from rows.to y ≡ false → dot (slice_index_or page y []) x ≡ false
+-- no dot of the turned half is black, so that the rows of the upright one show all
+pub record IsShown (page : Paged) : Type 0 where
+  pub white : (x y : ℕ) → x < PAPER_DOTS → y < PAGE_ROWS → dot (slice_index_or page.columns x []) y ≡ false

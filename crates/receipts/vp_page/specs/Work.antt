@@ -1,6 +1,6 @@
 -- What a page has taken since its rows were last counted anew, at the latest by ESC L: the rows of dots that
--- were laid on it, and those that were made white.
-use Rattle.std.specs.Prelude.{◌≡◌, ◌≤◌, ℕ, zero, suc, ◌+◌, ◌-◌, ◌^◌, min, Bool, false, ◌&&◌, ◌||◌, if◌then◌else◌, List, [], ◌∷◌}
+-- were laid on it, and the rows and columns that were made white.
+use Rattle.std.specs.Prelude.{◌≡◌, ◌≤◌, ℕ, zero, suc, ◌+◌, ◌-◌, ◌^◌, nat_lt, min, Bool, ◌&&◌, if◌then◌else◌, List, [], ◌∷◌}
 use Rattle.vp_page.specs.declared.area.Area.{Area}
 use Rattle.vp_page.specs.declared.page.TheConstants.{PAGE_ROWS, PAPER_DOTS}
 use Rattle.vp_page.specs.Areas.{holds, depth}
@@ -17,32 +17,37 @@ laid_rows (Laid m ∷ before) = rows_laid m + laid_rows before
 laid_rows (Wiped a ∷ before) = laid_rows before
 laid_rows (CountedAnew ∷ before) = 0
 
--- how many rows of the page an area has
+-- how many rows of the page an area has, and how many columns
 abbrev pub area_rows : Area → ℕ
 area_rows a = min (a.y + a.dy) PAGE_ROWS - a.y
 
--- the rows that ESC L and CAN make white: at most those of the page, and of each area
+abbrev pub area_columns : Area → ℕ
+area_columns a = min (a.x + a.dx) PAPER_DOTS - a.x
+
+-- what ESC L and CAN make white: at most the rows and the columns of the page, and of each area
 abbrev pub most_wiped : List Layer → ℕ
-most_wiped [] = PAGE_ROWS
+most_wiped [] = PAGE_ROWS + PAPER_DOTS
 most_wiped (Laid m ∷ before) = most_wiped before
-most_wiped (Wiped a ∷ before) = area_rows a + most_wiped before
+most_wiped (Wiped a ∷ before) = area_rows a + area_columns a + most_wiped before
 most_wiped (CountedAnew ∷ before) = 0
 
--- whether row y has a black dot in the area, among its first n
-unfoldable pub has_black : List Layer → Area → ℕ → ℕ → Bool
-has_black layers a y zero = false
-has_black layers a y (suc x) = holds a x y && page_dot layers x y || has_black layers a y x
+-- whether place i of the area's diagonal is black, from its upper left place on
+abbrev pub is_black_at : List Layer → Area → ℕ → Bool
+is_black_at layers a i =
+    holds a (a.x + i) (a.y + i) && (nat_lt (a.x + i) PAPER_DOTS && (nat_lt (a.y + i) PAGE_ROWS
+    && page_dot layers (a.x + i) (a.y + i)))
 
--- how many of the first n rows have
-unfoldable pub black_rows : List Layer → Area → ℕ → ℕ
-black_rows layers a zero = 0
-black_rows layers a (suc y) = (if has_black layers a y PAPER_DOTS then 1 else 0) + black_rows layers a y
+-- how many of the first n places are
+unfoldable pub black_diagonal : List Layer → Area → ℕ → ℕ
+black_diagonal layers a zero = 0
+black_diagonal layers a (suc i) =
+    (if is_black_at layers a i then 1 else 0) + black_diagonal layers a i
 
--- and at least those that CAN finds with a black dot in the area
+-- and at least a row or a column for each of those that CAN finds black, no two of which share one
 abbrev pub least_wiped : List Layer → ℕ
 least_wiped [] = 0
 least_wiped (Laid m ∷ before) = least_wiped before
-least_wiped (Wiped a ∷ before) = black_rows before a PAGE_ROWS + least_wiped before
+least_wiped (Wiped a ∷ before) = black_diagonal before a PAPER_DOTS + least_wiped before
 least_wiped (CountedAnew ∷ before) = 0
 
 -- the largest count

@@ -10,13 +10,6 @@ pub enum Direction {
     TopToBottom,
 }
 
-/// Which way lines run across the rows of the page.
-#[derive(Clone, Copy)]
-pub(crate) enum Way {
-    Up,
-    Down,
-}
-
 /// ESC W: a part of the page, in dots: its upper left place, its width and its height.
 #[derive(Clone, Copy, Debug, PartialEq, Eq)]
 pub struct Area {
@@ -27,21 +20,33 @@ pub struct Area {
 }
 
 impl Direction {
-    ghost use Rattle.vp_page.specs.Runs.{across};
+    ghost use Rattle.vp_page.specs.Areas.{is_level};
 
-    /// That of lines that run up, or down.
-    pub(crate) fn across(way: Way) -> Direction
-        ensures { result ≡ across way }
+    /// Whether lines run along the rows of the page.
+    pub(crate) fn is_level(self) -> bool
+        ensures { result ≡ is_level self }
     {
-        match way {
-            Way::Up => Direction::BottomToTop,
-            Way::Down => Direction::TopToBottom,
+        match self {
+            Direction::LeftToRight | Direction::RightToLeft => true,
+            Direction::BottomToTop | Direction::TopToBottom => false,
         }
     }
 }
 
 impl Area {
-    ghost use Rattle.vp_page.specs.Areas.{line_length, depth, holds};
+    ghost use Rattle.vp_page.specs.Areas.{line_length, depth, holds, turned};
+
+    /// The area, its rows exchanged with its columns.
+    pub(crate) fn turned(self) -> Area
+        ensures { result ≡ turned self }
+    {
+        Area {
+            x: self.y,
+            y: self.x,
+            dx: self.dy,
+            dy: self.dx,
+        }
+    }
 
     /// Whether another area lies in this one.
     pub(crate) fn covers(self, other: Area) -> bool

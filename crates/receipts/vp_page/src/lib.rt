@@ -1,22 +1,17 @@
 //! The page of page mode: dots laid in four directions, and areas made white.
 #![tactic(auto, using(vp_dots::proofs::Handles::list_small))]
 
-mod across;
 mod along;
 mod area;
-mod changes;
-mod different;
+mod half;
 mod laws;
 mod line;
 mod page;
-mod row_writer;
-mod run_columns;
-mod runs;
-mod still;
+mod turning;
 mod white;
+mod whiten;
 mod words;
 
-pub use across::AT_ONCE;
 pub use area::{Area, Direction};
 pub use laws::{dots_fall, marks_and_wipes, rows_make_an_image};
 pub use line::{LINE_BYTES, LINE_DOTS};

@@ -1,12 +1,10 @@
-//! Rows of the page that were laid on since an area was white: all else of that area is white still.
+//! Rows of a half that were laid on since an area was white: all else of that area is white still.
 ghost use Rattle.std.specs.Prelude.{◌≡◌, ℕ, ◌+◌, ◌-◌, max, min, ◌<◌, ◌≤◌, true, false};
 ghost use Rattle.vp_dots.specs.Dots.{span};
-ghost use Rattle.vp_page.specs.declared.page.TheConstants.{PAGE_ROWS};
 
 use crate::Area;
-use crate::page::PAGE_ROWS;
 
-/// Rows of the page from one on and before another.
+/// Rows from one on and before another.
 #[derive(Clone, Copy)]
 pub(crate) struct Rows {
     pub from: usize,
@@ -17,29 +15,16 @@ impl Rows {
     /// No row.
     pub fn none() -> Rows
         ensures none { (y : ℕ) → span result.from result.to y ≡ false }
-        ensures within { result.to ≤ PAGE_ROWS }
+        ensures within { result.to ≡ 0 }
     {
         Rows { from: 0, to: 0 }
     }
 
-    /// All rows of the page.
-    pub fn all() -> Rows
-        ensures { result ≡ record { from = 0; to = PAGE_ROWS } }
+    /// The first rows, so many.
+    pub fn all(high: usize) -> Rows
+        ensures { result ≡ record { from = 0; to = high } }
     {
-        Rows {
-            from: 0,
-            to: PAGE_ROWS,
-        }
-    }
-
-    /// The rows of an area.
-    pub fn of(area: Area) -> Rows
-        ensures { result ≡ record { from = area.y; to = area.y + area.dy } }
-    {
-        Rows {
-            from: area.y as usize,
-            to: area.y as usize + area.dy as usize,
-        }
+        Rows { from: 0, to: high }
     }
 
     /// The rows among these that an area has.
@@ -59,17 +44,17 @@ impl Rows {
         self.to.saturating_sub(self.from) as u64
     }
 
-    /// These rows, those of `other` that the page has, and what stands between them.
-    pub fn with(self, other: Rows) -> Rows
-        requires { self.to ≤ PAGE_ROWS }
-        ensures within { result.to ≤ PAGE_ROWS }
+    /// These rows, those of `other` among the first `high`, and what stands between them.
+    pub fn with(self, other: Rows, high: usize) -> Rows
+        requires { self.to ≤ high }
+        ensures within { result.to ≤ high }
         ensures these { (y : ℕ) → span self.from self.to y ≡ true → span result.from result.to y ≡ true }
-        ensures others { (y : ℕ) → y < PAGE_ROWS → span other.from other.to y ≡ true →
+        ensures others { (y : ℕ) → y < high → span other.from other.to y ≡ true →
             span result.from result.to y ≡ true }
     {
         let other = Rows {
             from: other.from,
-            to: other.to.min(PAGE_ROWS),
+            to: other.to.min(high),
         };
         if self.from >= self.to {
             return other;

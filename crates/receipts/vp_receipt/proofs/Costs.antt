@@ -5,7 +5,7 @@ use Rattle.vp_dots.specs.Images.{Image}
 use Rattle.vp_esc.specs.declared.item.EscItem.{EscItem}
 use Rattle.vp_esc.specs.declared.item.EscItem.TheVariants.{PrintMode, Magnify, Initialize, Character, Column8, Column24, LineFeed, FeedDots, FeedLines, CutLeavingOnePoint, CutLeavingThreePoints, Cut, FeedAndCut, Symbol, QrPrint, Raster, StandardMode, VerticalPosition, MoveVerticalPosition, Area as SetArea, Direction as SetDirection, PrintPage, FormFeed, Cancel}
 use Rattle.vp_page.specs.declared.area.Area.{Area}
-use Rattle.vp_page.specs.declared.page.TheConstants.{PAGE_ROWS}
+use Rattle.vp_page.specs.declared.page.TheConstants.{PAGE_ROWS, PAPER_DOTS}
 use Rattle.vp_page.specs.Work.{rows_laid}
 use Rattle.vp_receipt_settings.specs.declared.text.TheConstants.{LINE_ROWS}
 use Rattle.vp_receipt_settings.specs.Setup.{Setup}
@@ -86,7 +86,7 @@ symbol_few setup before image = grind (arith, on_paper)
 line_few : (setup : Setup) (before : List EscItem) (b : Bool) → (if b then rows_laid (line_mark setup before) else 0) ≤ LINE_ROWS
 line_few setup before b = grind (arith, line_low)
 
-item_few : (setup : Setup) (before : List EscItem) (item : EscItem) → most_by setup before item ≤ LINE_ROWS + PAGE_ROWS
+item_few : (setup : Setup) (before : List EscItem) (item : EscItem) → most_by setup before item ≤ LINE_ROWS + PAGE_ROWS + PAPER_DOTS
 item_few setup before QrPrint = omega (arith, (symbol_few setup before (symbol_image setup before QrPrint)), line_few setup before (is_open (line setup before)))
 item_few setup before item = grind (arith, symbol_few, line_few, lit≤)
 

@@ -7,7 +7,8 @@ use Rattle.vp_page.specs.declared.area.Area.{Area}
 use Rattle.vp_page.specs.declared.area.Direction.{Direction}
 use Rattle.vp_page.specs.Areas.{line_length as length_on_page}
 use Rattle.vp_page.specs.Layers.{Layer, Laid, page_dot}
-use Rattle.vp_page.specs.Pages.{HasPage, Paged}
+use Rattle.vp_page.specs.Pages.{HasPage, IsShown, Paged}
+use Rattle.vp_page.proofs.Pages.{shown_dot}
 use Rattle.vp_receipt_settings.specs.declared.width.Width.{Width}
 use Rattle.vp_receipt_settings.specs.declared.settings.Settings.{Settings}
 use Rattle.vp_receipt_settings.specs.Setup.{Setup, across}
@@ -38,17 +39,17 @@ rows_up_to : (paper : Width) (f g : ℕ → ℕ → Bool) (y n : ℕ) → y + n 
 rows_up_to paper f g y zero l h = refl
 rows_up_to paper f g y (suc n) l h = ap (λ r. r ++ rows_text paper f (y + 1) n) (paper_row_same paper (λ x. f x y) (λ x. g x y) (λ x k. h x y k (omega arith))) ∙ ap (λ r. paper_row paper (λ x. g x y) ++ r) (rows_up_to paper f g (y + 1) n (omega arith) h)
 
-strip_shown : (paper : Width) (layers : List Layer) (canvas : Canvas) (rows : ℕ) → rows ≤ PAGE_ROWS → HasPage layers canvas.page → (rows ≡ 0 → ⊥)
+strip_shown : (paper : Width) (layers : List Layer) (canvas : Canvas) (rows : ℕ) → rows ≤ PAGE_ROWS → HasPage layers canvas.page → IsShown canvas.page → (rows ≡ 0 → ⊥)
     → whole (record { paper = paper; tall = rows; rows = rows; dots = PageDots }) canvas ≡ strip_text paper rows (page_dot layers)
-strip_shown paper layers canvas rows h has some =
+strip_shown paper layers canvas rows h has shown some =
     ap (λ k. header_of (across paper) rows ++ rows_text paper (page_dot_of canvas.page.rows) 0 k) (let z : rows - 0 ≡ rows = omega arith in z)
-    ∙ ap (λ r. header_of (across paper) rows ++ r) (rows_up_to paper (page_dot_of canvas.page.rows) (page_dot layers) 0 rows (omega arith) (grind (arith, lt-ltb, le-leb)))
+    ∙ ap (λ r. header_of (across paper) rows ++ r) (rows_up_to paper (page_dot_of canvas.page.rows) (page_dot layers) 0 rows (omega arith) (λ x y k l. grind (arith, lt-ltb, le-leb, shown_dot layers canvas.page x y has shown k l)))
     ∙ text_of_rows paper rows (page_dot layers) some
 
 -- the strip of the page
-pub page_strip : (paper : Width) (layers : List Layer) (canvas : Canvas) (rows : ℕ) → rows ≤ PAGE_ROWS → HasPage layers canvas.page
+pub page_strip : (paper : Width) (layers : List Layer) (canvas : Canvas) (rows : ℕ) → rows ≤ PAGE_ROWS → HasPage layers canvas.page → IsShown canvas.page
     → (if rows == 0 then [] else whole (record { paper = paper; tall = rows; rows = rows; dots = PageDots }) canvas) ≡ strip_text paper rows (page_dot layers)
-page_strip paper layers' canvas rows h has = grind (arith, eq-eqb, ne_eqb, strip_shown)
+page_strip paper layers' canvas rows h has shown = grind (arith, eq-eqb, ne_eqb, strip_shown)
 
 pub has_page : (m : PrinterMode) (layers : List Layer) (page : Paged) → HasPage layers page → HasPageIf m layers page
 has_page m layers' page h = grind arith

@@ -1,8 +1,8 @@
 -- The rows of a raster, from the bytes that are kept of each.
-use Rattle.std.proofs.Common.{◌≡◌, ℕ, ◌-◌, ◌*◌, ◌/◌, ◌%◌, ◌<◌, ◌&&◌, nat_le, nat_lt, Bool, true, ap, ◌∙◌, arith, List, ◌∷◌, length, take, subst}
+use Rattle.std.proofs.Common.{◌≡◌, ℕ, ◌-◌, ◌*◌, ◌/◌, ◌%◌, ◌<◌, ◌&&◌, ltb, nat_le, nat_lt, Bool, true, ap, ◌∙◌, arith, List, ◌∷◌, length, take, subst}
 use Rattle.std.proofs.Math.Nat.{div-le_self}
-use Rattle.std.proofs.lemmas.Bool.{lt-ltb, ltb-true, and_parts}
-use Rattle.std.proofs.lemmas.List.{get_or-take}
+use Rattle.std.proofs.lemmas.Bool.{lt-ltb, le-ltb, ltb-true, and_parts}
+use Rattle.std.proofs.lemmas.List.{get_or-take, length-take}
 use Rattle.vp_dots.specs.Dots.{dot, bit}
 use Rattle.vp_dots.specs.Images.{row_of}
 use Rattle.vp_dots.proofs.ImageRows.{dot-row_of}
@@ -14,7 +14,9 @@ use Rattle.vp_strips.specs.Rows.{clipped, raster_dot, rows_text}
 use Rattle.vp_strips.proofs.Strips.{rows_same}
 use Rattle.vp_esc.specs.declared.item.RasterScale.{RasterScale}
 use Rattle.vp_page.specs.Layers.{Layer, Laid}
+use Rattle.vp_page.specs.Lines.{line_dot}
 use Rattle.vp_page.specs.Pages.{HasPage, Paged}
+use Rattle.vp_page.proofs.Squares.{no_line}
 use Rattle.vp_receipt_settings.specs.declared.page_mode.PageSettings.{PageSettings}
 use Rattle.vp_receipt.specs.PageMarks.{mark_of, raster_mark}
 use Rattle.vp_receipt_settings.specs.Rasters.{times_across, times_down, raster_scale}
@@ -44,3 +46,7 @@ laid_row setup before s scale came kept layers page e scale_is kept_is laid =
     subst (λ (k : RasterScale). HasPage (Laid (mark_of (page_of setup before) (times_down k) (λ u w. nat_lt w (times_down k) && dot came (u / times_across k))) ∷ layers) page) scale_is
     (subst (λ (p : PageSettings). HasPage (Laid (mark_of p (times_down scale) (λ u w. nat_lt w (times_down scale) && dot came (u / times_across scale))) ∷ layers) page) (ap (λ (q : Settings). q.page) e)
     (laid (λ u w. nat_lt w (times_down scale) && dot came (u / times_across scale)) (grind (arith, dot_kept, div-le_self, lt-ltb)) (λ u w h. ltb-true w (times_down scale) (and_parts _ _ h).0)))
+
+-- the first lines
+pub shown_line : (lines : List (List ℕ)) (n i u : ℕ) → line_dot (take n lines) i u ≡ (ltb i n && line_dot lines i u)
+shown_line lines n i u = grind (arith, lt-ltb, get_or-take, le-ltb, no_line, length-take)

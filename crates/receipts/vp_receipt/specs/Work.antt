@@ -1,11 +1,12 @@
--- What an item costs a page, in rows of dots: those that it lays on it, and those that it makes white.
+-- What an item costs a page, in rows of dots: those that it lays on it, and the rows and columns that it
+-- makes white.
 use Rattle.std.specs.Prelude.{◌≡◌, ◌≤◌, ◌⊎◌, ℕ, ◌+◌, ◌*◌, Bool, true, ◌&&◌, if◌then◌else◌, List, [], ◌∷◌, ◌++◌, length, reverse, Option, Some, None}
 use Rattle.vp_esc.specs.declared.item.EscItem.{EscItem}
 use Rattle.vp_esc.specs.declared.item.EscItem.TheVariants.{RasterByte, PageMode}
 use Rattle.vp_esc.specs.Split.{items}
 use Rattle.vp_page.specs.Layers.{Mark}
-use Rattle.vp_page.specs.declared.page.TheConstants.{PAGE_ROWS}
-use Rattle.vp_page.specs.Work.{laid_rows, most_wiped, least_wiped, rows_laid, area_rows}
+use Rattle.vp_page.specs.declared.page.TheConstants.{PAGE_ROWS, PAPER_DOTS}
+use Rattle.vp_page.specs.Work.{laid_rows, most_wiped, least_wiped, rows_laid, area_rows, area_columns}
 use Rattle.vp_receipt_settings.specs.Setup.{Setup}
 use Rattle.vp_receipt_settings.specs.Pages.{area}
 use Rattle.vp_receipt_settings.specs.Line.{Placed, line, begins_page, height, is_open, mode}
@@ -15,11 +16,12 @@ use Rattle.vp_receipt_settings.specs.declared.text.TheConstants.{LINE_ROWS}
 use Rattle.vp_receipt.specs.PageMarks.{layers, line_mark, own_mark, wipes}
 
 -- since the last item that ended the line, or the ESC L that began the page: at most the rows of what was
--- laid, those of the page that ESC L makes white, or of the area of CAN
+-- laid, and the rows and columns of the page that ESC L makes white, or of the area of CAN
 abbrev pub most_work : Setup → List EscItem → ℕ
 most_work setup before = laid_rows (layers setup before) + most_wiped (layers setup before)
 
--- and at least the rows of what was laid, and those in which CAN found a black dot
+-- and at least the rows of what was laid, and one more for each black dot that CAN found on the diagonal of
+-- its area
 abbrev pub least_work : Setup → List EscItem → ℕ
 least_work setup before = laid_rows (layers setup before) + least_wiped (layers setup before)
 
@@ -28,12 +30,13 @@ mark_rows None = 0
 mark_rows (Some mark) = rows_laid mark
 
 -- what an item lays and wipes on a page at most: of the line that it ends, and of a row of a raster or a
--- symbol of its own, the rows that aren't past the depth, and for CAN the rows of the area
+-- symbol of its own, the rows that aren't past the depth, and for CAN the rows and columns of the area
 abbrev pub most_by : Setup → List EscItem → EscItem → ℕ
 most_by setup before item =
     (if ends_line setup before item && is_open (line setup before) then rows_laid (line_mark setup before)
     else 0)
-    + mark_rows (own_mark setup before item) + (if wipes item then area_rows (area setup before) else 0)
+    + mark_rows (own_mark setup before item)
+    + (if wipes item then area_rows (area setup before) + area_columns (area setup before) else 0)
 
 -- what was counted before an item
 abbrev pub counted_before : Setup → List EscItem → EscItem → ℕ
@@ -45,19 +48,21 @@ AddsAtMost =
     (setup : Setup) (before : List EscItem) (item : EscItem) → mode setup before ≡ Page →
     most_work setup (item ∷ before) ≤ counted_before setup before item + most_by setup before item
 
--- that is at most the rows of a line, and those of a page, which a symbol has or CAN makes white; for a byte
+-- that is at most the rows of a line, and the rows and columns of a page, which CAN makes white; for a byte
 -- of a raster it is two
 pub record CostsAtMost : Type 0 where
   pub item : (setup : Setup) (before : List EscItem) (item : EscItem)
-      → most_by setup before item ≤ LINE_ROWS + PAGE_ROWS
+      → most_by setup before item ≤ LINE_ROWS + PAGE_ROWS + PAPER_DOTS
   pub row : (setup : Setup) (before : List EscItem) (byte : ℕ) → most_by setup before (RasterByte byte) ≤ 2
   -- so is all that is counted where an item ended the line
   pub ended : (setup : Setup) (before : List EscItem) (item : EscItem) → mode setup before ≡ Page
-      → ends_line setup before item ≡ true → most_work setup (item ∷ before) ≤ LINE_ROWS + PAGE_ROWS
+      → ends_line setup before item ≡ true
+      → most_work setup (item ∷ before) ≤ LINE_ROWS + PAGE_ROWS + PAPER_DOTS
 
 -- the page that ESC L begins, which it makes white
 abbrev pub begun_by : Setup → List EscItem → EscItem → ℕ
-begun_by setup before PageMode = if begins_page (mode setup before) (line setup before) then PAGE_ROWS else 0
+begun_by setup before PageMode =
+    if begins_page (mode setup before) (line setup before) then PAGE_ROWS + PAPER_DOTS else 0
 begun_by setup before _ = 0
 
 -- what all items lay and wipe at most
@@ -77,13 +82,14 @@ ended_counts setup [] = 0
 ended_counts setup (item ∷ before) =
     ended_counts setup before + (if counts_anew setup before item then most_work setup before else 0)
 
--- so any bytes, whatever came before them, lay and wipe at most the rows of a line and of a page for each of
--- them; and all that was ever counted is no more than that, beside the page that is white from the start
+-- so any bytes, whatever came before them, lay and wipe at most the rows of a line and the rows and columns
+-- of a page for each of them; and all that was ever counted is no more than that, beside the page that is
+-- white from the start
 pub record BytesCostAtMost : Type 0 where
   pub bytes : (setup : Setup) (bytes more : List ℕ) → most_in_all setup (reverse (items (bytes ++ more)))
-      ≤ most_in_all setup (reverse (items bytes)) + (LINE_ROWS + PAGE_ROWS) * length more
+      ≤ most_in_all setup (reverse (items bytes)) + (LINE_ROWS + PAGE_ROWS + PAPER_DOTS) * length more
   pub counted : (setup : Setup) (before : List EscItem) → ended_counts setup before + most_work setup before
-      ≤ PAGE_ROWS + most_in_all setup before
+      ≤ PAGE_ROWS + PAPER_DOTS + most_in_all setup before
 
 -- of an item, in either mode: it puts at most one character or column into the line, no higher than the
 -- highest line, over all that stood in it or into one that it begins anew

@@ -15,7 +15,7 @@ ghost use Rattle.vp_receipt_settings.specs.Setup.{Setup};
 ghost use Rattle.vp_receipt_settings.specs.Line.{height, is_open, line, mode, Placed};
 ghost use Rattle.vp_receipt_settings.specs.Settings.{settings_of, IsFit};
 ghost use Rattle.vp_page.specs.Layers.{Layer, Laid};
-ghost use Rattle.vp_page.specs.Pages.{HasPage};
+ghost use Rattle.vp_page.specs.Pages.{HasPage, IsShown};
 ghost use Rattle.vp_receipt.specs.PageMarks.{HasRows, mark_of, layers_with, layers, printed_layers};
 ghost use Rattle.vp_strips.specs.LineDots.{HasDots, HasOpen, ink_placed};
 ghost use Rattle.vp_strips.specs.Rows.{line_text, image_text, white_text, cut_text};
@@ -263,7 +263,7 @@ fn page_job(s: &Settings) -> Job
     ensures turned { IsTurned result.place result.after }
     ensures text { (setup : Setup) (before : List EscItem) (canvas : TheCanvas) →
         s.now ≡ settings_of setup before → HasPage (printed_layers setup before) canvas.page →
-        job_text result canvas ≡ page_text setup before }
+        IsShown canvas.page → job_text result canvas ≡ page_text setup before }
     ensures shows { (canvas : TheCanvas) (high : ℕ) →
         IsShowing result canvas high (length (job_text result canvas)) }
 {
@@ -299,6 +299,7 @@ fn laid<A: Small>(s: &Settings, effect: Effect, canvas: &mut Canvas<A>) -> Optio
         }
         Effect::PrintsPage | Effect::EndsPage => {
             lay_open(s, canvas);
+            canvas.page.turn_in();
             Some(page_job(s))
         }
         Effect::Nothing

@@ -41,7 +41,7 @@ pub fn an_item_costs_at_most()
     ensures { CostsAtMost }
 {}
 
-/// A law: a byte gives at most one item, so that any bytes lay on pages and wipe there at most 1,856 rows for
+/// A law: a byte gives at most one item, so that any bytes lay on pages and wipe there at most 2,432 rows for
 /// each of them. All that was ever counted is no more, beside a page that is white from the start.
 pub fn bytes_cost_at_most()
     ensures { BytesCostAtMost }

@@ -16,7 +16,7 @@ ghost use Rattle.vp_receipt_settings.specs.Setup.{Setup};
 
 use vp_dots::{SIDE, Small};
 use vp_esc::item::RasterScale;
-use vp_page::{Direction, LINE_BYTES, Page};
+use vp_page::{LINE_BYTES, Page};
 use vp_receipt_settings::{PageSettings, Raster, Settings, times_across, times_down};
 use vp_strips::doubled;
 
@@ -169,10 +169,9 @@ fn lay_rows<A: Small>(
         HasPage (Laid (mark_of p (rows * times_down raster.now.scale)
         (rows_dot raster.now.scale raster.now.bytes rows bytes.now)) ∷ layers) page.new }
 {
-    let along = matches!(p.direction, Direction::LeftToRight | Direction::RightToLeft);
     let wide = usize::from(raster.bytes);
     match raster.scale {
-        RasterScale::Normal if along && wide <= LINE_BYTES => {
+        RasterScale::Normal if wide <= LINE_BYTES => {
             page.lay_rows(p.area, p.direction, p.vertical as u32, wide, rows, bytes)
         }
         _ => lay_many(p, raster, bytes, rows, page),

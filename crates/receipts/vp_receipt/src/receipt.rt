@@ -398,8 +398,9 @@ impl<A: Small> Receipt<A> {
         self.job.line_rows().unwrap_or(self.settings.height)
     }
 
-    /// How many rows of dots the last item that ended the line of a page laid on it and made white, with the
-    /// rows of a raster that came behind it; and before such an item, ESC L.
+    /// How many rows of dots the last item that ended the line of a page laid on it, with the rows of a
+    /// raster that came behind it, and how many rows and columns it made white; and before such an item,
+    /// ESC L.
     pub fn work(&self) -> u64
         ensures value { result ≡ min (self.now.page.laid + self.now.page.wiped) MOST }
         ensures at_most { (setup : Setup) (before : List EscItem) → Stands setup self.now before →

@@ -43,7 +43,7 @@ fn a_store_takes_its_bytes_and_nothing_after(rt: HostRuntime) -> Result<(), Fail
 
 #[test]
 fn a_page_takes_its_rows_and_nothing_after(rt: HostRuntime) -> Result<(), Fail> {
-    let heap = LocalHeap::new(rt.alloc(), 119_808)?;
+    let heap = LocalHeap::new(rt.alloc(), 239_616)?;
     let area = Area {
         x: 8,
         y: 0,
@@ -52,10 +52,11 @@ fn a_page_takes_its_rows_and_nothing_after(rt: HostRuntime) -> Result<(), Fail> 
     };
     {
         let mut page = Page::<&LocalHeap>::new(&heap)?;
-        assert_eq!(rt; page.memory(), 119_808);
+        assert_eq!(rt; page.memory(), 239_616);
         assert_eq!(rt; heap.free(), 0);
         page.lay_row(area, Direction::LeftToRight, 1, &[0xA0]);
         page.lay_row(area, Direction::TopToBottom, 0, &[0xFF]);
+        page.turn_in();
         assert_eq!(rt; page.row(1)[1], 0xA0);
         assert_eq!(rt; page.row(1)[2], 0x01);
         page.wipe(area);
@@ -64,7 +65,7 @@ fn a_page_takes_its_rows_and_nothing_after(rt: HostRuntime) -> Result<(), Fail> 
         page.clear();
         assert_eq!(rt; heap.free(), 0);
     }
-    assert_eq!(rt; heap.free(), 119_808);
+    assert_eq!(rt; heap.free(), 239_616);
     Ok(())
 }
 

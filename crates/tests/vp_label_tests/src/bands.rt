@@ -2,6 +2,8 @@
 ghost use Rattle.std.specs.Prelude.{◌≡◌, ℕ, ◌*◌, ◌≤◌, ◌<◌, List, IfOk, None};
 ghost use Rattle.std.specs.List.{All};
 ghost use Rattle.vp_field.specs.Fields.{IsKept};
+ghost use Rattle.vp_field.specs.Standing.{IsNear};
+ghost use Rattle.vp_format.specs.Formats.{held};
 ghost use Rattle.vp_bands.specs.Standing.{IsBefore};
 
 use crate::sheets::NONE;
@@ -30,7 +32,8 @@ fn label(height: u16, inverted: bool) -> View
 
 /// A box that is all ink, of `width` dots by `height` rows from row `top` on.
 fn boxed(top: u16, width: u16, height: u16, op: Op) -> Field
-    ensures { (stored : List ℕ) → IsKept stored result }
+    ensures kept { (stored : List ℕ) → IsKept stored result }
+    ensures near { IsNear result.left result.top }
 {
     Field {
         left: 0,
@@ -48,7 +51,8 @@ fn boxed(top: u16, width: u16, height: u16, op: Op) -> Field
 
 /// A format of such boxes.
 fn boxes(alloc: Global, all: &[(u16, u16, u16, Op)]) -> Result<Format, Fail>
-    ensures { IfOk result (λ format. All (IsKept format.stored) format.fields) }
+    ensures kept { IfOk result (λ format. All (IsKept format.stored) format.fields.items) }
+    ensures near { IfOk result (λ format. All (λ field. IsNear field.left field.top) format.fields.items) }
 {
     let mut format = Format::new(alloc)?;
     for one in all {
@@ -88,7 +92,7 @@ fn add(copied: &mut Copied, b: usize, height: u32, band: &LabelBand, from: usize
 /// The next copy of a label, with five rows from one on.
 fn copy(
     painter: &mut BandPainter,
-    format: &Format,
+    format: &mut Format,
     view: View,
     from: usize,
     band: &mut LabelBand,
@@ -96,8 +100,10 @@ fn copy(
     requires narrow { view.width ≤ 1248 }
     requires low { view.height ≤ 32 * BANDS }
     requires from { from ≤ 8000 }
-    requires before { IsBefore (record { a = None; b = None }) format.now view 0 painter.old }
-    ensures { IsBefore (record { a = None; b = None }) format.now view 0 painter.new }
+    requires before { IsBefore (record { a = None; b = None }) (held format.old.fields format.old.stored)
+        view 0 painter.old }
+    ensures before { IsBefore (record { a = None; b = None }) (held format.new.fields format.new.stored)
+        view 0 painter.new }
 {
     let mut copied = Copied {
         rows: [0; 5],
@@ -105,7 +111,8 @@ fn copy(
         looks: 0,
     };
     for b in 0..view.height.div_ceil(32) as usize {
-        painter.paint(b, &NONE, format, view, band);
+        let fields = &mut format.fields;
+        painter.paint(b, &NONE, fields, format.stored.bytes(), view, band);
         add(&mut copied, b, view.height, band, from);
     }
     copied.looks = painter.looks();
@@ -116,17 +123,18 @@ fn copy(
 /// The first and the second copy of a label of the fields of a format.
 fn both(
     painter: &mut BandPainter,
-    format: &Format,
+    format: &mut Format,
     view: View,
     from: usize,
     band: &mut LabelBand,
 ) -> [Copied; 2]
-    requires kept { All (IsKept format.now.stored) format.now.fields }
+    requires kept { All (IsKept format.old.stored) format.old.fields.items }
+    requires near { All (λ field. IsNear field.left field.top) format.old.fields.items }
     requires narrow { view.width ≤ 1248 }
     requires low { view.height ≤ 32 * BANDS }
     requires from { from ≤ 8000 }
 {
-    painter.thread(format, view);
+    painter.thread(&mut format.fields, view);
     let first = copy(painter, format, view, from, band);
     let second = copy(painter, format, view, from, band);
     [first, second]
@@ -143,10 +151,10 @@ fn copies(
     requires low { view.height ≤ 32 * BANDS }
     requires from { from ≤ 8000 }
 {
-    let format = boxes(alloc, all)?;
+    let mut format = boxes(alloc, all)?;
     let mut band = LabelBand::new(alloc)?;
     let mut painter = BandPainter::new(alloc)?;
-    Ok(both(&mut painter, &format, view, from, &mut band))
+    Ok(both(&mut painter, &mut format, view, from, &mut band))
 }
 
 /// Each copy shows the five rows `rows`, and `black` of all rows have a dot at the left edge.

@@ -56,12 +56,21 @@ fn closed(
     alloc: Global,
     stream: &[u8],
 ) -> Result<(usize, Option<Field>, Option<Fault>), AllocError> {
-    let (gathered, refused) = behind(alloc, stream)?;
+    let (mut gathered, refused) = behind(alloc, stream)?;
     let count = gathered.format.len();
     if count == 0 {
         return Ok((0, None, refused));
     }
-    Ok((count, Some(gathered.format.field(count - 1)), refused))
+    let field = gathered.format.fields.field(count - 1);
+    let last = Field {
+        left: field.left,
+        top: field.top,
+        rows: field.rows,
+        orientation: field.orientation,
+        op: field.op,
+        content: field.content,
+    };
+    Ok((count, Some(last), refused))
 }
 
 /// The last field that a stream closes, of which no item is refused.

@@ -4,7 +4,7 @@ use std::alloc::Global;
 use std::process::Abort;
 use std::test::Fail;
 use vp_dots::{Ink, Op, paint_dot};
-use vp_page::{AT_ONCE, Area, Direction, LINE_BYTES, PAGE_ROWS, Page};
+use vp_page::{Area, Direction, LINE_BYTES, PAGE_ROWS, Page};
 use vp_qr::{Level, Mode, QrInk, encode};
 
 /// A wedge: line y has ink at its first side - y places.
@@ -43,7 +43,8 @@ const BOX: Area = Area {
 };
 
 /// The first two bytes of the first eight rows.
-fn corner(page: &Page) -> [[u8; 2]; 8] {
+fn corner(page: &mut Page) -> [[u8; 2]; 8] {
+    page.turn_in();
     let mut rows = [[0; 2]; 8];
     for y in 0..8 {
         if let [first, second, ..] = page.row(y) {
@@ -64,7 +65,7 @@ fn lays(
 ) -> Result<(), Fail> {
     let mut page = Page::new(alloc)?;
     page.lay_row(area, direction, v, &[0xe0]);
-    same(rt, &corner(&page), wanted);
+    same(rt, &corner(&mut page), wanted);
     Ok(())
 }
 
@@ -131,7 +132,7 @@ fn images(rt: HostRuntime) -> Result<(), Fail> {
     wanted[0] = [0, 0x0e];
     wanted[1] = [0, 0x06];
     wanted[2] = [0, 0x02];
-    same(&rt, &corner(&page), &wanted);
+    same(&rt, &corner(&mut page), &wanted);
     Ok(())
 }
 
@@ -143,9 +144,10 @@ const FROM_THE_EIGHTH_ROW: Area = Area {
     dy: 60000,
 };
 
-/// Five dots of a row are wiped, and then all.
+/// Five dots of a row are wiped, some of which were laid down the page, and then all.
 fn wipes(rt: &impl Abort, page: &mut Page) {
-    page.lay_row(BOX, Direction::LeftToRight, 7, &[0xff, 0xff]);
+    page.lay_row(BOX, Direction::LeftToRight, 7, &[0xff, 0x7f]);
+    page.lay_row(BOX, Direction::TopToBottom, 7, &[0x01]);
     page.wipe(FROM_THE_EIGHTH_ROW);
     let mut wanted = [[0; 2]; 8];
     wanted[7] = [0xf0, 0x7f];
@@ -192,9 +194,12 @@ static DIRECTIONS: [Direction; 4] = [
 
 static DEPTHS: [u32; 5] = [0, 5, 32, 33, 52];
 
-/// As many rows as are laid at once: they have dots all over, and end black, or each third one white.
-fn many_rows() -> [[u8; LINE_BYTES]; AT_ONCE] {
-    let mut rows = [[0; LINE_BYTES]; AT_ONCE];
+/// As many rows as the highest line of text has.
+const MANY: usize = 192;
+
+/// So many rows: they have dots all over, and end black, or each third one white.
+fn many_rows() -> [[u8; LINE_BYTES]; MANY] {
+    let mut rows = [[0; LINE_BYTES]; MANY];
     for i in 0..192u8 {
         for j in 0..40u8 {
             rows[usize::from(i)][usize::from(j)] = (j ^ (i << 5)) & 0xb7;
@@ -207,10 +212,10 @@ fn many_rows() -> [[u8; LINE_BYTES]; AT_ONCE] {
 }
 
 /// Rows of which each of 24 stands eight times, as those of a large character do.
-fn large_rows() -> [[u8; LINE_BYTES]; AT_ONCE] {
+fn large_rows() -> [[u8; LINE_BYTES]; MANY] {
     let few = many_rows();
-    let mut rows = [[0; LINE_BYTES]; AT_ONCE];
-    for i in 0..AT_ONCE {
+    let mut rows = [[0; LINE_BYTES]; MANY];
+    for i in 0..MANY {
         rows[i] = few[i / 8];
     }
     rows
@@ -283,7 +288,8 @@ fn painted(
 }
 
 /// How many rows of a page are others than those of 72 bytes each.
-fn differences(page: &Page, rows: &[u8]) -> u32 {
+fn differences(page: &mut Page, rows: &[u8]) -> u32 {
+    page.turn_in();
     let mut count = 0u32;
     for y in 0..PAGE_ROWS {
         let from = y.wrapping_mul(72);
@@ -312,15 +318,15 @@ fn lays_lines(
     v: u32,
     lines: &[[u8; LINE_BYTES]],
 ) -> Result<(), Fail> {
-    let lines = &lines[..lines.len().min(AT_ONCE)];
+    let lines = &lines[..lines.len().min(MANY)];
     let want = painted(alloc, area, direction, v, lines)?;
     let mut at_once = Page::new(alloc)?;
     at_once.lay_lines(area, direction, v, lines, &[]);
     let mut one_by_one = Page::new(alloc)?;
     lay_each(&mut one_by_one, area, direction, v, lines);
     let found = [
-        differences(&at_once, &want),
-        differences(&one_by_one, &want),
+        differences(&mut at_once, &want),
+        differences(&mut one_by_one, &want),
     ];
     same(rt, &found, &[0, 0]);
     Ok(())
@@ -365,18 +371,18 @@ fn more_lines_than_two_squares(rt: HostRuntime) -> Result<(), Fail> {
 }
 
 #[test]
-fn as_many_lines_as_go(rt: HostRuntime) -> Result<(), Fail> {
-    lays_everywhere(&rt, rt.alloc(), &many_rows(), AT_ONCE)
+fn as_many_lines_as_text_has(rt: HostRuntime) -> Result<(), Fail> {
+    lays_everywhere(&rt, rt.alloc(), &many_rows(), MANY)
 }
 
 #[test]
 fn lines_that_are_the_same_in_runs(rt: HostRuntime) -> Result<(), Fail> {
-    lays_everywhere(&rt, rt.alloc(), &large_rows(), AT_ONCE)
+    lays_everywhere(&rt, rt.alloc(), &large_rows(), MANY)
 }
 
 #[test]
 fn some_of_them(rt: HostRuntime) -> Result<(), Fail> {
-    lays_everywhere(&rt, rt.alloc(), &large_rows()[3..149], AT_ONCE)
+    lays_everywhere(&rt, rt.alloc(), &large_rows()[3..149], MANY)
 }
 
 /// A line of so many bytes is laid as dot by dot, from column `x` on.
@@ -399,7 +405,7 @@ fn lays_a_line(
     paint_line(area, direction, 2, line, &mut want);
     let mut page = Page::new(alloc)?;
     page.lay_row(area, direction, 2, line);
-    same(rt, &differences(&page, &want), &0);
+    same(rt, &differences(&mut page, &want), &0);
     Ok(())
 }
 
@@ -416,8 +422,8 @@ fn lines_of_whole_words(rt: HostRuntime) -> Result<(), Fail> {
 }
 
 /// The lines of a symbol, dot by dot.
-fn lines_of(ink: &QrInk) -> [[u8; LINE_BYTES]; AT_ONCE] {
-    let mut lines = [[0; LINE_BYTES]; AT_ONCE];
+fn lines_of(ink: &QrInk) -> [[u8; LINE_BYTES]; MANY] {
+    let mut lines = [[0; LINE_BYTES]; MANY];
     for y in 0..192u32 {
         for x in 0..192u32 {
             if ink.ink(x, y) {
@@ -440,7 +446,7 @@ fn lays_a_symbol(rt: &impl Abort, alloc: Global, direction: Direction) -> Result
             let want = painted(alloc, *area, direction, *v, &lines)?;
             let mut page = Page::new(alloc)?;
             page.lay(&ink, *area, direction, *v);
-            same(rt, &differences(&page, &want), &0);
+            same(rt, &differences(&mut page, &want), &0);
         }
     }
     Ok(())

@@ -21,12 +21,12 @@ static LINES: &[Work] = &[
     (b"\x1BL\x1BW\0\0\0\0\x10\0\x10\0M\n", 16),
 ];
 
-/// CAN behind an open line, behind a laid one, and where all is white; and across all rows of an area.
+/// CAN behind an open line, behind a laid one, and where all is white; and behind a line that runs up.
 static WIPES: &[Work] = &[
     (b"\x1BLM\x18", 48),
     (b"\x1BLM\n\x18", 24),
     (b"\x1BLM\n\x18\x18", 0),
-    (b"\x1BL\x1BW\0\0\0\0\x20\0\x10\0\x1BT\x01M\x18", 40),
+    (b"\x1BL\x1BW\0\0\0\0\x20\0\x10\0\x1BT\x01M\x18", 48),
 ];
 
 /// Rows of a raster, laid twice, or behind the line that it ends; bars 162 rows high behind one.

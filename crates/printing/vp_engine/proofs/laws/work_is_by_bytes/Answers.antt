@@ -2,7 +2,7 @@ use Rattle.std.proofs.Common.{◌≡◌, ◌≤◌, ℕ, ◌+◌, ◌*◌, List,
 use Rattle.std.proofs.lemmas.List.{length_push}
 use Rattle.vp_esc.specs.declared.item.EscItem.{EscItem}
 use Rattle.vp_esc.specs.Split.{items}
-use Rattle.vp_page.specs.declared.page.TheConstants.{PAGE_ROWS}
+use Rattle.vp_page.specs.declared.page.TheConstants.{PAGE_ROWS, PAPER_DOTS}
 use Rattle.vp_receipt_settings.specs.declared.text.TheConstants.{LINE_ROWS}
 use Rattle.vp_receipt_settings.specs.Setup.{Setup as ReceiptSetup}
 use Rattle.vp_receipt.specs.Work.{BytesCostAtMost, most_in_all, most_work}
@@ -23,7 +23,7 @@ module _ {Item : Type 0} (rules : Rules Item) where
 
 -- from the first byte on
 from_first : (law : BytesCostAtMost) (setup : ReceiptSetup) (bytes : List ℕ) (n : ℕ) → items [] ≡ [] → length bytes ≤ n
-    → most_work setup (reverse (items bytes)) ≤ PAGE_ROWS + (LINE_ROWS + PAGE_ROWS) * n
+    → most_work setup (reverse (items bytes)) ≤ PAGE_ROWS + PAPER_DOTS + (LINE_ROWS + PAGE_ROWS + PAPER_DOTS) * n
 from_first law setup bytes n none few =
     let start : most_in_all setup (reverse (items [])) ≡ 0 = ap (λ (xs : List EscItem). most_in_all setup (reverse xs)) none in
     let all = law.bytes setup [] bytes in let told = law.counted setup (reverse (items bytes)) in

@@ -1,20 +1,19 @@
-use Rattle.std.proofs.Common.{◌≡◌, ◌+◌, ◌&&◌, ◌∙◌, [], length, get_or, ap, sym, arith, leb}
+use Rattle.std.proofs.Common.{◌≡◌, ◌+◌, ◌&&◌, sym, arith, leb}
 use Rattle.vp_dots.specs.Dots.{dot}
 use Rattle.vp_dots.specs.declared.Op.TheVariants.{Black}
 use Rattle.vp_dots.proofs.Paints.{painted_same}
 use Rattle.vp_dots.proofs.Placing.{rows_more}
-use Rattle.vp_page.proofs.PageRows.{as_many, below_top}
+use Rattle.vp_page.proofs.PageRows.{as_many, row_below}
 use Rattle.vp_page.proofs.Rows.{rows_same}
 use Rattle.vp_page.proofs.along.lay_times.Goals as goal
 
 pub loop-i-preserved : goal.loop-i-preserved
-loop-i-preserved g c = λ ink same.
+loop-i-preserved g c =
     let y = c.args.top + c.loop-i.i in
-    let long : length (get_or c.loop-i.band y []) ≡ 72 = ap length (sym c.row_mut.ensures.value) ∙ c.row_mut.ensures.len in
     let next : c.args.top + (c.loop-i.i + 1) ≡ y + 1 = omega arith in
-    rw next (rows_more _ _ (λ x k. leb c.args.top k && ink x) y _ _ _ (omega (arith, c.row_mut.ensures.rows, c.shown-i-end.ensures)) (omega (arith, c.shown-i-end.ensures)) (c.loop-i.invariant ink same)
-    (painted_same Black _ _ _ _ (λ d l. below_top c.args.top y (dot c.args.row.now d) (ink d) (omega arith) (same d (omega (arith, l, long))))
+    rw next (rows_more _ _ (λ x k. leb c.args.top k && dot c.args.row.now x) y _ _ _ (omega (arith, c.row_mut.ensures.rows, c.min-i-end.ensures, c.saturating_sub.ensures)) (omega (arith, c.min-i-end.ensures, c.saturating_sub.ensures)) c.loop-i.invariant
+    (painted_same Black _ _ _ _ (λ d l. row_below c.args.top c.loop-i.i (dot c.args.row.now d))
     (rw (sym c.row_mut.ensures.value) c.or_row.ensures)))
 
 pub returns : goal.returns
-returns g c = λ ink same. rows_same Black _ _ _ _ (λ x k h. as_many c.args.top c.loop-i.i c.args.times k (ink x) h (omega (arith, c.shown-i-end.ensures))) (c.loop-i.invariant ink same)
+returns g c = rows_same g.row.H Black _ _ _ _ (λ x k h _. as_many g.row.H c.args.top c.loop-i.i c.args.times k (dot c.args.row.now x) h (omega (arith, c.min-i-end.ensures, c.saturating_sub.ensures))) c.loop-i.invariant

@@ -6,4 +6,4 @@ use Rattle.vp_page.proofs.along.row_left.Given as goal
 
 -- the words before this one are made
 abbrev pub invariant-loop-i : goal.invariant-loop-i
-invariant-loop-i l = Painted Black (λ d. ltb d (64 * (l.first + l.i)) && (leb (64 * l.first) d && (ltb d l.end && dot l.line (l.end - 1 - d)))) (replicate 72 0) l.row
+invariant-loop-i g l = Painted Black (λ d. ltb d (64 * (l.first + l.i)) && (leb (64 * l.first) d && (ltb d l.end && dot l.line (l.end - 1 - d)))) (replicate g.row.B 0) l.row

@@ -6,4 +6,4 @@ use Rattle.vp_page.proofs.along.row_right.Given as goal
 
 -- the words before this one are made
 abbrev pub invariant-loop-i : goal.invariant-loop-i
-invariant-loop-i l = Painted Black (λ d. ltb d (64 * (l.first + l.i)) && (leb (64 * l.first) d && (leb l.begin d && dot l.line (d - l.begin)))) (replicate 72 0) l.row
+invariant-loop-i g l = Painted Black (λ d. ltb d (64 * (l.first + l.i)) && (leb (64 * l.first) d && (leb l.begin d && dot l.line (d - l.begin)))) (replicate g.row.B 0) l.row

@@ -22,7 +22,7 @@ returns-clause-laid g c = λ dots layers rows page.
     let short = length_small s.page.area s.page.direction c.requires.page.across c.requires.page.down in
     let first : s.page.vertical + 0 ≡ s.page.vertical = omega arith in
     rows_make_an_image.all mark (0 + s.height) layers _ (λ u w e k. let h = rows.high u w e in omega (arith, h)) (omega arith)
-    (lines_more mark 0 s.height lines layers c.lay.new.page (omega (arith, high)) long
+    (lines_more mark 0 s.height lines layers c.lay.new.page long
     (λ u w h l.
     let shown : u < LINE_DOTS = omega (arith, h, short) in
     let place : 0 + w ≡ w = omega arith in

@@ -1,6 +1,6 @@
 use Rattle.std.proofs.Common.{◌≡◌, ◌+◌, ◌*◌, ◌<◌, [], ◌∷◌, min, take, ap, ◌∙◌, subst, refl, length, arith, rules}
 use Rattle.std.proofs.lemmas.List.{length-take}
-use Rattle.vp_page.proofs.Marks.{shown_line}
+use Rattle.vp_receipt.proofs.RasterRows.{shown_line}
 use Rattle.std.proofs.lemmas.Bool.{lt-ltb, and_parts, ltb-true}
 use Rattle.vp_page.specs.Layers.{Laid, first_rows}
 use Rattle.vp_page.specs.Pages.{HasPage}
@@ -30,7 +30,7 @@ loop-k-preserved g c = λ layers page.
     let here : min (SIDE * k) high ≡ SIDE * k = omega (arith, all) in
     let next : SIDE * k + n ≡ min (SIDE * (k + 1)) high = omega (arith, all) in
     subst (λ n. HasPage (Laid (first_rows n m) ∷ layers) c.lay_lines.new.self) next
-    (lines_more m (SIDE * k) n (take n lines) layers c.lay_lines.new.self (omega arith) long
+    (lines_more m (SIDE * k) n (take n lines) layers c.lay_lines.new.self long
     (λ u w h l. let shown : u < LINE_DOTS = omega (arith, h, short) in shown_line lines n w u ∙ rw (lt-ltb w n l, lt-ltb u LINE_DOTS shown) (c.write_lines-few.ensures.dots w u l shown
     ∙ ap (λ x. rows_dot r.scale x c.args.rows bytes u (SIDE * k + w)) c.from-wide.ensures))
     (rw (none_told [] (take n lines) refl) at (c.lay_lines.ensures _ (subst (λ n. HasPage (Laid (first_rows n m) ∷ layers) c.loop-k.page) here (c.loop-k.invariant layers page)))))

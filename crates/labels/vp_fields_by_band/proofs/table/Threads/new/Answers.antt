@@ -1,4 +1,4 @@
-use Rattle.std.proofs.Common.{ℕ, arith, length, ap, sym, ◌∙◌, Option, None}
+use Rattle.std.proofs.Common.{ℕ, arith, refl, length, ap, sym, ◌∙◌, Option, None}
 use Rattle.std.proofs.lemmas.List.{length-replicate}
 use Rattle.vp_format.specs.declared.format.TheConstants.{FIELDS}
 use Rattle.vp_fields_by_band.proofs.table.Threads.new.Goals as goal
@@ -9,6 +9,8 @@ invariant_of-result g c = record {
   links = ap length c.in_ok-filled-2.ensures.items ∙ length-replicate {A = Option ℕ} FIELDS None;
   room = c.in_ok-with_capacity.ensures.exact;
   links_room = c.in_ok-filled-2.ensures.room;
+  before = omega (arith, c.new.ensures.0, c.new.ensures.1);
+  told = rw (c.new.ensures.0, c.new.ensures.1) refl;
   heads_room = c.in_ok-filled.ensures.room ∙ sym (ap length c.in_ok-filled.ensures.items ∙ length-replicate c.args.bands None);
 }
 

@@ -8,6 +8,7 @@ use Rattle.vp_label_settings.specs.Settings.{settings_of, quantity}
 use Rattle.vp_label.specs.Entries.{printed_entries}
 use Rattle.vp_copies.specs.Copies.{copies_text}
 use Rattle.vp_label.specs.Effects.{effect_of}
+use Rattle.vp_label.specs.Gathered.{held_of}
 use Rattle.vp_label.specs.Prints.{label_image, view_of}
 use Rattle.vp_label.specs.declared.gathered.Effect.TheVariants.{Sets, Begins, Closes, Prints}
 use Rattle.vp_label.proofs.Effects.{holds_still, begins_shut, closes, ends, idle, printed_copies, same_text}
@@ -21,7 +22,7 @@ returns-in-Sets-clause-stands g c = λ before name sent g.
     let e : effect_of (is_open before) c.args.command ≡ Sets = ap (λ o. effect_of o c.args.command) (sym g.in_force.is_open) ∙ sym c.of.ensures ∙ c.in-Sets.is in
     record {
       in_force = c.in_ok-in_force.ensures.stands before name sent g.in_force (λ so. let h = g.held so in ap length (c.stored.ensures.bytes ∙ h.stored));
-      held = λ so. holds_still c.args.sheets.now before c.args.self.now.format c.args.command name sent e g.held so;
+      held = λ so. holds_still c.args.sheets.now before (held_of c.args.self.now) c.args.command name sent e g.held so;
     }
 
 pub returns-in-Begins-clause-stands : goal.returns-in-Begins-clause-stands
@@ -58,13 +59,13 @@ returns-in_ok-close-in-Prints-clause-prints g c = λ before name sent g.
     let so = (ends (is_open before) c.args.command e).0 in
     let end = (ends (is_open before) c.args.command e).1 in
     let held = g.held so in
-    let image_now = label_image sheets (view_of c.in_ok-in_force.in_force.settings) format.stored format.fields in
+    let image_now = label_image sheets (view_of c.in_ok-in_force.in_force.settings) format.stored format.fields.items in
     let after = c.in_ok-in_force.ensures.stands before name sent g.in_force (λ so. let h = g.held so in ap length (c.stored.ensures.bytes ∙ h.stored)) in
     let view : view_of c.in_ok-in_force.in_force.settings ≡ view_of (settings_of before) = ap view_of after.settings ∙ rw (so, end) refl in
     let quantity_is : c.close-in-Prints.new.self.in_force.settings.quantity ≡ quantity before =
     ap (λ (s : InForce). s.settings.quantity) c.close-in-Prints.ensures.in_force ∙ ap (λ (s : Settings). s.quantity) g.in_force.settings in
-    rw (so, end) (ap (copies_text image_now) c.copies-copies.ensures ∙ printed_copies image_now format.fields c.close-in-Prints.new.self.in_force.settings.quantity
-    ∙ same_text sheets (view_of c.in_ok-in_force.in_force.settings) (view_of (settings_of before)) format.stored (stored before) format.fields (printed_entries sheets before) c.close-in-Prints.new.self.in_force.settings.quantity (quantity before)
+    rw (so, end) (ap (copies_text image_now) c.copies-copies.ensures ∙ printed_copies image_now format.fields.items c.close-in-Prints.new.self.in_force.settings.quantity
+    ∙ same_text sheets (view_of c.in_ok-in_force.in_force.settings) (view_of (settings_of before)) format.stored (stored before) format.fields.items (printed_entries sheets before) c.close-in-Prints.new.self.in_force.settings.quantity (quantity before)
     view (c.close-in-Prints.ensures.stored ∙ held.stored) (c.in_ok-close-in-Prints.ensures.fields before g so) quantity_is)
 
 pub returns-in-Sets-clause-some : goal.returns-in-Sets-clause-some

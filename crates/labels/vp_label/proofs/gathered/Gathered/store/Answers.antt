@@ -1,6 +1,6 @@
 use Rattle.std.proofs.Common.{◌≡◌, ◌∙◌, get_or, arith, refl, sym, ap, subst, length, true, ◌++◌, length-append}
 use Rattle.std.proofs.lemmas.Bool.{cases_lt}
-use Rattle.vp_format.specs.Formats.{Held}
+use Rattle.vp_format.specs.declared.format.Format.{Format}
 use Rattle.vp_label_settings.specs.Formats.{followed_by, is_open}
 use Rattle.vp_zpl.specs.Items.{data_items}
 use Rattle.vp_label.specs.Gathered.{AreKept}
@@ -26,14 +26,14 @@ returns-in-Ok-clause-stands g c = λ sheets before g.
     let so : is_open before ≡ true = sym g.in_force.is_open ∙ c.if-not-self.false in
     let h = g.held so in
     let fits = c.in-Ok.ensures.room.0 refl in
-    let fields = ap (λ (x : Held). x.fields) c.in-Ok.ensures.ok in
-    let stored_is = ap (λ (x : Held). x.stored) c.in-Ok.ensures.ok in
+    let fields = ap (λ (x : Format _). x.fields.items) c.in-Ok.ensures.ok in
+    let stored_is = ap (λ (x : Format _). x.stored) c.in-Ok.ensures.ok in
     record {
       in_force = c.data_set_nothing.ensures c.args.self.now.in_force before bytes g.in_force;
       held = λ still. record {
         fields = fields ∙ h.fields ∙ sym (entries-kept sheets before bytes);
         stored = stored_is ∙ ap (λ xs. xs ++ bytes) h.stored ∙ sym (all-stored before bytes so);
-        kept = subst (λ (x : Held). AreKept x.stored x.fields) (sym c.in-Ok.ensures.ok) (λ k d l. c.stored_behind.ensures.kept old.stored bytes (get_or old.fields k d) (h.kept k d l));
+        kept = subst (λ (x : Format _). AreKept x.stored x.fields.items) (sym c.in-Ok.ensures.ok) (λ k d l. c.stored_behind.ensures.kept old.stored bytes (get_or old.fields.items k d) (h.kept k d l));
         few = omega (arith, ap length stored_is, length-append old.stored bytes);
       };
     }

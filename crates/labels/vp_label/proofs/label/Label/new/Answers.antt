@@ -1,4 +1,5 @@
 use Rattle.std.proofs.Common.{arith, refl, []}
+use Rattle.vp_label.specs.Gathered.{held_of}
 use Rattle.vp_label.specs.Press.{press_image}
 use Rattle.vp_label.specs.Prints.{view_of}
 use Rattle.vp_label.proofs.Idle.{nothing_left}
@@ -18,7 +19,7 @@ returns-clause-stands g c =
     record {
       sheets_are = refl;
       gathered = c.in_ok-new.ensures c.args.sheets;
-      printing = λ some. none_printing c.args.sheets c.in_ok-new.field-0 [] _ (nothing_left (press_image c.args.sheets g.format (view_of g.in_force.settings) p) p.copies.place c.in_ok-new-2.ensures.none) some;
+      printing = λ some. none_printing c.args.sheets c.in_ok-new.field-0 [] _ (nothing_left (press_image c.args.sheets (held_of g) (view_of g.in_force.settings) p) p.copies.place c.in_ok-new-2.ensures.none) some;
       at_most = omega (arith, c.in_ok-new-2.ensures.work);
       at_least = λ none. omega arith;
     }

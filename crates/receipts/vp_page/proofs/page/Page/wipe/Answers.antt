@@ -1,12 +1,10 @@
-use Rattle.std.proofs.Common.{ap, refl, sym, subst, ◌∙◌, arith, [], get_or}
-use Rattle.vp_dots.specs.Dots.{dot}
-use Rattle.vp_page.specs.Pages.{HasPage, Paged}
+use Rattle.std.proofs.Common.{refl, sym, subst, arith}
+use Rattle.vp_page.specs.Pages.{HasPage}
 use Rattle.vp_page.proofs.Pages.{wiped}
 use Rattle.vp_page.proofs.page.Page.wipe.Goals as goal
 
 pub returns : goal.returns
 returns g c = λ layers page.
-    let rows = c.unknown_in-rows.result in
-    wiped layers c.args.area rows.from rows.to _ _ (subst (HasPage layers) (sym c.self.view_is) page)
-    (λ x y k h t f. ap (λ (p : Paged). dot (get_or p.rows y []) x) c.self.view_is ∙ c.unknown_in-rows.ensures.white x y k h t f)
-    c.whiten.ensures c.unknown_in-rows.ensures.within (omega (arith, c.saturating_add-self-inside.ensures, rw c.inside.ensures at c.count.ensures)) refl
+    wiped layers c.args.area c.wipe.result c.wipe-2.result _ _ (subst (HasPage layers) (sym c.self.view_is) page) c.wipe.ensures.black (rw c.turned.ensures at c.wipe-2.ensures.black)
+    c.wipe.ensures.white (rw c.turned.ensures at c.wipe-2.ensures.white) c.wipe.ensures.most (rw c.turned.ensures at c.wipe-2.ensures.most)
+    (omega (arith, c.saturating_add-self-inside.ensures, c.count-rows.ensures, c.count-columns.ensures)) refl

@@ -1,5 +1,0 @@
-use Rattle.vp_page.proofs.Alike.{kept_bytes}
-use Rattle.vp_page.proofs.line.keep_sixteen.Goals as goal
-
-pub returns : goal.returns
-returns c = kept_bytes c.args.kept.now c.args.row.now c.args.i 16 c.requires.kept c.requires.row

@@ -1,6 +1,0 @@
-use Rattle.std.proofs.Common.{◌+◌}
-use Rattle.vp_page.proofs.Alike.{kept_row}
-use Rattle.vp_page.proofs.line.kept_by.Goals as goal
-
-pub returns : goal.returns
-returns c = λ x h. kept_row c.args.area.x (c.args.area.x + c.args.area.dx) x _ c.fill_dots.ensures h
