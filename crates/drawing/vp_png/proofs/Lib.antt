@@ -1,0 +1,3 @@
+pub mod LowBits
+pub mod Tables
+pub mod CodeTables
