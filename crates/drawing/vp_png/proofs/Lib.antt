@@ -1,3 +1,6 @@
 pub mod LowBits
 pub mod Tables
 pub mod CodeTables
+pub mod Crcs
+pub mod Files
+pub mod AdlerSums

@@ -48,7 +48,7 @@ IsUnder above line = 0 < length above → length above ≡ length line
 -- bytes of the line from one on are those that stand so far back, in it or above
 pub record IsCopy (above line : List ℕ) (at : ℕ) (copy : Copy) : Type 0 where
   pub within : at + copy.long ≤ length line
-  pub back : 1 ≤ copy.distance
+  pub back : 0 < copy.long → 1 ≤ copy.distance
   pub reach : 0 < copy.long → copy.distance ≤ length above + at
   pub same : (k : ℕ) → k < copy.long →
       slice_index line (at + k) ≡ slice_index (above ++ line) (length above + at + k - copy.distance)
