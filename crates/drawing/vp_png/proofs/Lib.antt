@@ -4,3 +4,5 @@ pub mod CodeTables
 pub mod Crcs
 pub mod Files
 pub mod AdlerSums
+pub mod Packing
+pub mod LineCopies

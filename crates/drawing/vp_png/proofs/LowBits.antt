@@ -99,3 +99,11 @@ long_in s = omega (arith, length-append (bits_of s.bytes.items) (low_bits s.coun
 pub long_more : (s t : Bits) (more : List ℕ) → bits_in t ≡ bits_in s ++ more →
     8 * length t.bytes.items + t.count ≡ 8 * length s.bytes.items + s.count + length more
 long_more s t more e = omega (arith, ap length e, length-append (bits_in s) more, long_in s, long_in t)
+
+-- four bytes, one behind another
+pub four_more : (start : List ℕ) (a b c d : ℕ) (s t u v : List ℕ) → s ≡ start ++ low_bits 8 a → t ≡ s ++ low_bits 8 b → u ≡ t ++ low_bits 8 c → v ≡ u ++ low_bits 8 d →
+    v ≡ start ++ bits_of (a ∷ b ∷ c ∷ d ∷ [])
+four_more start a b c d s t u v p q r e = rw (e, r, q, p) (simp (append_assoc, append-nil))
+
+pub four_same : (a b c d w x y z : ℕ) → a ≡ w → b ≡ x → c ≡ y → d ≡ z → a ∷ b ∷ c ∷ d ∷ [] ≡ w ∷ x ∷ y ∷ z ∷ []
+four_same a b c d w x y z p q r e = cc
