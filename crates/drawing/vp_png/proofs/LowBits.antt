@@ -107,3 +107,6 @@ four_more start a b c d s t u v p q r e = rw (e, r, q, p) (simp (append_assoc, a
 
 pub four_same : (a b c d w x y z : ℕ) → a ≡ w → b ≡ x → c ≡ y → d ≡ z → a ∷ b ∷ c ∷ d ∷ [] ≡ w ∷ x ∷ y ∷ z ∷ []
 four_same a b c d w x y z p q r e = cc
+
+pub whole_bytes : (s : Bits) → s.count ≡ 0 → bits_in s ≡ bits_of s.bytes.items
+whole_bytes s e = ap (λ (n : ℕ). bits_of s.bytes.items ++ low_bits n s.held) e ∙ ap (λ (l : List ℕ). bits_of s.bytes.items ++ l) (no_bits s.held) ∙ append-nil (bits_of s.bytes.items)

@@ -147,3 +147,32 @@ copied_is (suc n) d done (x ∷ xs) some back h same =
         let j : length done + suc k - d ≡ length (done ++ x ∷ []) + k - d = omega arith in
         same (suc k) (omega arith) ∙ ap (λ (m : ℕ). get_or (done ++ x ∷ xs) m 0) j ∙ ap (λ (l : List ℕ). get_or l (length (done ++ x ∷ []) + k - d) 0) (sym joined))
     ∙ append_assoc done (x ∷ []) (take n xs)
+
+pub start_bits : (s t u v : List ℕ) → s ≡ [] → t ≡ s ++ low_bits 8 0x78 → u ≡ t ++ low_bits 8 0x01 → v ≡ u ++ low_bits 3 3 → v ≡ bits_of zlib_head ++ block_start
+unfolding low_bits
+start_bits s t u v p q r e = rw (e, r, q, p) refl
+
+around : (a b c d e : List ℕ) → a ++ (b ++ c ++ d ++ e) ≡ a ++ b ++ c ++ d ++ e
+around a b c d e = simp append_assoc
+
+inside : (a b c d e f : List ℕ) → a ++ b ++ c ++ d ++ e ++ f ≡ a ++ (b ++ c ++ d) ++ e ++ f
+inside a b c d e f = simp append_assoc
+
+-- behind the last token
+pub ended : (gone t u v w bytes : List ℕ) (pad check stride : ℕ) (packed : List ℕ) → Packs (bits_of gone ++ t) stride 0 packed → pad < 8 → check ≡ adler packed
+    → u ≡ t ++ symbol_bits 256 → v ≡ u ++ replicate pad 0 → w ≡ v ++ bits_of (four_bytes check) → w ≡ bits_of bytes
+    → IsZlib (gone ++ bytes) packed
+unfolding copied
+ended gone t u v w bytes pad check stride packed h few sums p q r e = record {
+  tokens = h.tokens;
+  valid = h.valid;
+  unpacks = h.unpacks;
+  pad = pad;
+  pad_few = few;
+  bits =
+      flat_map-append (low_bits 8) gone bytes ∙ ap (λ (l : List ℕ). bits_of gone ++ l) (sym e ∙ r ∙ ap (λ (l : List ℕ). l ++ bits_of (four_bytes check)) (q ∙ ap (λ (l : List ℕ). l ++ replicate pad 0) p))
+      ∙ around (bits_of gone) t (symbol_bits 256) (replicate pad 0) (bits_of (four_bytes check))
+      ∙ ap (λ (l : List ℕ). l ++ symbol_bits 256 ++ replicate pad 0 ++ bits_of (four_bytes check)) h.are
+      ∙ inside (bits_of zlib_head) block_start (flat_map token_bits h.tokens) (symbol_bits 256) (replicate pad 0) (bits_of (four_bytes check))
+      ∙ ap (λ (n : ℕ). bits_of zlib_head ++ block h.tokens ++ replicate pad 0 ++ bits_of (four_bytes n)) sums;
+}
