@@ -1,10 +1,9 @@
 -- The sums of bytes in two parts.
-use Rattle.std.proofs.Common.{◌≡◌, ℕ, zero, suc, ◌+◌, ◌-◌, ◌*◌, ◌/◌, ◌%◌, ◌<◌, ◌≤◌, List, [], ◌∷◌, ◌++◌, length, take, map, sum, get_or, refl, ap, sym, ◌∙◌, arith}
+use Rattle.std.proofs.Common.{◌≡◌, ℕ, ◌+◌, ◌-◌, ◌*◌, ◌/◌, ◌%◌, ◌<◌, List, [], ◌∷◌, ◌++◌, length, take, sum, get_or, refl, ap, ◌∙◌, arith}
 use Rattle.std.proofs.lemmas.Grind.{common_steps}
-use Rattle.std.proofs.lemmas.List.{take_more, map-append, take_all}
+use Rattle.std.proofs.lemmas.List.{take_more, map-append}
 use Rattle.vp_png.specs.declared.sums.Sums.{Sums}
 use Rattle.vp_png.specs.Zlib.{first_sum, sums_after, second_sum}
-use Rattle.vp_png.specs.File.{scanline}
 use Rattle.vp_png.specs.Kept.{AreSums, shown}
 
 sum_both : (xs ys : List ℕ) → sum (xs ++ ys) ≡ sum xs + sum ys
@@ -27,9 +26,10 @@ pub sums_more : (a : ℕ) (xs : List ℕ) (y : ℕ) →
     (sum (xs ++ y ∷ []) ≡ sum xs + y) × (sums_after a (0 ∷ xs ++ y ∷ []) ≡ sums_after a (0 ∷ xs) + (a + sum xs + y))
 unfolding sums_after
 sums_more a xs y =
-    let e : a + 0 + sum xs ≡ a + sum xs = omega arith in
-    (omega (arith, sum_both xs (y ∷ []), sum_next y []),
-     omega (arith, after_both (a + 0) xs (y ∷ []), ap (λ (n : ℕ). n + y + 0) e))
+    let e : a + 0 + sum xs ≡ a + sum xs = omega arith in (
+      omega (arith, sum_both xs (y ∷ []), sum_next y []),
+      omega (arith, after_both (a + 0) xs (y ∷ []), ap (λ (n : ℕ). n + y + 0) e),
+    )
 
 pub shown_more : (row : List ℕ) (i : ℕ) → i < length row → shown (take (i + 1) row) ≡ shown (take i row) ++ (255 - get_or row i 0) ∷ []
 shown_more row i h = ap shown (take_more row i 0 h) ∙ map-append (λ (b : ℕ). 255 - b) (take i row) (get_or row i 0 ∷ [])
@@ -48,6 +48,7 @@ pub sums_behind : (s : Sums) (before ys : List ℕ) → AreSums s before →
 sums_behind s before ys h =
     let q : ℕ = (1 + sum before) / 65521 in
     let e : q * 65521 + s.first ≡ 1 + sum before = omega (arith, h.first) in
-    let w = after_whole q s.first ys in
-    (omega (arith, h.first, sum_both before ys),
-     omega (arith, h.second, w.1, after_both 1 before ys, ap (λ (n : ℕ). sums_after n ys) e))
+    let w = after_whole q s.first ys in (
+      omega (arith, h.first, sum_both before ys),
+      omega (arith, h.second, w.1, after_both 1 before ys, ap (λ (n : ℕ). sums_after n ys) e),
+    )

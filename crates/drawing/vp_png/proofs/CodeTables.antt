@@ -1,11 +1,11 @@
 -- The fixed codes, number by number.
-use Rattle.std.proofs.Common.{◌≡◌, ℕ, zero, suc, ◌+◌, ◌-◌, ◌*◌, ◌/◌, ◌%◌, ◌^◌, ◌<◌, ◌≤◌, List, [], ◌∷◌, ◌++◌, length, slice_index_or, reverse, refl, ap, sym, ◌∙◌, arith, subst}
+use Rattle.std.proofs.Common.{◌≡◌, ℕ, ◌+◌, ◌-◌, ◌*◌, ◌/◌, ◌%◌, ◌^◌, ◌<◌, ◌≤◌, slice_index_or, refl, arith, subst}
 use Rattle.std.proofs.Math.Nat.{pow-le-pow_right}
 use Rattle.std.proofs.lemmas.Nat.{shr_below}
 use Rattle.vp_png.specs.declared.codes.TheConstants.{TURNED}
 use Rattle.vp_png.specs.Bits.{low_bits, code_bits}
-use Rattle.vp_png.specs.Codes.{row_of, row_at, extra_count, extra_bits, lengths, distances}
-use Rattle.vp_png.proofs.Tables.{table, same_in, same_from}
+use Rattle.vp_png.specs.Codes.{row_of, row_at, extra_count, lengths, distances}
+use Rattle.vp_png.proofs.Tables.{table, same_in}
 
 -- nine bits turned round
 abbrev pub nine_turned : ℕ → ℕ

@@ -1,12 +1,12 @@
 -- The check of chunks, four bits at a time.
 use Rattle.std.proofs.Common.{◌≡◌, ℕ, zero, suc, ◌+◌, ◌*◌, ◌/◌, ◌%◌, ◌^◌, ◌<◌, ◌≤◌, ◌⊎◌, inl, inr, List, [], ◌∷◌, ◌++◌, length, slice_index_or, get_or, drop, bit_xor, refl, ap, sym, ◌∙◌, arith}
 use Rattle.std.specs.Int.Bits.{xor_assoc, xor_zero_r, xor_zero_l, xor_block}
-use Rattle.std.proofs.lemmas.Nat.{xor_comm, xor_shr, xor_mod, xor_lt}
+use Rattle.std.proofs.lemmas.Nat.{xor_comm, xor_shr, xor_mod}
 use Rattle.std.proofs.lemmas.Bool.{cases_lt}
 use Rattle.std.proofs.lemmas.List.{at_drop_more, at_drop_all}
 use Rattle.vp_png.specs.declared.crc.TheConstants.{FOURS}
-use Rattle.vp_png.specs.Crc.{crc_bit, crc_bits, crc_behind, crc}
-use Rattle.vp_png.proofs.Tables.{table, same_in}
+use Rattle.vp_png.specs.Crc.{crc_bit, crc_bits, crc_behind}
+use Rattle.vp_png.proofs.Tables.{same_in}
 
 -- the polynomial, if a bit is 1
 abbrev off : ℕ → ℕ
@@ -17,9 +17,9 @@ bits_apart x h = elim (cases_lt x 1) [ inl e ↦ inl (omega arith) | inr e ↦ i
 
 off_both : (x y : ℕ) → x < 2 → y < 2 → off (bit_xor x y) ≡ bit_xor (off x) (off y)
 off_both x y hx hy = elim (bits_apart x hx) [
-    inl e ↦ elim (bits_apart y hy) [ inl f ↦ rw (e, f) refl | inr f ↦ rw (e, f) refl ]
+  | inl e ↦ elim (bits_apart y hy) [ inl f ↦ rw (e, f) refl | inr f ↦ rw (e, f) refl ]
   | inr e ↦ elim (bits_apart y hy) [ inl f ↦ rw (e, f) refl | inr f ↦ rw (e, f) refl ]
-  ]
+]
 
 crossed : (a b c d : ℕ) → bit_xor (bit_xor a b) (bit_xor c d) ≡ bit_xor (bit_xor a c) (bit_xor b d)
 crossed a b c d =
@@ -63,12 +63,12 @@ split : (c : ℕ) → c ≡ bit_xor (c % 16) (2 * (2 * (2 * (2 * (c / 16)))))
 split c =
     let e : c ≡ c / 16 * 2 ^ 4 + c % 16 = omega arith in
     let k : bit_xor (0 * 2 ^ 4 + c % 16) (c / 16 * 2 ^ 4 + 0) ≡ bit_xor 0 (c / 16) * 2 ^ 4 + bit_xor (c % 16) 0 =
-        xor_block 4 0 (c / 16) (c % 16) 0 (omega arith) (omega arith) in
+    xor_block 4 0 (c / 16) (c % 16) 0 (omega arith) (omega arith) in
     let f : 0 * 2 ^ 4 + c % 16 ≡ c % 16 = omega arith in
     let g : c / 16 * 2 ^ 4 + 0 ≡ 2 * (2 * (2 * (2 * (c / 16)))) = omega arith in
     let m : bit_xor (c % 16) (2 * (2 * (2 * (2 * (c / 16))))) ≡ c / 16 * 2 ^ 4 + c % 16 =
-        ap (λ (n : ℕ). bit_xor n (2 * (2 * (2 * (2 * (c / 16)))))) (sym f) ∙ ap (bit_xor (0 * 2 ^ 4 + c % 16)) (sym g) ∙ k
-        ∙ ap (λ (n : ℕ). bit_xor 0 (c / 16) * 2 ^ 4 + n) (xor_zero_r (c % 16)) ∙ ap (λ (n : ℕ). n * 2 ^ 4 + c % 16) (xor_zero_l (c / 16)) in
+    ap (λ (n : ℕ). bit_xor n (2 * (2 * (2 * (2 * (c / 16)))))) (sym f) ∙ ap (bit_xor (0 * 2 ^ 4 + c % 16)) (sym g) ∙ k
+    ∙ ap (λ (n : ℕ). bit_xor 0 (c / 16) * 2 ^ 4 + n) (xor_zero_r (c % 16)) ∙ ap (λ (n : ℕ). n * 2 ^ 4 + c % 16) (xor_zero_l (c / 16)) in
     e ∙ sym m
 
 low_fours : (k : ℕ) → k < 16 → slice_index_or FOURS k 0 ≡ crc_bits 4 k

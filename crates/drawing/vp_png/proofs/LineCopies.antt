@@ -1,5 +1,5 @@
 -- Lines that are packed by their copies.
-use Rattle.std.proofs.Common.{◌≡◌, ℕ, zero, suc, ◌+◌, ◌-◌, ◌<◌, ◌≤◌, List, [], ◌∷◌, ◌++◌, length, take, drop, get_or, map, refl, ap, sym, ◌∙◌, arith, append_assoc, length-append, length-drop, length-take, get_or-drop, subst}
+use Rattle.std.proofs.Common.{◌≡◌, ℕ, zero, suc, ◌+◌, ◌-◌, ◌<◌, ◌≤◌, List, [], ◌∷◌, ◌++◌, length, take, drop, get_or, refl, ap, sym, ◌∙◌, arith, append_assoc, length-append, length-drop, get_or-drop, subst}
 use Rattle.std.proofs.Math.Seq.{take-add}
 use Rattle.std.proofs.lemmas.List.{append-nil, get_or-append-add, get_or-map, map-append, take-map, length-map, take-append-drop, length-take-le, take_all}
 use Rattle.vp_png.specs.declared.lines.Copy.{Copy}
@@ -19,8 +19,14 @@ shown_at xs i h = get_or-map (λ (b : ℕ). 255 - b) xs i 0 0 h
 pub length_before : (front above line : List ℕ) (at : ℕ) → at ≤ length line →
     length (front ++ shown above ++ shown (take at line)) ≡ length front + length above + at
 length_before front above line at h =
-    omega (arith, length-append (front ++ shown above) (shown (take at line)), length-append front (shown above),
-        length-map above (λ (b : ℕ). 255 - b), length-map (take at line) (λ (b : ℕ). 255 - b), length-take-le at line h)
+    omega (
+      arith,
+      length-append (front ++ shown above) (shown (take at line)),
+      length-append front (shown above),
+      length-map above (λ (b : ℕ). 255 - b),
+      length-map (take at line) (λ (b : ℕ). 255 - b),
+      length-take-le at line h,
+    )
 
 module _ (front above line : List ℕ) (at : ℕ) where
   -- what stands before byte `at` of the line
@@ -48,13 +54,13 @@ module _ (front above line : List ℕ) (at : ℕ) where
       let d = copy.distance in
       let long = length_before front above line at (omega (arith, h.within)) in
       copied_is n d so_far (drop at (shown line)) (h.back some) (omega (arith, long, h.reach some)) (omega (arith, h.within, length-drop at (shown line), length-map line (λ (b : ℕ). 255 - b)))
-          (λ (k : ℕ) (lt : k < n).
-              let i : length so_far + k - d ≡ length front + (length above + at + k - d) = omega (arith, long, h.reach some) in
-              get_or-drop at (shown line) k 0 ∙ shown_at line (at + k) (omega (arith, h.within)) ∙ ap (λ (b : ℕ). 255 - b) (h.same k lt)
-              ∙ sym (shown_at (above ++ line) (length above + at + k - d) (omega (arith, h.within, h.back some, length-append above line)))
-              ∙ sym (get_or-append-add front (shown (above ++ line)) (length above + at + k - d) 0)
-              ∙ ap (λ (j : ℕ). get_or (front ++ shown (above ++ line)) j 0) (sym i)
-              ∙ ap (λ (l : List ℕ). get_or l (length so_far + k - d) 0) (sym whole))
+      (λ (k : ℕ) (lt : k < n).
+      let i : length so_far + k - d ≡ length front + (length above + at + k - d) = omega (arith, long, h.reach some) in
+      get_or-drop at (shown line) k 0 ∙ shown_at line (at + k) (omega (arith, h.within)) ∙ ap (λ (b : ℕ). 255 - b) (h.same k lt)
+      ∙ sym (shown_at (above ++ line) (length above + at + k - d) (omega (arith, h.within, h.back some, length-append above line)))
+      ∙ sym (get_or-append-add front (shown (above ++ line)) (length above + at + k - d) 0)
+      ∙ ap (λ (j : ℕ). get_or (front ++ shown (above ++ line)) j 0) (sym i)
+      ∙ ap (λ (l : List ℕ). get_or l (length so_far + k - d) 0) (sym whole))
       ∙ further n
 
 pub copy_shown : (front above line : List ℕ) (at : ℕ) (distance long : ℕ) → IsCopy above line at (record { distance = distance; long = long }) →
@@ -73,8 +79,8 @@ more_packed bits running before old new more same copy h =
     let e : 0 + more ≡ more = omega arith in
     subst (λ (s : Lines). Packs bits (length s.line.items) running (before ++ shown s.above.items ++ shown (take more s.line.items))) (sym same)
     (subst (λ (l : List ℕ). Packs bits (length old.line.items) running l)
-        (copy_shown before old.above.items old.line.items 0 (length old.line.items) more copy
-        ∙ ap (λ (n : ℕ). before ++ shown old.above.items ++ shown (take n old.line.items)) e) h)
+    (copy_shown before old.above.items old.line.items 0 (length old.line.items) more copy
+    ∙ ap (λ (n : ℕ). before ++ shown old.above.items ++ shown (take n old.line.items)) e) h)
 
 -- a literal more
 pub one_shown : (front above line : List ℕ) (at : ℕ) → at < length line →

@@ -1,8 +1,8 @@
 -- The bits of numbers, cut and joined.
-use Rattle.std.proofs.Common.{◌≡◌, ℕ, zero, suc, ◌+◌, ◌-◌, ◌*◌, ◌/◌, ◌%◌, ◌^◌, ◌<◌, ◌≤◌, List, [], ◌∷◌, ◌++◌, length, replicate, flat_map, refl, ap, sym, ◌∙◌, arith, append_assoc, length-append, add-one, subst}
+use Rattle.std.proofs.Common.{◌≡◌, ℕ, zero, suc, ◌+◌, ◌-◌, ◌*◌, ◌/◌, ◌%◌, ◌^◌, ◌<◌, ◌≤◌, List, [], ◌∷◌, ◌++◌, length, replicate, refl, ap, sym, ◌∙◌, arith, append_assoc, length-append, add-one, subst}
 use Rattle.std.proofs.Math.Pow.{mod-mod-pow}
 use Rattle.std.proofs.lemmas.Nat.{field_of, shr-shr, shr_high, mod_low, shr_below, shl_whole, mul-add-lt, pow-add}
-use Rattle.std.proofs.lemmas.Grind.{common_steps, flat_map-append}
+use Rattle.std.proofs.lemmas.Grind.{flat_map-append}
 use Rattle.std.proofs.lemmas.List.{append-nil}
 use Rattle.vp_png.specs.declared.bits.Bits.{Bits}
 use Rattle.vp_png.specs.Bits.{low_bits, bits_of}
@@ -57,8 +57,8 @@ pub low_joined : (c n h v : ℕ) → h < 2 ^ c → low_bits (c + n) (h + v * 2 ^
 low_joined c n h v lt =
     let e : h + v * 2 ^ c ≡ v * 2 ^ c + h = omega arith in
     rw e (low_split c n (v * 2 ^ c + h)
-        ∙ ap (λ (m : ℕ). low_bits c m ++ low_bits n ((v * 2 ^ c + h) / 2 ^ c)) (mod_low v c h lt)
-        ∙ ap (λ (m : ℕ). low_bits c h ++ low_bits n m) (shr_high v c h lt))
+    ∙ ap (λ (m : ℕ). low_bits c m ++ low_bits n ((v * 2 ^ c + h) / 2 ^ c)) (mod_low v c h lt)
+    ∙ ap (λ (m : ℕ). low_bits c h ++ low_bits n m) (shr_high v c h lt))
 
 -- a byte more
 pub byte_more : (bytes : List ℕ) (count held : ℕ) → 8 ≤ count →

@@ -1,16 +1,14 @@
 -- Tokens one behind another, and the match that goes on.
-use Rattle.std.proofs.Common.{◌≡◌, ℕ, zero, suc, ◌+◌, ◌-◌, ◌<◌, ◌≤◌, List, [], ◌∷◌, ◌++◌, length, take, drop, get_or, map, flat_map, replicate, refl, ap, sym, ◌∙◌, arith, append_assoc, length-append, length-drop, length-take, get_or-drop, subst, add-one}
-use Rattle.std.proofs.Math.Seq.{take-add}
-use Rattle.std.proofs.lemmas.Grind.{common_steps, flat_map-append}
-use Rattle.std.proofs.lemmas.List.{append-nil, get_or_append_left, get_or-append-add, map-append, take-map, length-map}
-use Rattle.vp_png.specs.declared.lines.Copy.{Copy}
+use Rattle.std.proofs.Common.{◌≡◌, ℕ, zero, suc, ◌+◌, ◌-◌, ◌<◌, ◌≤◌, List, [], ◌∷◌, ◌++◌, length, take, get_or, flat_map, replicate, refl, ap, sym, ◌∙◌, arith, append_assoc, length-append, subst}
+use Rattle.std.proofs.lemmas.Grind.{flat_map-append}
+use Rattle.std.proofs.lemmas.List.{append-nil, get_or_append_left}
 use Rattle.vp_png.specs.declared.token.Token.{Token}
-use Rattle.vp_png.specs.declared.token.Token.TheVariants.{Literal, Match}
+use Rattle.vp_png.specs.declared.token.Token.TheVariants.{Match}
 use Rattle.vp_png.specs.Bits.{low_bits, bits_of}
 use Rattle.vp_png.specs.Codes.{symbol_bits}
 use Rattle.vp_png.specs.Tokens.{copied, behind, unpacked, IsToken, AreTokens, token_bits, block_start, block}
 use Rattle.vp_png.specs.Zlib.{zlib_head, IsZlib, four_bytes, adler}
-use Rattle.vp_png.specs.Kept.{Packs, IsCopy, shown}
+use Rattle.vp_png.specs.Kept.{Packs}
 
 pub copied_both : (m n d : ℕ) (done : List ℕ) → copied (m + n) d done ≡ copied n d (copied m d done)
 unfolding copied
@@ -71,24 +69,24 @@ packs_part bits stride n r packed h least most rest =
     let b = h.back (omega arith) in
     let more : unpacked [] (h.tokens ++ t ∷ []) ≡ copied n stride (unpacked [] h.tokens) = unpacked_more [] h.tokens t in
     record {
-  tokens = h.tokens ++ t ∷ [];
-  valid = tokens_more [] h.tokens t h.valid (b.1, b.3, b.2, least, most);
-  are = ap (λ (l : List ℕ). l ++ token_bits t) h.are ∙ append_assoc (bits_of zlib_head ++ block_start) (flat_map token_bits h.tokens) (token_bits t)
-      ∙ ap (λ (l : List ℕ). bits_of zlib_head ++ block_start ++ l) (sym (bits_more h.tokens t));
-  unpacks = ap (copied r stride) more ∙ sym (copied_both n r stride (unpacked [] h.tokens)) ∙ h.unpacks;
-  back = λ (some : 0 < r). (rest some, b.1, b.2, omega (arith, ap length more, length_copied n stride (unpacked [] h.tokens), b.3));
-}
+      tokens = h.tokens ++ t ∷ [];
+      valid = tokens_more [] h.tokens t h.valid (b.1, b.3, b.2, least, most);
+      are = ap (λ (l : List ℕ). l ++ token_bits t) h.are ∙ append_assoc (bits_of zlib_head ++ block_start) (flat_map token_bits h.tokens) (token_bits t)
+          ∙ ap (λ (l : List ℕ). bits_of zlib_head ++ block_start ++ l) (sym (bits_more h.tokens t));
+      unpacks = ap (copied r stride) more ∙ sym (copied_both n r stride (unpacked [] h.tokens)) ∙ h.unpacks;
+      back = λ (some : 0 < r). (rest some, b.1, b.2, omega (arith, ap length more, length_copied n stride (unpacked [] h.tokens), b.3));
+    }
 
 pub packs_longer : (bits : List ℕ) (stride r n : ℕ) (packed : List ℕ) → Packs bits stride r packed → 0 < r → Packs bits stride (r + n) (copied n stride packed)
 packs_longer bits stride r n packed h some =
     let b = h.back some in
     record {
-  tokens = h.tokens;
-  valid = h.valid;
-  are = h.are;
-  unpacks = copied_both r n stride (unpacked [] h.tokens) ∙ ap (copied n stride) h.unpacks;
-  back = λ (_ : 0 < r + n). (omega (arith, b.0), b.1, b.2, b.3);
-}
+      tokens = h.tokens;
+      valid = h.valid;
+      are = h.are;
+      unpacks = copied_both r n stride (unpacked [] h.tokens) ∙ ap (copied n stride) h.unpacks;
+      back = λ (_ : 0 < r + n). (omega (arith, b.0), b.1, b.2, b.3);
+    }
 
 pub packs_begun : (bits : List ℕ) (stride n : ℕ) (packed : List ℕ) → Packs bits stride 0 packed → 3 ≤ n → 1 ≤ stride → stride ≤ 32768 → stride ≤ length packed →
     Packs bits stride n (copied n stride packed)
@@ -113,7 +111,7 @@ pub part_written : (gone old new : List ℕ) (stride d n r all : ℕ) (packed : 
 part_written gone old new stride d n r all packed same whole e h least most rest =
     let k = subst (λ (m : ℕ). Packs (gone ++ old) stride m packed) whole h in
     let f : gone ++ old ++ token_bits (Match stride n) ≡ gone ++ new =
-        append_assoc gone old (token_bits (Match stride n)) ∙ ap (λ (m : ℕ). gone ++ (old ++ token_bits (Match m n))) (sym same) ∙ ap (λ (l : List ℕ). gone ++ l) (sym e) in
+    append_assoc gone old (token_bits (Match stride n)) ∙ ap (λ (m : ℕ). gone ++ (old ++ token_bits (Match m n))) (sym same) ∙ ap (λ (l : List ℕ). gone ++ l) (sym e) in
     subst (λ (l : List ℕ). Packs l stride r packed) f (packs_part (gone ++ old) stride n r packed k least most rest)
 
 -- where no match goes on, lines may be as long as they will
@@ -139,13 +137,13 @@ copied_is (suc n) d done [] some back h same = absurd (omega arith)
 copied_is (suc n) d done (x ∷ xs) some back h same =
     let i : length done + 0 - d ≡ length done - d = omega arith in
     let first : x ≡ get_or done (length done - d) 0 =
-        same 0 (omega arith) ∙ ap (λ (j : ℕ). get_or (done ++ x ∷ xs) j 0) i ∙ get_or_append_left done (x ∷ xs) 0 (length done - d) (omega arith) in
+    same 0 (omega arith) ∙ ap (λ (j : ℕ). get_or (done ++ x ∷ xs) j 0) i ∙ get_or_append_left done (x ∷ xs) 0 (length done - d) (omega arith) in
     let longer : length (done ++ x ∷ []) ≡ length done + 1 = omega (arith, length-append done (x ∷ [])) in
     let joined : (done ++ x ∷ []) ++ xs ≡ done ++ x ∷ xs = append_assoc done (x ∷ []) xs in
     ap (λ (y : ℕ). copied n d (done ++ y ∷ [])) (sym first)
     ∙ copied_is n d (done ++ x ∷ []) xs some (omega arith) (omega arith) (λ (k : ℕ) (lt : k < n).
-        let j : length done + suc k - d ≡ length (done ++ x ∷ []) + k - d = omega arith in
-        same (suc k) (omega arith) ∙ ap (λ (m : ℕ). get_or (done ++ x ∷ xs) m 0) j ∙ ap (λ (l : List ℕ). get_or l (length (done ++ x ∷ []) + k - d) 0) (sym joined))
+    let j : length done + suc k - d ≡ length (done ++ x ∷ []) + k - d = omega arith in
+    same (suc k) (omega arith) ∙ ap (λ (m : ℕ). get_or (done ++ x ∷ xs) m 0) j ∙ ap (λ (l : List ℕ). get_or l (length (done ++ x ∷ []) + k - d) 0) (sym joined))
     ∙ append_assoc done (x ∷ []) (take n xs)
 
 pub start_bits : (s t u v : List ℕ) → s ≡ [] → t ≡ s ++ low_bits 8 0x78 → u ≡ t ++ low_bits 8 0x01 → v ≡ u ++ low_bits 3 3 → v ≡ bits_of zlib_head ++ block_start

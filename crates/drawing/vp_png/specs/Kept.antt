@@ -1,9 +1,8 @@
 -- What the code keeps.
-use Rattle.std.specs.Prelude.{◌≡◌, ℕ, ◌+◌, ◌-◌, ◌*◌, ◌%◌, ◌<◌, ◌≤◌, ◌⊎◌, ◌==◌, ◌||◌, not, nat_lt, if◌then◌else◌, Option, Some, None, List, [], ◌∷◌, ◌++◌, length, map, take, drop, flat_map, slice_index}
+use Rattle.std.specs.Prelude.{◌≡◌, ℕ, ◌+◌, ◌-◌, ◌%◌, ◌<◌, ◌≤◌, ◌==◌, ◌||◌, not, nat_lt, if◌then◌else◌, Option, Some, None, List, [], ◌++◌, length, map, take, drop, flat_map, slice_index}
 use Rattle.vp_png.specs.declared.bits.Bits.{Bits}
 use Rattle.vp_png.specs.declared.sums.Sums.{Sums}
 use Rattle.vp_png.specs.declared.lines.Copy.{Copy}
-use Rattle.vp_png.specs.declared.lines.Lines.{Lines}
 use Rattle.vp_png.specs.declared.packer.Packer.{Packer}
 use Rattle.vp_png.specs.declared.png.Png.{Png}
 use Rattle.vp_png.specs.declared.png.PngError.{PngError}

@@ -1,4 +1,4 @@
-use Rattle.std.proofs.Common.{◌≡◌, ℕ, arith, refl}
+use Rattle.std.proofs.Common.{arith, refl}
 use Rattle.vp_png.specs.Codes.{row_of, extra_count, distances}
 use Rattle.vp_png.proofs.Tables.{same_from}
 use Rattle.vp_png.proofs.codes.distance_extra.Goals as goal

@@ -1,4 +1,4 @@
-use Rattle.std.proofs.Common.{◌≡◌, ℕ, ◌+◌, ◌-◌, ◌%◌, ◌^◌, ◌++◌, List, ap, sym, ◌∙◌, arith, append_assoc}
+use Rattle.std.proofs.Common.{ℕ, ◌-◌, ◌%◌, ◌^◌, ◌++◌, List, ap, ◌∙◌, append_assoc}
 use Rattle.vp_png.specs.Bits.{low_bits, code_bits}
 use Rattle.vp_png.specs.Codes.{row_of, extra_count, extra_bits, distance_bits, distances}
 use Rattle.vp_png.specs.Kept.{bits_in}

@@ -1,4 +1,4 @@
-use Rattle.std.proofs.Common.{◌≡◌, ℕ, ◌+◌, ◌*◌, ◌/◌, ◌%◌, ◌<◌, ◌≤◌, arith}
+use Rattle.std.proofs.Common.{arith}
 use Rattle.vp_png.proofs.CodeTables.{nine_small, nine_bits, turned_bits, turned_few}
 use Rattle.vp_png.proofs.codes.turned.Goals as goal
 

@@ -1,4 +1,4 @@
-use Rattle.std.proofs.Common.{◌≡◌, ℕ, ◌+◌, drop, bit_xor, ap, sym, ◌∙◌, arith}
+use Rattle.std.proofs.Common.{ℕ, ◌+◌, drop, bit_xor, ap, sym, ◌∙◌, arith}
 use Rattle.vp_png.specs.Crc.{crc_bits, crc_behind}
 use Rattle.vp_png.proofs.Crcs.{behind_more, behind_all}
 use Rattle.vp_png.proofs.crc.behind.Goals as goal

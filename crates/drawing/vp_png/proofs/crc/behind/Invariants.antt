@@ -1,4 +1,4 @@
-use Rattle.std.proofs.Common.{◌≡◌, ℕ, drop}
+use Rattle.std.proofs.Common.{◌≡◌, drop}
 use Rattle.vp_png.specs.Crc.{crc_behind}
 use Rattle.vp_png.proofs.crc.behind.Given as goal
 

@@ -1,4 +1,4 @@
-use Rattle.std.proofs.Common.{◌≡◌, List, ℕ, ◌++◌, ap, ◌∙◌, length}
+use Rattle.std.proofs.Common.{ℕ, ◌++◌, ap, ◌∙◌, length}
 use Rattle.vp_png.specs.Zlib.{four_bytes}
 use Rattle.vp_png.specs.Crc.{crc}
 use Rattle.vp_png.specs.File.{chunk}

@@ -1,4 +1,4 @@
-use Rattle.std.proofs.Common.{◌≡◌, ℕ, ◌+◌, ◌*◌, ◌^◌, ◌<◌, ◌≤◌, ◌++◌, length}
+use Rattle.std.proofs.Common.{◌≡◌, ◌+◌, ◌*◌, ◌^◌, ◌<◌, ◌≤◌, ◌++◌, length}
 use Rattle.vp_png.specs.Bits.{low_bits, bits_of}
 use Rattle.vp_png.specs.Kept.{bits_in}
 use Rattle.vp_png.proofs.bits.Bits.push.Given as goal

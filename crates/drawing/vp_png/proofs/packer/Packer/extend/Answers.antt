@@ -1,4 +1,4 @@
-use Rattle.std.proofs.Common.{◌≡◌, ℕ, ◌+◌, ◌-◌, ◌<◌, min, length, arith, ◌∙◌}
+use Rattle.std.proofs.Common.{◌≡◌, ◌+◌, ◌-◌, ◌<◌, min, length, arith, ◌∙◌}
 use Rattle.std.proofs.lemmas.Grind.{common_steps}
 use Rattle.vp_png.specs.Tokens.{copied}
 use Rattle.vp_png.specs.Kept.{bits_in}
@@ -16,6 +16,6 @@ returns-clause-packs c = λ gone before h.
     let long = c.min-long.result in
     let least : long ≡ min 258 (s.running + c.args.more - 3) = c.min-long.ensures ∙ grind (arith, common_steps) in
     part_written gone (bits_in s.bits) (bits_in c.put_token.new.bits) stride c.len-stride.result long (s.running + c.args.more - long) (s.running + c.args.more)
-        (copied c.args.more stride before) c.len-stride.ensures.value (omega (arith, least)) c.put_token.ensures.bits
-        (packs_longer _ _ s.running c.args.more before h c.requires.running) (omega (arith, least)) (omega (arith, least))
-        (λ (some : 0 < s.running + c.args.more - long). omega (arith, least))
+    (copied c.args.more stride before) c.len-stride.ensures.value (omega (arith, least)) c.put_token.ensures.bits
+    (packs_longer _ _ s.running c.args.more before h c.requires.running) (omega (arith, least)) (omega (arith, least))
+    (λ (some : 0 < s.running + c.args.more - long). omega (arith, least))

@@ -1,4 +1,4 @@
-use Rattle.std.proofs.Common.{◌≡◌, ℕ, ◌+◌, ◌-◌, List, [], ◌∷◌, ◌++◌, length, sym, arith, subst, length-append}
+use Rattle.std.proofs.Common.{ℕ, List, [], ◌∷◌, sym, arith, subst, length-append}
 use Rattle.vp_png.specs.Bits.{bits_of}
 use Rattle.vp_png.specs.File.{joined, scanlines}
 use Rattle.vp_png.specs.Kept.{AreSums, HasPacked}
@@ -11,9 +11,9 @@ returns-clause-going c = λ rows out h.
     let row = c.args.row.now in
     let more = sym (scanlines_more rows row) in
     record {
-  parts = h.parts;
-  file = h.file;
-  packed = subst (λ (l : List ℕ). HasPacked c.take-2.new.self (bits_of (joined h.parts)) l) more (c.take-2.ensures.packed (bits_of (joined h.parts)) (scanlines rows) h.packed);
-  sums = subst (λ (l : List ℕ). AreSums c.take.new.self l) more (c.take.ensures (scanlines rows) h.sums);
-  count = omega (arith, h.count, c.requires.left, length-append rows (row ∷ []));
-}
+      parts = h.parts;
+      file = h.file;
+      packed = subst (λ (l : List ℕ). HasPacked c.take-2.new.self (bits_of (joined h.parts)) l) more (c.take-2.ensures.packed (bits_of (joined h.parts)) (scanlines rows) h.packed);
+      sums = subst (λ (l : List ℕ). AreSums c.take.new.self l) more (c.take.ensures (scanlines rows) h.sums);
+      count = omega (arith, h.count, c.requires.left, length-append rows (row ∷ []));
+    }

@@ -1,4 +1,4 @@
-use Rattle.std.proofs.Common.{◌≡◌, ℕ, ◌+◌, ◌*◌, ◌≤◌, ◌∷◌, sum, take}
+use Rattle.std.proofs.Common.{◌≡◌, ◌+◌, ◌*◌, ◌≤◌, ◌∷◌, sum, take}
 use Rattle.vp_png.specs.Zlib.{sums_after}
 use Rattle.vp_png.specs.Kept.{shown}
 use Rattle.vp_png.proofs.sums.Sums.take.Given as goal
