@@ -1,11 +1,11 @@
 -- A file's bytes, piece by piece.
-use Rattle.std.proofs.Common.{◌≡◌, ℕ, ◌+◌, ◌*◌, ◌≤◌, List, [], ◌∷◌, ◌++◌, length, take, drop, flat_map, slice_index_or, refl, ap, sym, ◌∙◌, arith, append_assoc, length-append, subst}
+use Rattle.std.proofs.Common.{◌≡◌, ℕ, ◌+◌, ◌*◌, ◌/◌, ◌≤◌, List, [], ◌∷◌, ◌++◌, length, take, drop, flat_map, slice_index_or, refl, ap, sym, ◌∙◌, arith, append_assoc, length-append, subst}
 use Rattle.std.proofs.lemmas.Grind.{flat_map-append}
 use Rattle.std.proofs.lemmas.List.{append-nil, drop-append-le, take_at, length-take-le, drop-drop, take-append-drop}
 use Rattle.std.specs.Int.{w32, to_be_bytes}
 use Rattle.vp_png.specs.Zlib.{four_bytes}
 use Rattle.vp_png.specs.Bits.{low_bits, bits_of}
-use Rattle.vp_png.specs.File.{header, chunk, idat, joined, scanline, scanlines}
+use Rattle.vp_png.specs.File.{AreAcross, header, chunk, idat, joined, scanline, scanlines}
 use Rattle.vp_png.specs.Kept.{Packs}
 use Rattle.vp_png.proofs.LowBits.{length_low, length_bits_of}
 
@@ -75,3 +75,8 @@ put_file out waiting part tail taken n e within =
     ∙ ap (λ (l : List ℕ). out ++ (l ++ drop (taken + n) waiting)) (take_at part tail n (ap length e ∙ length-take-le n (drop taken waiting) within) ∙ e)
     ∙ ap (λ (l : List ℕ). out ++ (take n (drop taken waiting) ++ l)) (sym (drop-drop n taken waiting))
     ∙ ap (λ (l : List ℕ). out ++ l) (take-append-drop n (drop taken waiting))
+
+pub across_more : (width : ℕ) (rows : List (List ℕ)) (row : List ℕ) → AreAcross width rows → length row ≡ (width + 7) / 8 → AreAcross width (rows ++ row ∷ [])
+unfolding AreAcross
+across_more width [] row h e = (e, tt)
+across_more width (r ∷ rows) row h e = (h.0, across_more width rows row h.1 e)

@@ -1,5 +1,5 @@
 -- What the code keeps.
-use Rattle.std.specs.Prelude.{◌≡◌, ℕ, ◌+◌, ◌-◌, ◌%◌, ◌<◌, ◌≤◌, ◌==◌, ◌||◌, not, nat_lt, if◌then◌else◌, Option, Some, None, List, [], ◌++◌, length, map, take, drop, flat_map, slice_index}
+use Rattle.std.specs.Prelude.{◌≡◌, ℕ, ◌/◌, ◌+◌, ◌-◌, ◌%◌, ◌<◌, ◌≤◌, ◌==◌, ◌||◌, not, nat_lt, if◌then◌else◌, Option, Some, None, List, [], ◌++◌, length, map, take, drop, flat_map, slice_index}
 use Rattle.vp_png.specs.declared.bits.Bits.{Bits}
 use Rattle.vp_png.specs.declared.sums.Sums.{Sums}
 use Rattle.vp_png.specs.declared.lines.Copy.{Copy}
@@ -12,7 +12,7 @@ use Rattle.vp_png.specs.declared.token.Token.TheVariants.{Literal, Match}
 use Rattle.vp_png.specs.Bits.{low_bits, bits_of}
 use Rattle.vp_png.specs.Tokens.{copied, unpacked, AreTokens, token_bits, block_start}
 use Rattle.vp_png.specs.Zlib.{first_sum, second_sum, zlib_head}
-use Rattle.vp_png.specs.File.{IsPng, head, chunk, idat, scanlines, joined}
+use Rattle.vp_png.specs.File.{AreAcross, IsPng, head, chunk, idat, scanlines, joined}
 
 -- the bits that were written
 abbrev pub bits_in : Bits → List ℕ
@@ -79,6 +79,7 @@ pub record Going (p : Png) (rows : List (List ℕ)) (out : List ℕ) : Type 0 wh
   pub packed : HasPacked p.packer (bits_of (joined parts)) (scanlines rows)
   pub sums : AreSums p.sums (scanlines rows)
   pub count : length rows + p.left ≡ p.height
+  pub across : AreAcross p.width rows
 
 -- rows were taken, and bytes handed out: the file goes on, or behind the last row it is whole
 pub record Stands (p : Png) (rows : List (List ℕ)) (out : List ℕ) : Type 0 where
@@ -99,6 +100,6 @@ size_refusal width height =
 abbrev pub row_refusal : Png → List ℕ → Option PngError
 row_refusal p row =
     if p.left == 0 then Some TooManyRows
-    else if not (length row == p.row_bytes) then Some RowLength
+    else if not (length row == (p.width + 7) / 8) then Some RowLength
     else if nat_lt 0 (length (waiting_bytes p)) then Some Waiting
     else None

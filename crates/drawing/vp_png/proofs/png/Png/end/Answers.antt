@@ -22,4 +22,5 @@ returns-clause-ended c = λ rows out h.
       packed = subst (λ (l : List ℕ). IsZlib l (scanlines rows)) (sym (joined_more h.parts bytes))
           (c.finish.ensures.packed (joined h.parts) (scanlines rows) h.packed (c.check.ensures (scanlines rows) h.sums));
       all = omega (arith, h.count, c.requires.left);
+      across = h.across;
     }

@@ -33,6 +33,7 @@ returns-clause-going c = λ rows out h.
       };
       sums = h.sums;
       count = h.count;
+      across = h.across;
     }
 
 pub returns-clause-room : goal.returns-clause-room
