@@ -2,7 +2,7 @@
 use Rattle.std.proofs.Common.{◌≡◌, ℕ, zero, suc, ◌+◌, ◌-◌, ◌<◌, ◌≤◌, List, [], ◌∷◌, ◌++◌, length, take, drop, get_or, refl, ap, sym, ◌∙◌, arith, append_assoc, length-append, length-drop, get_or-drop, subst}
 use Rattle.std.proofs.Math.Seq.{take-add}
 use Rattle.std.proofs.lemmas.List.{append-nil, get_or-append-add, get_or-map, map-append, take-map, length-map, take-append-drop, length-take-le, take_all}
-use Rattle.vp_png.specs.declared.lines.Copy.{Copy}
+use Rattle.vp_png.specs.declared.lines.Copied.{Copied}
 use Rattle.vp_png.specs.declared.lines.Lines.{Lines}
 use Rattle.vp_png.specs.Tokens.{copied}
 use Rattle.vp_png.specs.Kept.{Packs, IsCopy, shown}
@@ -47,7 +47,7 @@ module _ (front above line : List ℕ) (at : ℕ) where
       ∙ ap (λ (l : List ℕ). front ++ shown above ++ (l ++ take n (drop at (shown line)))) (sym (take-map (λ (b : ℕ). 255 - b) at line))
       ∙ ap (λ (l : List ℕ). front ++ shown above ++ l) (sym (take-add at n (shown line)) ∙ take-map (λ (b : ℕ). 255 - b) (at + n) line)
 
-  some_copied : (copy : Copy) → IsCopy above line at copy → 0 < copy.long →
+  some_copied : (copy : Copied) → IsCopy above line at copy → 0 < copy.long →
       copied copy.long copy.distance so_far ≡ front ++ shown above ++ shown (take (at + copy.long) line)
   some_copied copy h some =
       let n = copy.long in

@@ -2,11 +2,11 @@
 use Rattle.std.specs.Prelude.{◌≡◌, ℕ, ◌/◌, ◌+◌, ◌-◌, ◌%◌, ◌<◌, ◌≤◌, ◌==◌, ◌||◌, not, nat_lt, if◌then◌else◌, Option, Some, None, List, [], ◌++◌, length, map, take, drop, flat_map, slice_index}
 use Rattle.vp_png.specs.declared.bits.Bits.{Bits}
 use Rattle.vp_png.specs.declared.sums.Sums.{Sums}
-use Rattle.vp_png.specs.declared.lines.Copy.{Copy}
+use Rattle.vp_png.specs.declared.lines.Copied.{Copied}
 use Rattle.vp_png.specs.declared.packer.Packer.{Packer}
 use Rattle.vp_png.specs.declared.png.Png.{Png}
 use Rattle.vp_png.specs.declared.png.PngError.{PngError}
-use Rattle.vp_png.specs.declared.png.PngError.TheVariants.{ZeroSize, TooWide, TooManyRows, RowLength, Waiting}
+use Rattle.vp_png.specs.declared.png.PngError.TheVariants.{ZeroSize, TooWide, TooHigh, TooManyRows, RowLength, Waiting}
 use Rattle.vp_png.specs.declared.token.Token.{Token}
 use Rattle.vp_png.specs.declared.token.Token.TheVariants.{Literal, Match}
 use Rattle.vp_png.specs.Bits.{low_bits, bits_of}
@@ -45,7 +45,7 @@ abbrev pub IsUnder : List ℕ → List ℕ → Type 0
 IsUnder above line = 0 < length above → length above ≡ length line
 
 -- bytes of the line from one on are those that stand so far back, in it or above
-pub record IsCopy (above line : List ℕ) (at : ℕ) (copy : Copy) : Type 0 where
+pub record IsCopy (above line : List ℕ) (at : ℕ) (copy : Copied) : Type 0 where
   pub within : at + copy.long ≤ length line
   pub back : 0 < copy.long → 1 ≤ copy.distance
   pub reach : 0 < copy.long → copy.distance ≤ length above + at
@@ -58,7 +58,8 @@ pub record Packs (bits : List ℕ) (stride running : ℕ) (packed : List ℕ) : 
   pub valid : AreTokens [] tokens
   pub are : bits ≡ bits_of zlib_head ++ block_start ++ flat_map token_bits tokens
   pub unpacks : copied running stride (unpacked [] tokens) ≡ packed
-  pub back : 0 < running → (3 ≤ running) × (1 ≤ stride) × (stride ≤ 32768) × (stride ≤ length (unpacked [] tokens))
+  pub back : 0 < running →
+      (3 ≤ running) × (1 ≤ stride) × (stride ≤ 32768) × (stride ≤ length (unpacked [] tokens))
 
 -- a packer whose first bits were taken away has packed what stands before the line above, that line, and
 -- the line in hand up to a byte
@@ -95,6 +96,7 @@ abbrev pub size_refusal : ℕ → ℕ → Option PngError
 size_refusal width height =
     if width == 0 || height == 0 then Some ZeroSize
     else if nat_lt 1664 width then Some TooWide
+    else if nat_lt 2147483647 height then Some TooHigh
     else None
 
 abbrev pub row_refusal : Png → List ℕ → Option PngError
