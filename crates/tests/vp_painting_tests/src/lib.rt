@@ -1,5 +1,5 @@
 //! What is painted, through the public calls of the crates below: dots, characters, bar codes, QR symbols
-//! and the page, by outside vectors and by plain bodies that paint dot by dot.
+//! and the page, and files of PNG, by outside vectors and by plain bodies that paint dot by dot.
 #![tactic(auto)]
 
 #[cfg(test)]
@@ -14,6 +14,8 @@ mod elements;
 mod glyph;
 #[cfg(test)]
 mod page;
+#[cfg(test)]
+mod png;
 #[cfg(test)]
 mod qr;
 #[cfg(test)]
