@@ -1,3 +1,4 @@
 pub mod BitWords
 pub mod CodeWords
 pub mod SymbolWords
+pub mod TableWords
