@@ -3,6 +3,7 @@ use Rattle.std.specs.Prelude.{◌≡◌, ℕ, ◌+◌, Bool, true, false, List, 
 use Rattle.vp_inflate.specs.declared.fault.Stop.{Stop}
 use Rattle.vp_inflate.specs.declared.phase.Phase.{Phase}
 use Rattle.vp_inflate.specs.declared.reader.Reader.{Reader}
+use Rattle.vp_inflate.specs.Bits.{Read}
 use Rattle.vp_inflate.specs.Unpacking.{Stand}
 
 -- the reader's place in a stream
@@ -14,10 +15,9 @@ stand reader out = record {
   code = reader.code;
   distance = reader.distance;
   out = out;
-  bits = reader.held;
 }
 
--- what was done is what is said: the new place, or why there is none
-abbrev pub Moves : {X : Type 0} → Result Stand Stop → Result X Stop → Stand → Type 0
-Moves said (Ok x) new = said ≡ Ok new
-Moves said (Err stop) new = said ≡ Err stop
+-- what was done is what is said: the new place and what is left, or why there is none
+abbrev pub Moves : {X : Type 0} → Read Stand → Result X Stop → Stand → List ℕ → Type 0
+Moves said (Ok x) new rest = said ≡ Ok (new, rest)
+Moves said (Err stop) new rest = said ≡ Err stop
