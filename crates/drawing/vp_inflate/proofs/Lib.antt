@@ -2,3 +2,5 @@ pub mod BitWords
 pub mod CodeWords
 pub mod SymbolWords
 pub mod TableWords
+pub mod Rings
+pub mod Readings

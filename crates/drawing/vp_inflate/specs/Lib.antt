@@ -5,4 +5,5 @@ pub mod Tables
 pub mod Pieces
 pub mod Unpacking
 pub mod Phases
+pub mod Windows
 pub mod Standing
