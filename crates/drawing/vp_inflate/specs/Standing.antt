@@ -1,5 +1,5 @@
 -- Where a reader stands, by the bytes that it read.
-use Rattle.std.specs.Prelude.{◌≡◌, ℕ, ◌+◌, Bool, true, false, List, Result, Ok, Err}
+use Rattle.std.specs.Prelude.{◌≡◌, ℕ, ◌+◌, Bool, true, false, List, ◌∷◌, Result, Ok, Err}
 use Rattle.vp_inflate.specs.declared.fault.Stop.{Stop}
 use Rattle.vp_inflate.specs.declared.phase.Phase.{Phase}
 use Rattle.vp_inflate.specs.declared.reader.Reader.{Reader}
@@ -21,3 +21,8 @@ stand reader out = record {
 abbrev pub Moves : {X : Type 0} → Read Stand → Result X Stop → Stand → List ℕ → Type 0
 Moves said (Ok x) new rest = said ≡ Ok (new, rest)
 Moves said (Err stop) new rest = said ≡ Err stop
+
+-- a byte is put out, or why there is none
+abbrev pub Puts : Read Stand → Result ℕ Stop → Reader → List ℕ → Type 0
+Puts said (Ok byte) new out = said ≡ Ok (stand new (byte ∷ out), new.held)
+Puts said (Err stop) new out = said ≡ Err stop
