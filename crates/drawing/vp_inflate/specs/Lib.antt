@@ -7,3 +7,4 @@ pub mod Unpacking
 pub mod Phases
 pub mod Windows
 pub mod Standing
+pub mod Reaching
