@@ -4,3 +4,5 @@ pub mod SymbolWords
 pub mod TableWords
 pub mod Rings
 pub mod Readings
+pub mod ElementReadings
+pub mod Leading

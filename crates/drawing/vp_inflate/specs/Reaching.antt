@@ -1,9 +1,9 @@
 -- What bytes say as a whole, and where the machine stands in them.
-use Rattle.std.specs.Prelude.{◌≡◌, ℕ, ◌+◌, ◌<◌, ◌≤◌, List, [], ◌∷◌, ◌++◌, length, take, drop, reverse, Result, Ok, Err, Option, Some, None}
+use Rattle.std.specs.Prelude.{◌≡◌, ℕ, ◌<◌, ◌≤◌, List, [], ◌∷◌, ◌++◌, length, reverse, Result, Ok, Err, Option, Some, None}
 use Rattle.vp_inflate.specs.declared.fault.Stop.{Stop}
-use Rattle.vp_inflate.specs.declared.fault.Stop.TheVariants.{Short}
+use Rattle.vp_inflate.specs.declared.fault.Stop.TheVariants.{Short, Ended}
 use Rattle.vp_inflate.specs.declared.inflate.Inflate.{Inflate}
-use Rattle.vp_inflate.specs.Bits.{Read, bits_of}
+use Rattle.vp_inflate.specs.Bits.{bits, bits_of}
 use Rattle.vp_inflate.specs.Unpacking.{Stand, start, element, after}
 use Rattle.vp_inflate.specs.Standing.{stand}
 use Rattle.vp_inflate.specs.Windows.{Keeps}
@@ -12,22 +12,30 @@ use Rattle.vp_inflate.specs.Windows.{Keeps}
 abbrev pub Leads : List ℕ → Stand → List ℕ → Type 0
 Leads bytes s rest = (n : ℕ) × (after n start (bits_of bytes) ≡ Ok (s, rest))
 
--- bytes unpack to others, and then reading stops, so many bits before their end
-pub record Unpacks (bytes out : List ℕ) (stop : Stop) (left : ℕ) : Type 0 where
+-- bytes unpack to others, and then reading stops
+pub record Unpacks (bytes out : List ℕ) (stop : Stop) : Type 0 where
   pub place : Stand
   pub rest : List ℕ
   pub out_is : reverse place.out ≡ out
   pub leads : Leads bytes place rest
   pub stops : element place rest ≡ Err stop
-  pub left_is : length rest ≡ left
 
--- the machine took these bytes and put out others: it stands where they lead, whatever follows them, and
--- where it holds a whole byte it needs more of them
+-- and they end with the stream: no byte is left
+pub record Ends (bytes out : List ℕ) : Type 0 where
+  pub unpacks : Unpacks bytes out Ended
+  pub none_left : length unpacks.rest < 8
+
+-- held bits are no whole byte, or the last byte of them was needed
+abbrev pub IsNeeded : Stand → List ℕ → Type 0
+IsNeeded s held = 8 ≤ length held → (before : List ℕ) × (byte : ℕ) × (held ≡ before ++ bits 8 byte) × (element s before ≡ Err Short)
+
+-- the machine took these bytes and put out others: it stands where they lead, whatever follows them
 pub record Stands (machine : Inflate) (taken put : List ℕ) : Type 0 where
   pub out : List ℕ
   pub out_is : reverse out ≡ put
   pub keeps : Keeps machine.window out
   pub leads : (more : List ℕ) → Leads (taken ++ more) (stand machine.reader out) (machine.reader.held ++ bits_of more)
+  pub needed : IsNeeded (stand machine.reader out) machine.reader.held
 
 -- the bytes with one more, or none
 abbrev pub with : Option ℕ → List ℕ → List ℕ
