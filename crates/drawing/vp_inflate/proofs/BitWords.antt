@@ -1,5 +1,5 @@
 -- Bits of numbers.
-use Rattle.std.proofs.Common.{◌≡◌, ℕ, zero, suc, ◌+◌, ◌-◌, ◌*◌, ◌/◌, ◌%◌, ◌^◌, ◌<◌, ◌≤◌, List, [], ◌∷◌, ◌++◌, length, take, drop, Ok, Err, refl, sym, ap, ◌∙◌, arith, lit<, bit_and}
+use Rattle.std.proofs.Common.{◌≡◌, ℕ, zero, suc, ◌+◌, ◌-◌, ◌*◌, ◌/◌, ◌%◌, ◌^◌, ◌<◌, ◌≤◌, List, ◌∷◌, ◌++◌, length, take, drop, Ok, Err, refl, sym, ap, ◌∙◌, arith, lit<, bit_and}
 use Rattle.std.proofs.Math.Nat.{pow-suc, mod-eq_of_lt, lt_of_mul-lt-mul_right, pow-le-pow_right}
 use Rattle.std.proofs.lemmas.Nat.{shr-shr, mod-pow-add, shr_split, pow-add, one_shl, and_mask}
 use Rattle.std.proofs.lemmas.Bool.{lt-ltb, le-ltb}

@@ -1,5 +1,5 @@
 -- Every element is a reading.
-use Rattle.std.proofs.Common.{◌≡◌, ℕ, zero, suc, ◌+◌, ◌-◌, ◌*◌, ◌/◌, ◌%◌, ◌==◌, ◌<◌, ◌≤◌, Bool, true, false, cond, ltb, leb, eqb, not, ◌||◌, List, [], ◌∷◌, ◌++◌, length, replicate, get_or, take, drop, Result, Ok, Err, IfErr, refl, sym, subst, ap, ◌∙◌, arith, lit≤}
+use Rattle.std.proofs.Common.{◌≡◌, ℕ, ◌+◌, ◌-◌, ◌*◌, ◌/◌, ◌%◌, ◌==◌, ◌<◌, ◌≤◌, Bool, true, false, cond, ltb, leb, not, ◌||◌, List, [], ◌∷◌, ◌++◌, length, replicate, get_or, take, drop, Result, Ok, Err, IfErr, refl, sym, subst, ap, ◌∙◌, arith}
 use Rattle.vp_inflate.specs.declared.fault.Stop.{Stop}
 use Rattle.vp_inflate.specs.declared.fault.Stop.TheVariants.{Broken, Short, Ended}
 use Rattle.vp_inflate.specs.declared.fault.Fault.{Fault}
@@ -14,7 +14,7 @@ use Rattle.vp_inflate.specs.Codes.{counts, ordered, symbol_in, symbol_of}
 use Rattle.vp_inflate.specs.Headers.{header_by, header, checksum_at, checksum}
 use Rattle.vp_inflate.specs.Tables.{fixed_literal, fixed_distance, is_complete, is_code, table_at, placed, run_at}
 use Rattle.vp_inflate.specs.Pieces.{copy_at, piece_at}
-use Rattle.vp_inflate.specs.Unpacking.{Stand, behind_block, begun, stored, size_at, ordered_length, codes_of, with_codes, came, with_piece, reaches, checked, after_header, after_block, after_size, after_stored, after_table, after_order, after_lengths, after_symbols, after_copy, after_trailer, after_phase, element}
+use Rattle.vp_inflate.specs.Unpacking.{Stand, begun, stored, size_at, ordered_length, codes_of, with_codes, came, with_piece, reaches, after_header, after_block, after_size, after_stored, after_table, after_order, after_lengths, after_symbols, after_copy, after_trailer, after_phase, element}
 use Rattle.vp_inflate.specs.Standing.{Moves}
 use Rattle.vp_inflate.proofs.CodeWords.{length_counts}
 use Rattle.vp_inflate.proofs.TableWords.{all_within}
@@ -116,8 +116,10 @@ reads_codes literals s = by_codes (codes_of literals s.lengths) refl
   where
     no_fault_short : (f : Fault) × (Short ≡ Broken f) → ⊥
     no_fault_short e = let h = e.1 in cc
+
     no_fault_ended : (f : Fault) × (Ended ≡ Broken f) → ⊥
     no_fault_ended e = let h = e.1 in cc
+
     by_codes : (v : Result (List ℕ × List ℕ) Stop) → codes_of literals s.lengths ≡ v
         → Reads 0 (λ from. v >>= λ both. Ok (record s { phase = Symbols; lengths = []; code = both.0; distance = both.1 }, from))
     by_codes (Ok both) e = reads_nothing (record s { phase = Symbols; lengths = []; code = both.0; distance = both.1 })

@@ -1,5 +1,5 @@
 -- Where bytes lead, element by element.
-use Rattle.std.proofs.Common.{◌≡◌, ℕ, zero, suc, ◌+◌, ◌-◌, ◌*◌, ◌%◌, ◌<◌, ◌≤◌, List, [], ◌∷◌, ◌++◌, length, reverse, Option, Some, None, Result, Ok, Err, refl, sym, ap, subst, ◌∙◌, arith, add-one, append_assoc, length-append}
+use Rattle.std.proofs.Common.{◌≡◌, ℕ, zero, suc, ◌*◌, ◌%◌, ◌<◌, ◌≤◌, List, [], ◌∷◌, ◌++◌, length, reverse, Option, Some, None, Ok, Err, refl, sym, ap, subst, ◌∙◌, arith, append_assoc, length-append}
 use Rattle.std.proofs.lemmas.List.{append-nil}
 use Rattle.std.proofs.lemmas.Grind.{reverse_onto}
 use Rattle.vp_inflate.specs.declared.fault.Stop.{Stop}
@@ -13,7 +13,6 @@ use Rattle.vp_inflate.specs.Standing.{stand}
 use Rattle.vp_inflate.specs.Windows.{Keeps}
 use Rattle.vp_inflate.specs.Reaching.{Leads, Unpacks, Ends, IsNeeded, Stands, with, Advances}
 use Rattle.vp_inflate.proofs.BitWords.{length_bits}
-use Rattle.vp_inflate.proofs.Readings.{Reads}
 use Rattle.vp_inflate.proofs.ElementReadings.{reads_element}
 
 whole_bytes : (bytes : List ℕ) → length (bits_of bytes) ≡ 8 * length bytes
@@ -93,11 +92,13 @@ stands_taken old new t o byte h w s held short = record {
   out_is = h.out_is;
   keeps = subst (λ (v : Window). Keeps v h.out) (sym w) h.keeps;
   leads = λ more.
-      let there = h.leads (byte ∷ more) in
-      (there.0, ap (λ (l : List ℕ). after there.0 start (bits_of l)) (append_assoc t (byte ∷ []) more) ∙ there.1
-      ∙ ap (λ (a : Stand). Ok (a, old.reader.held ++ (bits 8 byte ++ bits_of more))) (sym s)
-      ∙ ap (λ (l : List ℕ). Ok (stand new.reader h.out, l)) (sym (append_assoc old.reader.held (bits 8 byte) (bits_of more)))
-      ∙ ap (λ (l : List ℕ). Ok (stand new.reader h.out, l ++ bits_of more)) (sym held));
+      let there = h.leads (byte ∷ more) in (
+        there.0,
+        ap (λ (l : List ℕ). after there.0 start (bits_of l)) (append_assoc t (byte ∷ []) more) ∙ there.1
+            ∙ ap (λ (a : Stand). Ok (a, old.reader.held ++ (bits 8 byte ++ bits_of more))) (sym s)
+            ∙ ap (λ (l : List ℕ). Ok (stand new.reader h.out, l)) (sym (append_assoc old.reader.held (bits 8 byte) (bits_of more)))
+            ∙ ap (λ (l : List ℕ). Ok (stand new.reader h.out, l ++ bits_of more)) (sym held),
+      );
   needed = λ long. (old.reader.held, byte, held, ap (λ (a : Stand). element a old.reader.held) s ∙ short);
 }
 
@@ -107,9 +108,11 @@ unpacks m t o stop h e = record {
   place = stand m.reader h.out;
   rest = m.reader.held;
   out_is = h.out_is;
-  leads = let there = h.leads [] in
-      (there.0, ap (λ (l : List ℕ). after there.0 start (bits_of l)) (sym (append-nil t)) ∙ there.1
-      ∙ ap (λ (l : List ℕ). Ok (stand m.reader h.out, l)) (append-nil m.reader.held));
+  leads = let there = h.leads [] in (
+    there.0,
+    ap (λ (l : List ℕ). after there.0 start (bits_of l)) (sym (append-nil t)) ∙ there.1
+        ∙ ap (λ (l : List ℕ). Ok (stand m.reader h.out, l)) (append-nil m.reader.held),
+  );
   stops = e;
 }
 
@@ -133,3 +136,38 @@ ends m t o h e = record {
   where
     few : (n : ℕ) → (8 ≤ n → ⊥) → n < 8
     few n h = grind arith
+
+-- where reading stops, it stops in one way
+first_stops : (s : Stand) (from : List ℕ) (k : Stand → List ℕ → Read Stand) (p q : Stand × List ℕ) (a : Stop) → ◌≡◌ {A = Read Stand} (Ok (s, from)) (Ok p) → element p.0 p.1 ≡ Err a
+    → element s from >>= (λ r. k r.0 r.1) ≡ Ok q → ◌≡◌ {A = Read Stand} (Ok p) (Ok q)
+first_stops s from k p q a e u f =
+    let stop : element s from ≡ Err a = ap (λ (w : Read Stand). w >>= λ x. element x.0 x.1) e ∙ u in
+    absurd (no_more a (sym (ap (λ (w : Read Stand). w >>= (λ r. k r.0 r.1)) stop) ∙ f))
+  where
+    no_more : (a : Stop) → ◌≡◌ {A = Read Stand} (Err a) (Ok q) → ⊥
+    no_more a w = cc
+
+abbrev place_of : Stand → Read Stand → Stand
+place_of d (Ok p) = p.0
+place_of d (Err a) = d
+
+same_place : (n m : ℕ) (s : Stand) (from : List ℕ) (p q : Stand × List ℕ) (a b : Stop) → after n s from ≡ Ok p → after m s from ≡ Ok q
+    → element p.0 p.1 ≡ Err a → element q.0 q.1 ≡ Err b → ◌≡◌ {A = Read Stand} (Ok p) (Ok q)
+unfolding after
+same_place zero zero s from p q a b e f u v = sym e ∙ f
+same_place zero (suc m) s from p q a b e f u v = first_stops s from (after m) p q a e u f
+same_place (suc n) zero s from p q a b e f u v = sym (first_stops s from (after n) q p b f v e)
+same_place (suc n) (suc m) s from p q a b e f u v = by_first (element s from) e f (λ r. same_place n m r.0 r.1 p q a b)
+  where
+    by_first : (w : Read Stand) → w >>= (λ r. after n r.0 r.1) ≡ Ok p → w >>= (λ r. after m r.0 r.1) ≡ Ok q
+        → ((r : Stand × List ℕ) → after n r.0 r.1 ≡ Ok p → after m r.0 r.1 ≡ Ok q → element p.0 p.1 ≡ Err a → element q.0 q.1 ≡ Err b → ◌≡◌ {A = Read Stand} (Ok p) (Ok q))
+        → ◌≡◌ {A = Read Stand} (Ok p) (Ok q)
+    by_first (Ok r) i j more = more r i j u v
+    by_first (Err x) i j more = absurd cc
+
+pub one_way : (bytes o r : List ℕ) (a b : Stop) → Unpacks bytes o a → Unpacks bytes r b → (o ≡ r) × (a ≡ b)
+one_way bytes o r a b u v =
+    let same = same_place u.leads.0 v.leads.0 start (bits_of bytes) (u.place, u.rest) (v.place, v.rest) a b u.leads.1 v.leads.1 u.stops v.stops in
+    let outs : reverse u.place.out ≡ reverse v.place.out = ap (λ (w : Read Stand). reverse (place_of u.place w).out) same in
+    let stops : ◌≡◌ {A = Read Stand} (Err a) (Err b) = sym u.stops ∙ ap (λ (w : Read Stand). w >>= λ x. element x.0 x.1) same ∙ v.stops in
+    (sym u.out_is ∙ outs ∙ v.out_is, cc)

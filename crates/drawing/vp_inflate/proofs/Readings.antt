@@ -1,7 +1,7 @@
 -- What every reading of bits has in common.
-use Rattle.std.proofs.Common.{◌≡◌, ℕ, zero, suc, ◌+◌, ◌-◌, ◌%◌, ◌<◌, ◌≤◌, Bool, true, false, cond, ltb, List, [], ◌∷◌, ◌++◌, length, take, drop, Result, Ok, Err, refl, sym, ap, ◌∙◌, arith, length-drop, length-append}
+use Rattle.std.proofs.Common.{◌≡◌, ℕ, ◌+◌, ◌%◌, ◌<◌, ◌≤◌, Bool, true, false, cond, ltb, List, ◌++◌, length, take, drop, Ok, Err, refl, sym, ap, ◌∙◌, arith, length-drop, length-append}
 use Rattle.std.proofs.lemmas.List.{take-append-le, drop-append-le}
-use Rattle.std.proofs.lemmas.Bool.{lt-ltb, le-ltb, ltb-true, ltb-false}
+use Rattle.std.proofs.lemmas.Bool.{le-ltb, ltb-true, ltb-false}
 use Rattle.vp_inflate.specs.declared.fault.Stop.{Stop}
 use Rattle.vp_inflate.specs.declared.fault.Stop.TheVariants.{Short, Broken, Ended}
 use Rattle.vp_inflate.specs.declared.fault.Fault.{Fault}
@@ -168,10 +168,13 @@ reads_number n = record {
   where
     not_broken : (f : Fault) → Broken f ≡ Short → ⊥
     not_broken f e = cc
+
     not_ended : Ended ≡ Short → ⊥
     not_ended e = cc
+
     left_is : (n : ℕ) (from : List ℕ) (x : ℕ) (rest : List ℕ) → number_at n from ≡ Ok (x, rest) → drop n from ≡ rest
     left_is n from x rest e = same_rest (number (take n from)) x (drop n from) rest (sym (number_ok n from (fits n from x rest e)) ∙ e)
+
     value_is : (n : ℕ) (from : List ℕ) (x : ℕ) (rest : List ℕ) → number_at n from ≡ Ok (x, rest) → number (take n from) ≡ x
     value_is n from x rest e = same_value (number (take n from)) x (drop n from) rest (sym (number_ok n from (fits n from x rest e)) ∙ e)
 

@@ -1,5 +1,5 @@
 -- A ring of bytes, and one more.
-use Rattle.std.proofs.Common.{◌≡◌, ◌≢◌, ℕ, zero, suc, ◌+◌, ◌-◌, ◌%◌, ◌<◌, ◌≤◌, List, ◌∷◌, length, min, set, get_or, refl, ap, ◌∙◌, arith, get_or-set_same, get_or-set_other}
+use Rattle.std.proofs.Common.{◌≡◌, ◌≢◌, ℕ, zero, suc, ◌+◌, ◌-◌, ◌%◌, ◌<◌, List, ◌∷◌, length, min, set, get_or, ap, ◌∙◌, arith, get_or-set_same, get_or-set_other}
 
 at_next : (next : ℕ) → next < 32768 → ((next + 1) % 32768 + (32767 - 0)) % 32768 ≡ next
 at_next next h = omega arith

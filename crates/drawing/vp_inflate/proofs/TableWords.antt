@@ -1,5 +1,5 @@
 -- Shares of codes, and tables of numbers.
-use Rattle.std.proofs.Common.{◌≡◌, ℕ, zero, suc, ◌+◌, ◌/◌, ◌^◌, ◌<◌, ◌≤◌, Bool, true, leb, ◌&&◌, List, [], ◌∷◌, length, drop, get_or, arith, lit<, lit≤, ap, ◌∙◌, refl, cond, eqb, false}
+use Rattle.std.proofs.Common.{◌≡◌, ℕ, zero, suc, ◌+◌, ◌/◌, ◌^◌, ◌<◌, ◌≤◌, Bool, true, leb, List, [], ◌∷◌, length, drop, get_or, arith, lit<, ap, ◌∙◌, refl, cond, eqb, false}
 use Rattle.std.specs.List.{list_all}
 use Rattle.std.proofs.Math.Nat.{pow-le-pow_right, div-eq_of_lt}
 use Rattle.std.proofs.lemmas.List.{at_drop_more, at_drop_all}

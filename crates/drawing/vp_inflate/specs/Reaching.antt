@@ -1,5 +1,5 @@
 -- What bytes say as a whole, and where the machine stands in them.
-use Rattle.std.specs.Prelude.{◌≡◌, ℕ, ◌<◌, ◌≤◌, List, [], ◌∷◌, ◌++◌, length, reverse, Result, Ok, Err, Option, Some, None}
+use Rattle.std.specs.Prelude.{◌≡◌, ℕ, ◌<◌, ◌≤◌, List, ◌∷◌, ◌++◌, length, reverse, Result, Ok, Err, Option, Some, None}
 use Rattle.vp_inflate.specs.declared.fault.Stop.{Stop}
 use Rattle.vp_inflate.specs.declared.fault.Stop.TheVariants.{Short, Ended}
 use Rattle.vp_inflate.specs.declared.inflate.Inflate.{Inflate}
@@ -27,14 +27,16 @@ pub record Ends (bytes out : List ℕ) : Type 0 where
 
 -- held bits are no whole byte, or the last byte of them was needed
 abbrev pub IsNeeded : Stand → List ℕ → Type 0
-IsNeeded s held = 8 ≤ length held → (before : List ℕ) × (byte : ℕ) × (held ≡ before ++ bits 8 byte) × (element s before ≡ Err Short)
+IsNeeded s held = 8 ≤ length held →
+    (before : List ℕ) × (byte : ℕ) × (held ≡ before ++ bits 8 byte) × (element s before ≡ Err Short)
 
 -- the machine took these bytes and put out others: it stands where they lead, whatever follows them
 pub record Stands (machine : Inflate) (taken put : List ℕ) : Type 0 where
   pub out : List ℕ
   pub out_is : reverse out ≡ put
   pub keeps : Keeps machine.window out
-  pub leads : (more : List ℕ) → Leads (taken ++ more) (stand machine.reader out) (machine.reader.held ++ bits_of more)
+  pub leads : (more : List ℕ)
+      → Leads (taken ++ more) (stand machine.reader out) (machine.reader.held ++ bits_of more)
   pub needed : IsNeeded (stand machine.reader out) machine.reader.held
 
 -- the bytes with one more, or none
@@ -50,7 +52,8 @@ one (Some byte) = 1
 -- what one element more does to the machine, by the bytes that it put out before
 pub record Advances (old new : Inflate) (out : List ℕ) (byte : Option ℕ) : Type 0 where
   pub keeps : Keeps new.window (with byte out)
-  pub element_is : element (stand old.reader out) old.reader.held ≡ Ok (stand new.reader (with byte out), new.reader.held)
+  pub element_is : element (stand old.reader out) old.reader.held
+      ≡ Ok (stand new.reader (with byte out), new.reader.held)
 
 abbrev pub AdvancesOr : Inflate → Result (Option ℕ) Stop → Inflate → List ℕ → Type 0
 AdvancesOr old (Ok byte) new out = Advances old new out byte

@@ -1,7 +1,6 @@
 -- Where a reader stands, by the bytes that it read.
-use Rattle.std.specs.Prelude.{◌≡◌, ℕ, ◌+◌, Bool, true, false, List, ◌∷◌, Result, Ok, Err}
+use Rattle.std.specs.Prelude.{◌≡◌, ℕ, List, ◌∷◌, Result, Ok, Err}
 use Rattle.vp_inflate.specs.declared.fault.Stop.{Stop}
-use Rattle.vp_inflate.specs.declared.phase.Phase.{Phase}
 use Rattle.vp_inflate.specs.declared.reader.Reader.{Reader}
 use Rattle.vp_inflate.specs.Bits.{Read}
 use Rattle.vp_inflate.specs.Unpacking.{Stand}

@@ -1,5 +1,5 @@
-use Rattle.std.proofs.Common.{◌≡◌, ℕ, ◌+◌, ◌<◌, ◌≤◌, ◌++◌, ◌∷◌, [], List, length, arith, sym, ap, ◌∙◌}
-use Rattle.vp_inflate.specs.Codes.{count, counts, ordered, symbols_from}
+use Rattle.std.proofs.Common.{ℕ, ◌+◌, ◌++◌, ◌∷◌, [], List, length, arith, sym, ap, ◌∙◌}
+use Rattle.vp_inflate.specs.Codes.{counts, symbols_from}
 use Rattle.vp_inflate.proofs.CodeWords.{room_for, ordered_more, counts_more, ordered_none, counts_none}
 use Rattle.vp_inflate.proofs.code.order.Goals as goal
 

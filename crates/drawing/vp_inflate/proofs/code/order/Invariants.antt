@@ -1,4 +1,4 @@
-use Rattle.std.proofs.Common.{◌≡◌, ℕ}
+use Rattle.std.proofs.Common.{◌≡◌}
 use Rattle.arrayvec.specs.ArrayVec.{array_vec_len}
 use Rattle.vp_inflate.specs.Codes.{counts, ordered}
 use Rattle.vp_inflate.proofs.code.order.Given as goal

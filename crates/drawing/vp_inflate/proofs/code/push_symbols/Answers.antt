@@ -1,6 +1,6 @@
-use Rattle.std.proofs.Common.{◌≡◌, ℕ, ◌+◌, ◌<◌, ◌≤◌, ◌++◌, ◌∷◌, [], List, length, drop, get_or, ◌≢◌, arith, sym, ap, ◌∙◌, append_assoc}
+use Rattle.std.proofs.Common.{ℕ, ◌+◌, ◌++◌, ◌∷◌, [], List, drop, get_or, ◌≢◌, arith, sym, ap, ◌∙◌, append_assoc}
 use Rattle.std.proofs.lemmas.List.{append-nil}
-use Rattle.vp_inflate.specs.Codes.{count, symbols_from}
+use Rattle.vp_inflate.specs.Codes.{symbols_from}
 use Rattle.vp_inflate.proofs.CodeWords.{count_yes, count_no, count_none, symbols_yes, symbols_no, symbols_none}
 use Rattle.vp_inflate.proofs.code.push_symbols.Goals as goal
 

@@ -1,6 +1,6 @@
 use Rattle.std.proofs.Common.{◌∙◌, ℕ, rules}
 use Rattle.std.proofs.lemmas.List.FromFn.{fill_by_all}
-use Rattle.vp_inflate.specs.Tables.{fixed_bits, fixed_distance}
+use Rattle.vp_inflate.specs.Tables.{fixed_distance}
 use Rattle.vp_inflate.proofs.table.fixed_distance.Goals as goal
 
 pub returns : goal.returns

@@ -1,5 +1,4 @@
 use Rattle.std.proofs.Common.{◌≡◌, ℕ, ◌<◌, length, get_or}
-use Rattle.vp_inflate.specs.Tables.{fixed_bits}
 use Rattle.vp_inflate.proofs.table.fixed_distance.Given as goal
 
 abbrev pub invariant-loop-symbol : goal.invariant-loop-symbol

@@ -1,10 +1,8 @@
-use Rattle.std.proofs.Common.{◌≡◌, ℕ, ◌+◌, ◌*◌, ◌-◌, ◌^◌, ◌<◌, ◌≤◌, ◌∷◌, [], List, Ok, Err, length, drop, get_or, arith, sym, ap, ◌∙◌, lit<, add-one}
+use Rattle.std.proofs.Common.{◌≡◌, ℕ, ◌+◌, ◌*◌, ◌-◌, ◌^◌, List, Ok, Err, length, drop, get_or, arith, sym, ap, ◌∙◌, lit<, add-one}
 use Rattle.std.proofs.Math.Nat.{pow-suc}
 use Rattle.std.proofs.lemmas.Result.{err_from_is_err_and}
 use Rattle.vp_inflate.specs.declared.fault.Stop.{Stop}
-use Rattle.vp_inflate.specs.Bits.{Read, number_at}
 use Rattle.vp_inflate.specs.Codes.{counts, ordered, symbol_in, symbol_of}
-use Rattle.vp_inflate.proofs.CodeWords.{length_counts}
 use Rattle.vp_inflate.proofs.SymbolWords.{symbol_short, symbol_here, symbol_on, symbol_none}
 use Rattle.vp_inflate.proofs.code.Code.symbol.Goals as goal
 

@@ -1,4 +1,4 @@
-use Rattle.std.proofs.Common.{◌≡◌, ℕ, ◌+◌, ◌*◌, ◌^◌, ◌<◌, ◌≤◌, drop, length}
+use Rattle.std.proofs.Common.{◌≡◌, ◌*◌, ◌^◌, ◌<◌, ◌≤◌, drop, length}
 use Rattle.vp_inflate.specs.Codes.{counts, ordered, symbol_in, symbol_of}
 use Rattle.vp_inflate.proofs.code.Code.symbol.Given as goal
 

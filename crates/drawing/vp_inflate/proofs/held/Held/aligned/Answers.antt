@@ -1,5 +1,5 @@
-use Rattle.std.proofs.Common.{◌∙◌, ◌≤◌, ◌%◌, ◌-◌, ◌^◌, ◌/◌, ap, sym, arith, List, ℕ, length, subst}
-use Rattle.vp_inflate.specs.Bits.{bits, aligned}
+use Rattle.std.proofs.Common.{◌∙◌, ◌%◌, ◌-◌, ◌^◌, ◌/◌, ap, sym, arith, length}
+use Rattle.vp_inflate.specs.Bits.{aligned}
 use Rattle.vp_inflate.proofs.BitWords.{length_bits, within_drop, aligned_held}
 use Rattle.vp_inflate.proofs.held.Held.aligned.Goals as goal
 
@@ -12,6 +12,6 @@ pub returns-clause-value : goal.returns-clause-value
 returns-clause-value c = sym (aligned_held c.self.inside.count c.self.inside.hold) ∙ ap aligned c.self.view_is
 
 pub returns-clause-within : goal.returns-clause-within
-returns-clause-within c = 
+returns-clause-within c =
     let s = c.self.inside in
     omega (arith, length_bits (s.count - s.count % 8) (s.hold / 2 ^ (s.count % 8)), length_bits s.count s.hold, ap length c.self.view_is)

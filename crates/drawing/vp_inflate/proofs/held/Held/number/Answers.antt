@@ -1,4 +1,4 @@
-use Rattle.std.proofs.Common.{◌∙◌, ◌≤◌, ◌%◌, ◌^◌, ◌-◌, ◌/◌, ap, sym, arith, List, ℕ, Ok, length}
+use Rattle.std.proofs.Common.{◌∙◌, ◌^◌, ◌-◌, ◌/◌, ap, sym, arith, ℕ, Ok, length}
 use Rattle.std.proofs.Math.Nat.{mod-lt}
 use Rattle.std.proofs.lemmas.Nat.{pow_pos}
 use Rattle.vp_inflate.specs.Bits.{bits, number_at}

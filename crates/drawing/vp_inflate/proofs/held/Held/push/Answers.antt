@@ -1,4 +1,4 @@
-use Rattle.std.proofs.Common.{◌≡◌, ◌∙◌, ◌≤◌, ◌<◌, ◌+◌, ◌*◌, ◌^◌, ◌%◌, ◌++◌, ap, sym, arith, List, ℕ, length, subst}
+use Rattle.std.proofs.Common.{◌∙◌, ◌≤◌, ◌+◌, ◌++◌, ap, sym, arith, List, ℕ, length}
 use Rattle.vp_inflate.specs.Bits.{bits}
 use Rattle.vp_inflate.proofs.BitWords.{length_bits, bits_more, byte_above, above_within, above_fits}
 use Rattle.vp_inflate.proofs.held.Held.push.Goals as goal

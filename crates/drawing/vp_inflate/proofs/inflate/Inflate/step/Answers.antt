@@ -1,14 +1,13 @@
-use Rattle.std.proofs.Common.{◌≡◌, ℕ, ◌+◌, ◌-◌, ◌*◌, ◌<◌, ◌≤◌, ◌++◌, ◌∷◌, [], List, length, take, drop, get_or, set, Option, Some, None, is_some, Bool, true, false, length-set, length-append, Err, refl, sym, ap, subst, ◌∙◌, arith, append_assoc}
+use Rattle.std.proofs.Common.{◌≡◌, ℕ, ◌+◌, ◌<◌, ◌++◌, ◌∷◌, [], List, length, take, drop, get_or, Option, Some, None, is_some, true, false, length-set, length-append, Err, sym, ap, subst, ◌∙◌, arith, append_assoc}
 use Rattle.std.proofs.lemmas.List.{append-nil, take_more, take_more_set, drop-set-lt, drop-drop}
 use Rattle.vp_inflate.specs.declared.fault.Stop.{Stop}
 use Rattle.vp_inflate.specs.declared.fault.Fault.{Fault}
-use Rattle.vp_inflate.specs.declared.fault.Stop.TheVariants.{Short, Ended, Broken}
+use Rattle.vp_inflate.specs.declared.fault.Stop.TheVariants.{Short, Broken}
 use Rattle.vp_inflate.specs.declared.inflate.Inflate.{Inflate}
 use Rattle.vp_inflate.specs.Bits.{bits}
 use Rattle.vp_inflate.specs.Phases.{puts}
-use Rattle.vp_inflate.specs.Unpacking.{element}
 use Rattle.vp_inflate.specs.Standing.{stand}
-use Rattle.vp_inflate.specs.Reaching.{Stands, Advances, Unpacks}
+use Rattle.vp_inflate.specs.Reaching.{Stands, Advances}
 use Rattle.vp_inflate.proofs.BitWords.{length_bits}
 use Rattle.vp_inflate.proofs.Leading.{stands_on, stands_taken, unpacks, unpacks_broken, ends}
 use Rattle.vp_inflate.proofs.inflate.Inflate.step.Goals as goal
@@ -39,8 +38,9 @@ loop-put-preserved-in-Ok-Some c =
     let byte = c.in-Ok-Some.byte in
     let some : true ≡ puts c.loop-put.self.reader.phase = ap is_some (sym c.in-Ok-Some.field-0-is) ∙ c.in-Ok-Some.ensures.puts in
     let lt : put < length output = elim c.else-put-output.branch [
-      else-put-output-via-then-put-output+else-puts w ↦ absurd (not_false (some ∙ sym w.puts.ensures ∙ w.if-puts.false))
-      | else-put-output-via-else-put-output w ↦ omega (arith, c.loop-put.invariant.put) ] in
+      | else-put-output-via-then-put-output+else-puts w ↦ absurd (not_false (some ∙ sym w.puts.ensures ∙ w.if-puts.false))
+      | else-put-output-via-else-put-output w ↦ omega (arith, c.loop-put.invariant.put)
+    ] in
     record {
       stands = λ t o h.
           let old = c.loop-put.self in

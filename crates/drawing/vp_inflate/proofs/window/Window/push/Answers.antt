@@ -1,6 +1,5 @@
-use Rattle.std.proofs.Common.{◌≡◌, ℕ, ◌+◌, ◌%◌, ◌∷◌, length, min, List, ap, ◌∙◌, arith, subst, sym}
+use Rattle.std.proofs.Common.{◌≡◌, ℕ, ◌+◌, ◌%◌, ◌∷◌, List, ap, ◌∙◌, arith}
 use Rattle.vp_inflate.specs.Headers.{low_sum, high_sum}
-use Rattle.vp_inflate.specs.Windows.{Keeps}
 use Rattle.vp_inflate.proofs.Rings.{ring_more}
 use Rattle.vp_inflate.proofs.window.Window.push.Goals as goal
 
