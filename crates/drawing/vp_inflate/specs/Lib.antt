@@ -3,6 +3,7 @@ pub mod Codes
 pub mod Headers
 pub mod Tables
 pub mod Pieces
+pub mod Ranges
 pub mod Unpacking
 pub mod Phases
 pub mod Windows
