@@ -3,6 +3,7 @@ use Rattle.std.proofs.Common.{◌≡◌, ℕ, ◌+◌, ◌-◌, ◌<◌, ◌≤�
 use Rattle.std.proofs.lemmas.Grind.{common_steps}
 use Rattle.std.proofs.lemmas.Bool.Decides.{nat_tests}
 use Rattle.std.proofs.lemmas.List.{length_push}
+use Rattle.vp_esc.specs.declared.reading.Reading.{Reading}
 use Rattle.vp_esc.specs.declared.item.Lead.{Lead}
 use Rattle.vp_esc.specs.declared.command.Command.{Command}
 use Rattle.vp_esc.specs.Command.{head_len, is_listed}
@@ -47,14 +48,14 @@ unfolding given_by
 given_is lead name k args h = let m : ltb (length args) (head_len k args) ≡ false = grind (arith, nat_tests) in rw m refl
 
 -- One more byte of counted data.
-pub record IsPushed (k : Command) (args : List ℕ) (left c : ℕ) : Type 0 where
-  pub listed : is_listed k (args ++ c ∷ []) ≡ true
+pub record IsPushed (reading : Reading) (k : Command) (args : List ℕ) (left c : ℕ) : Type 0 where
+  pub listed : is_listed reading k (args ++ c ∷ []) ≡ true
   pub counted : is_counted k (args ++ c ∷ []) ≡ true
   pub needs : needs_more k (args ++ c ∷ []) ≡ ltb 0 (left - 1)
   pub rows : prints_rows k (args ++ c ∷ []) ≡ prints_rows k args
   pub skipped : is_skipped k (args ++ c ∷ []) ≡ is_skipped k args
   pub left_is : 1 < left → HasLeft k (args ++ c ∷ []) (left - 1)
 
-pub pushed : (k : Command) (args : List ℕ) (left c : ℕ) → is_listed k args ≡ true → is_counted k args ≡ true → HasLeft k args left
-    → IsPushed k args left c
+pub pushed : {reading : Reading} (k : Command) (args : List ℕ) (left c : ℕ) → is_listed reading k args ≡ true → is_counted k args ≡ true → HasLeft k args left
+    → IsPushed reading k args left c
 pushed k args left c l e h = grind (arith, common_steps, length_push, needs_counted, nat_tests)

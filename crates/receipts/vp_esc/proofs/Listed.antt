@@ -1,5 +1,5 @@
 -- The lines of a unit list its bytes.
-use Rattle.std.proofs.Common.{◌≡◌, ℕ, ◌+◌, ◌-◌, ◌*◌, ◌<◌, ◌≤◌, true, false, Option, Some, None, List, [], ◌∷◌, ◌++◌, length, get_or, refl, sym, ap, ◌∙◌, arith}
+use Rattle.std.proofs.Common.{◌≡◌, ℕ, ◌+◌, ◌-◌, ◌*◌, ◌<◌, ◌≤◌, eqb, true, false, Option, Some, None, List, [], ◌∷◌, ◌++◌, length, get_or, refl, sym, ap, ◌∙◌, arith}
 use Rattle.std.proofs.lemmas.Grind.{common_steps}
 use Rattle.std.specs.Prelude.{map, codes}
 use Rattle.std.specs.List.{AllByRecursion}
@@ -16,7 +16,7 @@ use Rattle.vp_esc.specs.declared.item.ColumnMode.{ColumnMode}
 use Rattle.vp_esc.specs.declared.item.ColumnMode.TheVariants.{Single24, Double24}
 use Rattle.vp_esc.specs.declared.command.Command.TheVariants.{Plain, Columns, Raster, Symbol, Graphics}
 use Rattle.vp_esc.specs.declared.command.Plain.{Plain as PlainCommand}
-use Rattle.vp_esc.specs.Values.{spelled, column_mode_of, column_bytes, scale_of}
+use Rattle.vp_esc.specs.Values.{spelled, is_column_mode, column_mode_of, column_bytes, scale_of}
 use Rattle.vp_esc.specs.Units.{needs_more, plain_item, stops_item, tall_columns, columns, raster_bytes, symbol_data, symbol_unit, given_behind}
 use Rattle.vp_esc.specs.Laws.{all_bytes}
 use Rattle.vp_esc.specs.Lines.{lead_word, two_bytes, symbol_bytes, line_of}
@@ -105,9 +105,10 @@ columns_listed mode bytes n e =
     let lines = single_lines items.Column8 (codes "column") bytes (λ b. refl) in
     record { parts = singles bytes; bytes_are = sym (all_singles bytes); lines_are = lines }
 
-pub columns_list : (args : List ℕ) → IsColumns args → IsBytes args → Lists Esc (0x2A ∷ args) (map line_of (given_behind Esc 0x2A Columns args))
+pub columns_list : (args : List ℕ) → IsColumns args → is_column_mode (get_or args 0 0) ≡ true → IsBytes args → Lists Esc (0x2A ∷ args) (map line_of (given_behind Esc 0x2A Columns args))
 unfolding given_behind
-columns_list args h b =
+columns_list args h mode b =
+    let mode_is : is_column_mode h.m ≡ true = rw h.bytes at mode in
     let parts = columns_listed (column_mode_of h.m) h.columns (h.nl + 256 * h.nh) h.count in
     rw h.bytes (part_lines Esc (0x2A ∷ h.m ∷ h.nl ∷ h.nh ∷ []) (codes "column") (0x2A ∷ h.m ∷ h.nl ∷ h.nh ∷ h.columns) parts.parts
     (items.Columns (column_mode_of h.m) (h.nl + 256 * h.nh)) (columns (column_mode_of h.m) h.columns)
@@ -122,17 +123,18 @@ by_scale head dots m w n (Some scale) s e =
     (ap (λ (t : List ℕ). head ++ t) (sym (all_singles dots))) e
     (single_lines items.RasterByte _ dots (λ b. refl))
 
-pub raster_list : (args : List ℕ) → IsRaster args → IsBytes args → Lists Gs (0x76 ∷ args) (map line_of (given_behind Gs 0x76 Raster args))
+pub raster_list : (args : List ℕ) → IsRaster args → eqb (get_or args 0 0) 0x30 ≡ true → IsBytes args → Lists Gs (0x76 ∷ args) (map line_of (given_behind Gs 0x76 Raster args))
 unfolding given_behind
-raster_list args h b =
-    rw h.bytes (by_scale (0x76 ∷ 0x30 ∷ h.m ∷ h.xl ∷ h.xh ∷ h.yl ∷ h.yh ∷ []) h.dots h.m (h.xl + 256 * h.xh) (h.yl + 256 * h.yh) (scale_of h.m) refl
+raster_list args h z b =
+    let zero : h.zero ≡ 0x30 = eqb-true h.zero 0x30 (rw h.bytes at z) in
+    rw (h.bytes, zero) (by_scale (0x76 ∷ 0x30 ∷ h.m ∷ h.xl ∷ h.xh ∷ h.yl ∷ h.yh ∷ []) h.dots h.m (h.xl + 256 * h.xh) (h.yl + 256 * h.yh) (scale_of h.m) refl
     (grind (arith, two_is)))
 
 pub graphics_list : (args : List ℕ) → IsGraphics args → Lists Gs (0x38 ∷ args) (map line_of (given_behind Gs 0x38 Graphics args))
 unfolding given_behind
 graphics_list args h =
-    rw h.bytes (front_line Gs (0x38 ∷ 0x4C ∷ h.p1 ∷ h.p2 ∷ h.p3 ∷ h.p4 ∷ []) h.parameters (0x38 ∷ 0x4C ∷ h.p1 ∷ h.p2 ∷ h.p3 ∷ h.p4 ∷ h.parameters)
-    (items.WithoutEffect Gs (record { items = 0x38 ∷ 0x4C ∷ h.p1 ∷ h.p2 ∷ h.p3 ∷ h.p4 ∷ [] })) refl refl refl)
+    rw h.bytes (front_line Gs (0x38 ∷ h.x ∷ h.p1 ∷ h.p2 ∷ h.p3 ∷ h.p4 ∷ []) h.parameters (0x38 ∷ h.x ∷ h.p1 ∷ h.p2 ∷ h.p3 ∷ h.p4 ∷ h.parameters)
+    (items.WithoutEffect Gs (record { items = 0x38 ∷ h.x ∷ h.p1 ∷ h.p2 ∷ h.p3 ∷ h.p4 ∷ [] })) refl refl refl)
 
 -- up to 255 bytes of data are kept
 symbol_line : (kind : ℕ) (bytes : List ℕ) → length bytes ≤ 255 → line_of (symbol_unit kind bytes) ≡ listed (codes "gs") (symbol_bytes kind bytes)

@@ -1,16 +1,19 @@
 //! The commands by their first two bytes, and how many arguments they have.
 ghost use Rattle.std.specs.Prelude.{◌≡◌, ◌≤◌, ◌<◌, ◌∷◌, length, slice_index};
-ghost use Rattle.vp_esc.specs.Command.{lead_of, lead_byte, command_of, esc_command, gs_command, fs_command};
-ghost use Rattle.vp_esc.specs.Command.{dle_command, count_of, has_second as has_second_as, plain_len};
-ghost use Rattle.vp_esc.specs.Command.{head_len, lists};
+ghost use Rattle.vp_esc.specs.Command.{lead_of, lead_byte, command_of, profile_command, added_command};
+ghost use Rattle.vp_esc.specs.Command.{esc_command, gs_command, fs_command, dle_command};
+ghost use Rattle.vp_esc.specs.Command.{esc_added, gs_added, fs_added};
+ghost use Rattle.vp_esc.specs.Command.{count_of, has_feed as has_feed_as, has_second as has_second_as, plain_len};
+ghost use Rattle.vp_esc.specs.Command.{head_len, lists, has as has_as, adds as adds_as};
 ghost use Rattle.vp_esc.specs.Units.{alone_item, of_byte_item, of_word_item, cut_item as cut_item_as};
 ghost use Rattle.vp_esc.specs.Units.{plain_item};
 
-use crate::item::{EscItem, Lead};
+use crate::item::{EscItem, HEAD_BYTES, Lead};
+use crate::reading::Reading;
 use crate::value::{
-    bit, cut_of, direction_of, font_of, hri_position_of, is_column_mode, is_cut, is_feed_cut,
-    is_kind_counted, is_kind_to_zero, justification_of, magnification_of, print_mode_of, spelled,
-    underline_of, word,
+    bit, cut_of, direction_of, font_of, hri_position_of, is_added_kind, is_column_mode, is_cut,
+    is_feed_cut, is_kind_counted, is_kind_to_zero, is_other_cut, justification_of,
+    magnification_of, print_mode_of, spelled, underline_of, word,
 };
 use arrayvec::ArrayVec;
 
@@ -78,7 +81,7 @@ pub enum Plain {
     Area,
     /// GS V
     Cut,
-    /// ESC c 3, 4 and 5, without effect.
+    /// ESC c, without effect.
     Sensor,
     /// DLE EOT, without effect.
     RealTime,
@@ -100,7 +103,7 @@ pub enum Command {
     Symbol,
     /// GS (
     Function,
-    /// GS 8 L
+    /// GS 8
     Graphics,
 }
 
@@ -131,14 +134,39 @@ impl Lead {
 
 #[tactic(auto, unfolding(crate::specs::Command::command_of))]
 impl Command {
-    pub fn of(lead: Lead, byte: u8) -> Option<Command>
-        ensures { result ≡ command_of lead byte }
+    pub fn of(reading: Reading, lead: Lead, byte: u8) -> Option<Command>
+        ensures { result ≡ command_of reading lead byte }
+    {
+        match Command::of_profile(lead, byte) {
+            None => match reading {
+                Reading::Profile => None,
+                Reading::Whole => Command::added(lead, byte),
+            },
+            known => known,
+        }
+    }
+
+    /// The commands of the profile.
+    fn of_profile(lead: Lead, byte: u8) -> Option<Command>
+        ensures { result ≡ profile_command lead byte }
     {
         match lead {
             Lead::Esc => Command::after_esc(byte),
             Lead::Gs => Command::after_gs(byte),
             Lead::Fs => Command::after_fs(byte),
             Lead::Dle => Command::after_dle(byte),
+        }
+    }
+
+    /// The commands that the whole language adds.
+    fn added(lead: Lead, byte: u8) -> Option<Command>
+        ensures { result ≡ added_command lead byte }
+    {
+        match lead {
+            Lead::Esc => Command::added_to_esc(byte),
+            Lead::Gs => Command::added_to_gs(byte),
+            Lead::Fs => Command::added_to_fs(byte),
+            Lead::Dle => None,
         }
     }
 
@@ -226,6 +254,43 @@ impl Command {
         }
     }
 
+    fn added_to_esc(byte: u8) -> Option<Command>
+        ensures { result ≡ esc_added byte }
+    {
+        let arguments = match byte {
+            0x3C | 0x6F | 0x71 | 0x76 => Arguments::None,
+            0x46 | 0x4B | 0x65 | 0x75 | 0x7A => Arguments::One,
+            0x66 => Arguments::Two,
+            _ => return None,
+        };
+        Some(Command::Plain(Plain::Unused(arguments)))
+    }
+
+    fn added_to_gs(byte: u8) -> Option<Command>
+        ensures { result ≡ gs_added byte }
+    {
+        let arguments = match byte {
+            0x0C | 0x3A | 0x3C | 0x63 => Arguments::None,
+            0x2F | 0x45 | 0x54 | 0x6A => Arguments::One,
+            0x41 => Arguments::Two,
+            0x5E => Arguments::Three,
+            _ => return None,
+        };
+        Some(Command::Plain(Plain::Unused(arguments)))
+    }
+
+    fn added_to_fs(byte: u8) -> Option<Command>
+        ensures { result ≡ fs_added byte }
+    {
+        let arguments = match byte {
+            0x63 => Arguments::None,
+            0x62 => Arguments::One,
+            0x3F => Arguments::Two,
+            _ => return None,
+        };
+        Some(Command::Plain(Plain::Unused(arguments)))
+    }
+
     /// How many arguments come before any data, as far as these tell.
     pub fn head_len(self, args: &[u8]) -> usize
         ensures { result ≡ head_len self args.now }
@@ -241,8 +306,18 @@ impl Command {
     }
 
     /// Whether the table has the command with this first argument, which may be a part of its name.
-    pub fn lists(self, first: u8) -> bool
-        ensures { result ≡ lists self first }
+    pub fn lists(self, reading: Reading, first: u8) -> bool
+        ensures { result ≡ lists reading self first }
+    {
+        match reading {
+            Reading::Profile => self.has(first),
+            Reading::Whole => self.has(first) || self.adds(first),
+        }
+    }
+
+    /// Whether it has this first argument in each reading.
+    fn has(self, first: u8) -> bool
+        ensures { result ≡ has_as self first }
     {
         match self {
             Command::Plain(Plain::Cut) => is_cut(first) || is_feed_cut(first),
@@ -252,6 +327,19 @@ impl Command {
             Command::Symbol => is_kind_to_zero(first) || is_kind_counted(first),
             Command::Graphics => first == 0x4C,
             _ => true,
+        }
+    }
+
+    /// Whether the whole language adds this first argument.
+    fn adds(self, first: u8) -> bool
+        ensures { result ≡ adds_as self first }
+    {
+        match self {
+            Command::Plain(Plain::Cut) => is_other_cut(first),
+            Command::Plain(Plain::Sensor) => first == 0x30 || first == 0x31,
+            Command::Symbol => is_added_kind(first),
+            Command::Graphics => true,
+            _ => false,
         }
     }
 }
@@ -279,7 +367,7 @@ impl Plain {
             Plain::OfByte(_) => 1,
             Plain::OfWord(_) => 2,
             Plain::Area => 8,
-            Plain::Cut => if is_feed_cut(first(args)) { 2 } else { 1 },
+            Plain::Cut => if has_feed(first(args)) { 2 } else { 1 },
             Plain::Sensor => 2,
             Plain::RealTime => if has_second(first(args)) { 2 } else { 1 },
             Plain::Unused(arguments) => arguments.count(),
@@ -301,11 +389,13 @@ impl Plain {
                 width: word(args[4], args[5]),
                 height: word(args[6], args[7]),
             },
-            Plain::Cut => *item = cut_item(args),
-            Plain::Sensor | Plain::RealTime | Plain::Unused(_) => *item = EscItem::WithoutEffect {
-                lead,
-                bytes: unused(name, args),
-            },
+            Plain::Cut if !is_other_cut(args[0]) => *item = cut_item(args),
+            Plain::Cut | Plain::Sensor | Plain::RealTime | Plain::Unused(_) => {
+                *item = EscItem::WithoutEffect {
+                    lead,
+                    bytes: unused(name, args),
+                };
+            }
         }
     }
 }
@@ -386,8 +476,8 @@ fn cut_item(args: &[u8]) -> EscItem
 }
 
 /// The bytes after the lead of a command without effect.
-pub fn unused(name: u8, args: &[u8]) -> ArrayVec<u8, 6>
-    requires { length args.now ≤ 5 }
+pub fn unused(name: u8, args: &[u8]) -> ArrayVec<u8, HEAD_BYTES>
+    requires { length args.now < HEAD_BYTES }
     ensures { result.items ≡ name ∷ args.now }
 {
     let mut bytes = ArrayVec::new();
@@ -404,6 +494,13 @@ fn first(args: &[u8]) -> u8
         [] => 0,
         [first, ..] => *first,
     }
+}
+
+/// Whether GS V m has one more argument.
+fn has_feed(m: u8) -> bool
+    ensures { result ≡ has_feed_as m }
+{
+    is_feed_cut(m) || is_other_cut(m)
 }
 
 /// Whether DLE EOT n has one more argument.
