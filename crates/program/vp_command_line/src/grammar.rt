@@ -33,6 +33,14 @@ fn width<'a>(alloc: Global) -> Arg<'a> {
         .help("Width of the paper")
 }
 
+/// Whether all commands of receipts are read.
+fn whole<'a>(alloc: Global) -> Arg<'a> {
+    Arg::new(alloc, "whole")
+        .long("whole")
+        .action(ArgAction::SetTrue)
+        .help("Read all commands of receipts, and past unknown ones, where else they are a fault")
+}
+
 /// The file of a sheet.
 fn sheet<'a>(alloc: Global, name: &'a str, help: &'a str) -> Arg<'a> {
     Arg::new(alloc, name)
@@ -79,6 +87,7 @@ fn receipt<'a>(alloc: Global) -> Result<Command<'a>, AllocError> {
     Command::new(alloc, "receipt")
         .about("Prints a receipt (ESC/POS)")
         .arg(width(alloc))?
+        .arg(whole(alloc))?
         .arg(font_a(alloc))?
         .arg(font_b(alloc))?
         .arg(file(alloc))
@@ -95,6 +104,7 @@ fn list<'a>(alloc: Global) -> Result<Command<'a>, AllocError> {
     Command::new(alloc, "list")
         .about("Lists the commands of a stream, a line for each")
         .arg(lang(alloc))?
+        .arg(whole(alloc))?
         .arg(offsets(alloc))?
         .arg(file(alloc))
 }

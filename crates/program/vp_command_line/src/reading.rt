@@ -12,7 +12,7 @@ fn printed_receipt<'a>(words: &ArgMatches<'a>) -> Stream<'a> {
             a: words.get_str("font-a"),
             b: words.get_str("font-b"),
         }),
-        language: language_of_width(words.get_str("width")),
+        language: language_of_width(words.get_str("width"), words.get_flag("whole")),
         file: words.get_str("FILE"),
     }
 }
@@ -33,7 +33,7 @@ fn printed_labels<'a>(words: &ArgMatches<'a>) -> Stream<'a> {
 fn listed<'a>(words: &ArgMatches<'a>) -> Stream<'a> {
     Stream {
         task: listing(words.get_flag("offsets")),
-        language: language_named(words.get_str("lang")),
+        language: language_named(words.get_str("lang"), words.get_flag("whole")),
         file: words.get_str("FILE"),
     }
 }
@@ -69,11 +69,21 @@ pub fn order_of<'a, S: AsStr>(
     }
 }
 
-/// Receipts on paper of this width.
-fn language_of_width(width: Option<&str>) -> Language {
+/// Receipts on paper of this width, by all commands or by those of the profile.
+fn language_of_width(width: Option<&str>, whole: bool) -> Language {
     match width {
+        Some("384") if whole => Language::WholeReceipt58,
         Some("384") => Language::Receipt58,
-        _ => Language::Receipt,
+        _ => receipts(whole),
+    }
+}
+
+/// Receipts on the wider paper.
+fn receipts(whole: bool) -> Language {
+    if whole {
+        Language::WholeReceipt
+    } else {
+        Language::Receipt
     }
 }
 
@@ -86,10 +96,11 @@ fn listing<'a>(offsets: bool) -> Task<'a> {
     }
 }
 
-/// The language of this name, one of those that can be listed.
-fn language_named(name: Option<&str>) -> Language {
+/// The language of this name, one of those that can be listed. Labels have no profile: all their commands are
+/// read.
+fn language_named(name: Option<&str>, whole: bool) -> Language {
     match name {
         Some("label") => Language::Label,
-        _ => Language::Receipt,
+        _ => receipts(whole),
     }
 }

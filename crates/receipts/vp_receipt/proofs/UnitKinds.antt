@@ -2,6 +2,7 @@
 use Rattle.std.proofs.Common.{◌≡◌, ℕ, ◌*◌, ◌≤◌, Bool, false, nat_lt, nat_le, List, [], ◌∷◌, length, map, Option, ◌⊎◌, slice_index, refl, arith, length-drop}
 use Rattle.std.specs.List.{AllByRecursion}
 use Rattle.std.proofs.lemmas.Bool.{ltb-false}
+use Rattle.vp_esc.specs.declared.reading.Reading.{Reading}
 use Rattle.vp_esc.specs.declared.command.Command.{Command}
 use Rattle.vp_esc.specs.declared.item.ColumnMode.TheVariants.{Single8}
 use Rattle.vp_esc.specs.declared.item.EscItem.{EscItem}
@@ -64,6 +65,6 @@ behind : (lead : Lead) (name : ℕ) (command : Command) (args : List ℕ) → na
 unfolding given_behind needs_more
 behind lead name command args h = grind (arith, other, slice_index, none, more, columns8, columns24, ltb-false, length-drop, qr_other)
 
-pub kinds : (bytes : List ℕ) → Kind (given bytes) (is_unfinished bytes)
+pub kinds : (reading : Reading) (bytes : List ℕ) → Kind (given reading bytes) (is_unfinished reading bytes)
 unfolding given is_unfinished given_by
-kinds bytes = grind (arith, none, other, nat_lt, behind)
+kinds reading bytes = grind (arith, none, other, more, nat_lt, behind)
