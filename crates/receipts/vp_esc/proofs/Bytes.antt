@@ -1,23 +1,25 @@
 -- Data of a known length.
-use Rattle.std.proofs.Common.{◌≡◌, ℕ, ◌+◌, ◌-◌, ◌*◌, true, false, ltb, eqb, Some, Ok, List, [], ◌∷◌, ◌++◌, length, get_or, refl, sym, ap, subst, ◌∙◌, append_assoc, arith}
+use Rattle.std.proofs.Common.{◌≡◌, ℕ, ◌+◌, ◌-◌, ◌*◌, ◌≤◌, true, false, ltb, eqb, Some, Ok, List, [], ◌∷◌, ◌++◌, length, take, get_or, refl, sym, ap, subst, ◌∙◌, append_assoc, arith}
 use Rattle.std.proofs.lemmas.Grind.{common_steps}
 use Rattle.std.proofs.lemmas.Bool.Decides.{nat_tests}
+use Rattle.std.proofs.lemmas.List.{take_all, take-append-le, length-append}
 use Rattle.arrayvec.specs.ArrayVec.{ArrayVec}
 use Rattle.vp_esc.specs.declared.item.EscItem.{EscItem}
 use Rattle.vp_esc.specs.declared.item.EscItem.TheVariants as items
 use Rattle.vp_esc.specs.declared.item.Lead.{Lead}
 use Rattle.vp_esc.specs.declared.command.Command.{Command}
-use Rattle.vp_esc.specs.declared.command.Command.TheVariants.{Raster, Function, Graphics}
+use Rattle.vp_esc.specs.declared.command.Command.TheVariants.{Raster, Function, Graphics, ReadPast}
+use Rattle.vp_esc.specs.declared.command.ReadPast.{ReadPast as ReadPastCommand}
 use Rattle.vp_esc.specs.declared.reader.EscReader.{EscReader}
 use Rattle.vp_esc.specs.declared.reader.Data.{Data}
 use Rattle.vp_esc.specs.declared.reader.Data.TheVariants as kinds
 use Rattle.vp_esc.specs.declared.reader.Phase.TheVariants as phases
 use Rattle.vp_esc.specs.Values.{spelled, scale_of}
-use Rattle.vp_esc.specs.Command.{head_len}
-use Rattle.vp_esc.specs.Units.{given_by, given_behind, is_counted, data_len, raster_bytes, unused, prints_rows, is_skipped, stores_bytes}
+use Rattle.vp_esc.specs.Command.{head_len, past_len}
+use Rattle.vp_esc.specs.Units.{given_by, given_behind, is_counted, data_len, past_data, raster_bytes, unused, prints_rows, is_skipped, stores_bytes}
 use Rattle.vp_esc.specs.Reader.{StandsIn, in_phase, Begun, Advances, Lands, InBytes, data_item, data_items, bytes_or_ground, raster_data, are_rows, give_nothing, are_stored}
 use Rattle.vp_esc.proofs.Fronts.{lands_by, advances_by, stands_before, begun_longer}
-use Rattle.vp_esc.proofs.Heads.{given_is, needs_counted, IsPushed, pushed}
+use Rattle.vp_esc.proofs.Heads.{given_is, needs_counted, IsSame, same, IsPushed, pushed}
 
 -- The head, behind which so many bytes come.
 pub land_bytes : (r : EscReader) (command : Command) (kind : Data) (left : ℕ) (rest : List ℕ) (item : EscItem) (final : ArrayVec ℕ)
@@ -113,3 +115,29 @@ land_graphics r l p q s t left rest b k e =
     land_bytes r Graphics kinds.Skipped left rest (unused r.lead r.name r.kept.items) r.kept b (rw k refl) refl (rw k e) refl refl (λ more. refl)
     (rw k (grind (arith, given_is)))
     (λ more. rw k (grind (arith, given_is)))
+
+-- Commands that are read past.
+
+-- their head stays
+pub past_front : (past : ReadPastCommand) (args more : List ℕ) → past_len past args ≤ length args
+    → take (past_len past (args ++ more)) (args ++ more) ≡ take (past_len past args) args
+past_front past args more h =
+    let s : IsSame (ReadPast past) args more = same (ReadPast past) args more refl h in
+    rw s.head (take-append-le (past_len past args) args more h)
+
+pub land_past : (r : EscReader) (past : ReadPastCommand) (left : ℕ) (rest : List ℕ) → Begun r.reading r.lead r.name (ReadPast past) r.kept.items rest
+    → length r.kept.items ≡ past_len past r.kept.items → left ≡ past_data past r.kept.items
+    → Lands r.reading (Some (unused r.lead r.name r.kept.items)) rest (record r { phase = bytes_or_ground kinds.Skipped left })
+unfolding given_behind
+land_past r past left rest b enough e =
+    let all : take (past_len past r.kept.items) r.kept.items ≡ r.kept.items = take_all (past_len past r.kept.items) r.kept.items (omega arith) in
+    let behind : (more : List ℕ) → given_by r.lead r.name (ReadPast past) (r.kept.items ++ more) ≡ unused r.lead r.name r.kept.items ∷ [] =
+    λ more. given_is r.lead r.name (ReadPast past) (r.kept.items ++ more) (past_within past r.kept.items more (omega arith))
+    ∙ ap (λ xs. unused r.lead r.name xs ∷ []) (past_front past r.kept.items more (omega arith) ∙ all) in
+    land_bytes r (ReadPast past) kinds.Skipped left rest (unused r.lead r.name r.kept.items) r.kept b enough refl e refl refl (λ more. refl)
+    (given_is r.lead r.name (ReadPast past) r.kept.items (omega arith) ∙ ap (λ xs. unused r.lead r.name xs ∷ []) all) behind
+  where
+    past_within : (past : ReadPastCommand) (args more : List ℕ) → past_len past args ≤ length args → past_len past (args ++ more) ≤ length (args ++ more)
+    past_within past args more h =
+        let s : IsSame (ReadPast past) args more = same (ReadPast past) args more refl h in
+        rw s.head (omega (arith, length-append args more))

@@ -11,7 +11,9 @@ use Rattle.vp_esc.specs.declared.reading.Reading.TheVariants.{Profile, Whole}
 use Rattle.vp_esc.specs.declared.item.Lead.{Lead}
 use Rattle.vp_esc.specs.declared.item.Lead.TheVariants.{Esc, Gs, Fs, Dle}
 use Rattle.vp_esc.specs.declared.command.Command.{Command}
-use Rattle.vp_esc.specs.declared.command.Command.TheVariants.{Plain, TabStops, Raster, Graphics}
+use Rattle.vp_esc.specs.declared.command.Command.TheVariants.{Plain, TabStops, Raster, Graphics, ReadPast}
+use Rattle.vp_esc.specs.declared.command.ReadPast.{ReadPast as ReadPastCommand}
+use Rattle.vp_esc.specs.declared.command.ReadPast.TheVariants as past
 use Rattle.vp_esc.specs.declared.command.Plain.{Plain as PlainCommand}
 use Rattle.vp_esc.specs.declared.command.Plain.TheVariants.{Sensor}
 use Rattle.vp_esc.specs.Command.{lead_of, command_of, head_len, is_listed}
@@ -33,11 +35,17 @@ first_of : Command → ℕ
 first_of (Plain Sensor) = 0x33
 first_of Raster = 0x30
 first_of Graphics = 0x4C
+first_of (ReadPast past.UserBytes) = 0x31
+first_of (ReadPast past) = 0x30
 first_of _ = 0
 
 plain_listed : (reading : Reading) (p : PlainCommand) → is_listed reading (Plain p) (first_of (Plain p) ∷ []) ≡ true
 unfolding first_of
 plain_listed reading p = grind arith
+
+past_listed : (reading : Reading) (past : ReadPastCommand) → is_listed reading (ReadPast past) (first_of (ReadPast past) ∷ []) ≡ true
+unfolding first_of
+past_listed reading past = grind arith
 
 -- counted data, of zeros
 end_counted : (reading : Reading) (k : Command) (a : ℕ) (args : List ℕ) → is_listed reading k (a ∷ args) ≡ true → is_counted k (a ∷ args) ≡ true → CanEnd reading k (a ∷ args)
@@ -71,7 +79,7 @@ end_begun reading k a args l = ⊎_elim
 can_end : (reading : Reading) (k : Command) (args : List ℕ) → is_listed reading k args ≡ true → CanEnd reading k args
 unfolding first_of
 can_end reading k [] l =
-    let c : CanEnd reading k (first_of k ∷ []) = end_begun reading k (first_of k) [] (grind (arith, plain_listed)) in
+    let c : CanEnd reading k (first_of k ∷ []) = end_begun reading k (first_of k) [] (grind (arith, plain_listed, past_listed)) in
     record { more = first_of k ∷ c.more; listed = c.listed; whole = c.whole }
 can_end reading k (a ∷ args) l = end_begun reading k a args l
 

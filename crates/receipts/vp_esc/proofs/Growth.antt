@@ -14,15 +14,16 @@ use Rattle.vp_esc.specs.declared.item.ColumnMode.{ColumnMode}
 use Rattle.vp_esc.specs.declared.item.ColumnMode.TheVariants.{Single24, Double24}
 use Rattle.vp_esc.specs.declared.item.QrModel.{QrModel}
 use Rattle.vp_esc.specs.declared.command.Command.{Command}
-use Rattle.vp_esc.specs.declared.command.Command.TheVariants.{TabStops, Columns, Raster, Symbol, Function, Graphics}
+use Rattle.vp_esc.specs.declared.command.Command.TheVariants.{TabStops, Columns, Raster, Symbol, Function, Graphics, ReadPast}
 use Rattle.vp_esc.specs.Values.{scale_of, column_mode_of, qr_model_of}
 use Rattle.vp_esc.specs.Command.{lead_of, command_of, head_len, is_listed}
 use Rattle.vp_esc.specs.Qr.{qr_items, value_items, model_items, is_qr_function}
-use Rattle.vp_esc.specs.Units.{is_unfinished, given, needs_more, given_by, given_behind, is_unfinished_named, is_unfinished_after, given_named, given_after, raster_bytes, columns, tall_columns, at_last}
+use Rattle.vp_esc.specs.Units.{is_unfinished, given, needs_more, given_by, given_behind, is_unfinished_named, is_unfinished_after, given_named, given_after, raster_bytes, columns, tall_columns, at_last, unused}
 use Rattle.vp_esc.specs.Split.{split, items as items_of}
 use Rattle.vp_esc.specs.Laws.{Splits}
 use Rattle.vp_esc.proofs.Splits.{items-push, items-is}
 use Rattle.vp_esc.proofs.Divisions.{splits}
+use Rattle.vp_esc.proofs.Bytes.{past_front}
 use Rattle.vp_esc.proofs.Heads.{given_is, heads, IsHead}
 
 -- items go on from others
@@ -102,6 +103,7 @@ behind_grows lead name Raster (a ∷ b ∷ d ∷ e ∷ f ∷ g ∷ args) c h n =
 behind_grows lead name Symbol args c h n = last_grows _ _ _ n
 behind_grows lead name Function (a ∷ b ∷ d ∷ args) c h n = grind (arith, nat_tests, either_grows, qr_grows)
 behind_grows lead name Graphics (a ∷ b ∷ d ∷ e ∷ f ∷ args) c h n = unchanged _ _ refl
+behind_grows lead name (ReadPast past) args c h n = unchanged _ _ (ap (λ xs. unused lead name xs ∷ []) (past_front past args (c ∷ []) h))
 behind_grows lead name k args c h n = absurd (grind (arith, nat_tests))
 
 given_none : (lead : Lead) (name : ℕ) (k : Command) → needs_more k [] ≡ true → given_by lead name k [] ≡ []

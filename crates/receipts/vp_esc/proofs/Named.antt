@@ -1,5 +1,5 @@
 -- The first two bytes of a command, by the command.
-use Rattle.std.proofs.Common.{◌≡◌, ℕ, Option, Some, None, arith}
+use Rattle.std.proofs.Common.{◌≡◌, ℕ, true, Option, Some, None, List, ◌∷◌, arith}
 use Rattle.std.proofs.lemmas.Grind.{common_steps}
 use Rattle.std.proofs.lemmas.Bool.Decides.{nat_tests}
 use Rattle.std.proofs.lemmas.Bool.{eqb-true}
@@ -8,18 +8,24 @@ use Rattle.vp_esc.specs.declared.reading.Reading.TheVariants.{Profile, Whole}
 use Rattle.vp_esc.specs.declared.item.Lead.{Lead}
 use Rattle.vp_esc.specs.declared.item.Lead.TheVariants.{Esc, Gs, Fs, Dle}
 use Rattle.vp_esc.specs.declared.command.Command.{Command}
-use Rattle.vp_esc.specs.declared.command.Command.TheVariants.{Plain, TabStops, Columns, Raster, Symbol, Function, Graphics}
+use Rattle.vp_esc.specs.declared.command.Command.TheVariants.{Plain, TabStops, Columns, Raster, Symbol, Function, Graphics, ReadPast}
+use Rattle.vp_esc.specs.declared.command.ReadPast.TheVariants as past
 use Rattle.vp_esc.specs.declared.command.Plain.TheVariants.{Alone, OfByte, OfWord, Area, Cut}
 use Rattle.vp_esc.specs.declared.command.Alone.TheVariants as alone
 use Rattle.vp_esc.specs.declared.command.OfByte.TheVariants as of_byte
 use Rattle.vp_esc.specs.declared.command.OfWord.TheVariants as of_word
-use Rattle.vp_esc.specs.Command.{esc_command, gs_command, esc_added, gs_added, fs_added, profile_command, added_command, or_else, command_of}
+use Rattle.vp_esc.specs.Listings.{may_skip}
+use Rattle.vp_esc.specs.Command.{esc_command, gs_command, dle_added, esc_added, gs_added, fs_added, profile_command, added_command, or_else, command_of}
 
 -- this lead and this byte
 abbrev pub Is : Lead → ℕ → Lead → ℕ → Type 0
 Is l n lead name = (lead ≡ l) × (name ≡ n)
 
--- the lead and the byte behind it of the commands with an effect
+-- data behind these may stand in no line
+abbrev pub SkipsData : Lead → ℕ → Type 0
+SkipsData lead name = (args : List ℕ) → may_skip lead (name ∷ args) ≡ true
+
+-- the lead and the byte behind it of the commands with an effect, and of those with data
 abbrev pub IsNamed : Command → Lead → ℕ → Type 0
 IsNamed (Plain (Alone alone.PrintPage)) = Is Esc 0x0C
 IsNamed (Plain (Alone alone.DefaultLineSpacing)) = Is Esc 0x32
@@ -60,6 +66,12 @@ IsNamed Raster = Is Gs 0x76
 IsNamed Symbol = Is Gs 0x6B
 IsNamed Function = Is Gs 0x28
 IsNamed Graphics = Is Gs 0x38
+IsNamed (ReadPast past.Family) = SkipsData
+IsNamed (ReadPast past.StoredImage) = SkipsData
+IsNamed (ReadPast past.ColumnImage) = SkipsData
+IsNamed (ReadPast past.TwoByteCell) = SkipsData
+IsNamed (ReadPast past.UserBytes) = SkipsData
+IsNamed (ReadPast _) = λ lead name. Unit {0}
 
 none : {P : Type 0} {k : Command} → ◌≡◌ {A = Option Command} None (Some k) → P
 none e = cc
@@ -84,11 +96,14 @@ gs_added_named b k e = grind (arith, nat_tests, eqb-true, none)
 fs_added_named : (b : ℕ) (k : Command) → fs_added b ≡ Some k → IsNamed k Fs b
 fs_added_named b k e = grind (arith, nat_tests, eqb-true, none)
 
+dle_added_named : (b : ℕ) (k : Command) → dle_added b ≡ Some k → IsNamed k Dle b
+dle_added_named b k e = grind (arith, nat_tests, eqb-true, none)
+
 added_named : (lead : Lead) (b : ℕ) (k : Command) → added_command lead b ≡ Some k → IsNamed k lead b
 added_named Esc b k e = esc_added_named b k e
 added_named Gs b k e = gs_added_named b k e
 added_named Fs b k e = fs_added_named b k e
-added_named Dle b k e = none e
+added_named Dle b k e = dle_added_named b k e
 
 either : {P : Type 0} (o p : Option Command) (k : Command) → (o ≡ Some k → P) → (p ≡ Some k → P) → or_else o p ≡ Some k → P
 either None p k f g e = g e

@@ -1,23 +1,24 @@
 -- A unit is a row of the table.
-use Rattle.std.proofs.Common.{◌≡◌, ℕ, ◌≤◌, ◌<◌, ◌+◌, Bool, true, false, ◌&&◌, cond, not, ltb, eqb, Option, None, Some, List, [], ◌∷◌, ◌++◌, length, refl, sym, ap, ◌∙◌, arith, ⊎_elim, inl, inr}
+use Rattle.std.proofs.Common.{◌≡◌, ℕ, ◌≤◌, ◌<◌, ◌+◌, Bool, true, false, ◌&&◌, cond, not, ltb, eqb, Option, None, Some, List, [], ◌∷◌, ◌++◌, length, take, drop, refl, sym, ap, ◌∙◌, arith, ⊎_elim, inl, inr}
 use Rattle.std.proofs.lemmas.Grind.{common_steps}
 use Rattle.std.specs.List.{list_any}
-use Rattle.std.proofs.lemmas.List.{length_push}
+use Rattle.std.proofs.lemmas.List.{length_push, length-append, length-take-le, take-append-drop}
 use Rattle.std.proofs.lemmas.Bool.{cases_Bool, cases_lt}
 use Rattle.std.proofs.lemmas.Bool.Decides.{nat_tests}
 use Rattle.vp_esc.specs.declared.reading.Reading.{Reading}
 use Rattle.vp_esc.specs.declared.reading.Reading.TheVariants.{Profile, Whole}
 use Rattle.vp_esc.specs.declared.item.Lead.{Lead}
 use Rattle.vp_esc.specs.declared.command.Command.{Command}
-use Rattle.vp_esc.specs.declared.command.Command.TheVariants.{Plain, TabStops, Columns, Raster, Symbol, Function, Graphics}
+use Rattle.vp_esc.specs.declared.command.Command.TheVariants.{Plain, TabStops, Columns, Raster, Symbol, Function, Graphics, ReadPast}
+use Rattle.vp_esc.specs.declared.command.ReadPast.{ReadPast as ReadPastCommand}
 use Rattle.vp_esc.specs.declared.command.Plain.{Plain as PlainCommand}
 use Rattle.vp_esc.specs.declared.command.Plain.TheVariants.{Cut, Sensor, RealTime}
 use Rattle.vp_esc.specs.Values.{is_kind_to_zero}
-use Rattle.vp_esc.specs.Command.{lead_of, command_of, head_len, is_listed}
+use Rattle.vp_esc.specs.Command.{lead_of, command_of, past_len, head_len, is_listed}
 use Rattle.vp_esc.specs.Units.{is_unfinished, is_unfinished_named, is_listed_name, needs_more, is_counted, is_short, data_len, rises_from}
 use Rattle.vp_esc.specs.Reader.{last_or}
 use Rattle.vp_esc.specs.Laws.{IsUnit, HasUnfinishedFronts}
-use Rattle.vp_esc.specs.Table.{IsPlain, IsArea, IsColumns, IsRaster, IsCountedSymbol, IsFunction, IsGraphics, IsStops, IsToZero, IsArguments, IsUnknown, IsRow}
+use Rattle.vp_esc.specs.Table.{IsPlain, IsArea, IsColumns, IsRaster, IsCountedSymbol, IsFunction, IsGraphics, IsReadPast, IsStops, IsToZero, IsArguments, IsUnknown, IsRow}
 use Rattle.vp_esc.proofs.Stops.{rises_push}
 use Rattle.vp_esc.proofs.Symbols.{no_zero_push}
 use Rattle.vp_esc.proofs.Heads.{same, needs_counted, head_push}
@@ -78,6 +79,28 @@ raster_row args s = grind (arith, common_steps)
 
 graphics_row : (args : List ℕ) → IsSized Graphics args → IsGraphics args
 graphics_row args s = grind (arith, common_steps)
+
+-- the first argument says how long the head is
+past_first : (past : ReadPastCommand) (a : ℕ) (xs ys : List ℕ) → past_len past (a ∷ xs) ≡ past_len past (a ∷ ys)
+past_first past a xs ys = grind arith
+
+past_row : (past : ReadPastCommand) (args : List ℕ) → IsSized (ReadPast past) args → IsReadPast past args
+past_row past [] s = absurd (grind arith)
+past_row past (a ∷ args) s =
+    let n : ℕ = past_len past (a ∷ args) in
+    let head : List ℕ = take n (a ∷ args) in
+    let behind : List ℕ = drop n (a ∷ args) in
+    let long : length head ≡ n = length-take-le n (a ∷ args) (omega (arith, s.len)) in
+    let same_len : past_len past head ≡ n = grind (arith, past_first) in
+    let both : head ++ behind ≡ a ∷ args = take-append-drop n (a ∷ args) in
+    let t = same (ReadPast past) head behind refl (omega arith) in
+    record {
+      head = head;
+      parameters = behind;
+      bytes = sym both;
+      head_count = long ∙ sym same_len;
+      count = grind (arith, length-append);
+    }
 
 -- Data whose end a byte tells.
 
@@ -151,6 +174,7 @@ arguments_of Symbol args w = ⊎_elim
     (cases_Bool (is_counted Symbol args))
 arguments_of Function args w = function_row args (sized_of Function args refl w)
 arguments_of Graphics args w = graphics_row args (sized_of Graphics args refl w)
+arguments_of (ReadPast past) args w = past_row past args (sized_of (ReadPast past) args refl w)
 
 -- Units.
 

@@ -9,11 +9,12 @@ use Rattle.vp_esc.specs.declared.reading.Reading.TheVariants.{Whole}
 use Rattle.vp_esc.specs.declared.item.Lead.{Lead}
 use Rattle.vp_esc.specs.declared.item.Lead.TheVariants.{Esc}
 use Rattle.vp_esc.specs.declared.command.Command.{Command}
-use Rattle.vp_esc.specs.declared.command.Command.TheVariants.{Plain, TabStops, Symbol}
+use Rattle.vp_esc.specs.declared.command.Command.TheVariants.{Plain, TabStops, Symbol, ReadPast}
+use Rattle.vp_esc.specs.declared.command.ReadPast.{ReadPast as ReadPastCommand}
 use Rattle.vp_esc.specs.Command.{lead_byte, command_of, head_len, lists, is_listed}
 use Rattle.vp_esc.specs.Units.{is_unfinished, is_unfinished_named, needs_more, is_counted, data_len, rises_from, is_listed_name}
 use Rattle.vp_esc.specs.Laws.{IsUnit}
-use Rattle.vp_esc.specs.Table.{IsStops, IsToZero, IsCountedSymbol, IsArguments, IsCommand, IsAlone, IsUnknown, IsPassedOver, IsRow}
+use Rattle.vp_esc.specs.Table.{IsReadPast, IsStops, IsToZero, IsCountedSymbol, IsArguments, IsCommand, IsAlone, IsUnknown, IsPassedOver, IsRow}
 use Rattle.vp_esc.proofs.Fronts.{front_is, none_is, lead_of-lead_byte}
 use Rattle.vp_esc.proofs.Stops.{rises_push}
 use Rattle.vp_esc.proofs.Heads.{same, needs_counted, heads}
@@ -37,6 +38,14 @@ sized_short k args front more s e n =
 
 sized_done : (k : Command) (args : List ℕ) → IsSized k args → needs_more k args ≡ false
 sized_done k args s = needs_counted k args s.counted ∙ grind (arith, nat_tests, s.len)
+
+-- a command that is read past
+past_sized : (past : ReadPastCommand) (args : List ℕ) → IsReadPast past args → IsSized (ReadPast past) args
+past_sized past args a =
+    let s = same (ReadPast past) a.head a.parameters refl (omega (arith, a.head_count)) in
+    let len : length (a.head ++ a.parameters) ≡ head_len (ReadPast past) (a.head ++ a.parameters) + data_len (ReadPast past) (a.head ++ a.parameters) =
+    rw (s.head, s.count) (omega (arith, length-append a.head a.parameters, a.head_count, a.count)) in
+    record { counted = refl; len = rw a.bytes len }
 
 -- Tab stops.
 
@@ -71,6 +80,7 @@ arguments_short Symbol args front more a e n = ⊎_elim
     (λ (z : IsToZero args). zero_short args front more z e n)
     (λ (z : IsCountedSymbol args). sized_short Symbol args front more (grind arith) e n)
     a
+arguments_short (ReadPast past) args front more a e n = sized_short (ReadPast past) args front more (past_sized past args a) e n
 arguments_short k args front more a e n = sized_short k args front more (grind arith) e n
 
 arguments_done : (k : Command) (args : List ℕ) → IsArguments k args → needs_more k args ≡ false
@@ -80,6 +90,7 @@ arguments_done Symbol args a = ⊎_elim
     (λ (z : IsToZero args). zero_done args z)
     (λ (z : IsCountedSymbol args). sized_done Symbol args (grind arith))
     a
+arguments_done (ReadPast past) args a = sized_done (ReadPast past) args (past_sized past args a)
 arguments_done k args a = sized_done k args (grind arith)
 
 row_fronts : (reading : Reading) (lead : Lead) (name : ℕ) (k : Command) (args : List ℕ) → command_of reading lead name ≡ Some k → is_listed reading k args ≡ true → IsArguments k args

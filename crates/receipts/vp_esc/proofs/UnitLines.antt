@@ -7,7 +7,7 @@ use Rattle.vp_esc.specs.declared.reading.Reading.{Reading}
 use Rattle.vp_esc.specs.declared.reading.Reading.TheVariants.{Whole}
 use Rattle.vp_esc.specs.declared.item.Lead.{Lead}
 use Rattle.vp_esc.specs.declared.command.Command.{Command}
-use Rattle.vp_esc.specs.declared.command.Command.TheVariants.{Plain, TabStops, Columns, Raster, Symbol, Function, Graphics}
+use Rattle.vp_esc.specs.declared.command.Command.TheVariants.{Plain, TabStops, Columns, Raster, Symbol, Function, Graphics, ReadPast}
 use Rattle.vp_esc.specs.declared.item.Lead.TheVariants.{Esc}
 use Rattle.vp_esc.specs.Command.{lead_of, lead_byte, command_of, head_len, lists, is_listed}
 use Rattle.vp_esc.specs.Units.{is_unfinished, needs_more, given_behind, given, unused, plain_item, stops_item}
@@ -20,7 +20,7 @@ use Rattle.vp_esc.proofs.Heads.{IsHead, heads, given_is}
 use Rattle.vp_esc.proofs.Rows.{unknown_is_none}
 use Rattle.vp_esc.proofs.OnlyRows.{only_rows_lem}
 use Rattle.vp_esc.proofs.Named.{IsNamed, named_so}
-use Rattle.vp_esc.proofs.Listed.{IsBytes, one_line, plain_listed, stops_listed, columns_list, raster_list, to_zero_list, counted_list, graphics_list}
+use Rattle.vp_esc.proofs.Listed.{IsBytes, one_line, plain_listed, stops_listed, columns_list, raster_list, to_zero_list, counted_list, graphics_list, past_list}
 use Rattle.vp_esc.proofs.QrListed.{function_list}
 
 pub byte_line : (reading : Reading) (b : ℕ) → lead_of b ≡ None → map line_of (given reading (b ∷ [])) ≡ line_of_byte b ∷ []
@@ -45,6 +45,7 @@ by_command lead name Symbol args i l a b n s =
     a)
 by_command lead name Function args i l a b n s = rw (i.0, i.1) (function_list args a b)
 by_command lead name Graphics args i l a b n s = rw (i.0, i.1) (graphics_list args a)
+by_command lead name (ReadPast past) args i l a b n s = past_list lead name past args i a
 
 -- a whole command is of the table, and its head is there
 record IsWhole (reading : Reading) (lead : Lead) (name : ℕ) (k : Command) (args front : List ℕ) : Type 0 where

@@ -7,7 +7,9 @@ use Rattle.vp_esc.specs.declared.item.Lead.{Lead}
 use Rattle.vp_esc.specs.declared.item.Lead.TheVariants.{Esc, Gs, Fs, Dle}
 use Rattle.vp_esc.specs.declared.command.Command.{Command}
 use Rattle.vp_esc.specs.declared.command.Command.TheVariants.{Plain, TabStops, Columns, Raster, Symbol}
-use Rattle.vp_esc.specs.declared.command.Command.TheVariants.{Function, Graphics}
+use Rattle.vp_esc.specs.declared.command.Command.TheVariants.{Function, Graphics, ReadPast}
+use Rattle.vp_esc.specs.declared.command.ReadPast.{ReadPast as ReadPastCommand}
+use Rattle.vp_esc.specs.declared.command.ReadPast.TheVariants as past
 use Rattle.vp_esc.specs.declared.command.Plain.{Plain as PlainCommand}
 use Rattle.vp_esc.specs.declared.command.Plain.TheVariants.{Alone, OfByte, OfWord, Area, Cut, Sensor}
 use Rattle.vp_esc.specs.declared.command.Plain.TheVariants.{RealTime, Unused}
@@ -112,7 +114,8 @@ profile_command Dle b = dle_command b
 -- What the whole language adds: the byte after ESC,
 abbrev pub esc_added : ℕ → Option Command
 esc_added b =
-    if b == 0x3C || b == 0x6F || b == 0x71 || b == 0x76 then Some (Plain (Unused arguments.None))
+    if b == 0x28 then Some (ReadPast past.Family)
+    else if b == 0x3C || b == 0x6F || b == 0x71 || b == 0x76 then Some (Plain (Unused arguments.None))
     else if b == 0x46 || b == 0x4B || b == 0x65 || b == 0x75 || b == 0x7A
     then Some (Plain (Unused arguments.One))
     else if b == 0x66 then Some (Plain (Unused arguments.Two))
@@ -121,25 +124,38 @@ esc_added b =
 -- after GS,
 abbrev pub gs_added : ℕ → Option Command
 gs_added b =
-    if b == 0x0C || b == 0x3A || b == 0x3C || b == 0x63 then Some (Plain (Unused arguments.None))
+    if b == 0x2A then Some (ReadPast past.StoredImage)
+    else if b == 0x43 then Some (ReadPast past.Counter)
+    else if b == 0x51 then Some (ReadPast past.ColumnImage)
+    else if b == 0x67 then Some (ReadPast past.Maintenance)
+    else if b == 0x7A then Some (ReadPast past.Recovery)
+    else if b == 0x0C || b == 0x3A || b == 0x3C || b == 0x63 then Some (Plain (Unused arguments.None))
     else if b == 0x2F || b == 0x45 || b == 0x54 || b == 0x6A then Some (Plain (Unused arguments.One))
     else if b == 0x41 then Some (Plain (Unused arguments.Two))
     else if b == 0x5E then Some (Plain (Unused arguments.Three))
     else None
 
--- and after FS.
+-- after FS,
 abbrev pub fs_added : ℕ → Option Command
 fs_added b =
-    if b == 0x63 then Some (Plain (Unused arguments.None))
+    if b == 0x28 then Some (ReadPast past.Family)
+    else if b == 0x32 then Some (ReadPast past.TwoByteCell)
+    else if b == 0x61 then Some (ReadPast past.Cheque)
+    else if b == 0x67 then Some (ReadPast past.UserBytes)
+    else if b == 0x63 then Some (Plain (Unused arguments.None))
     else if b == 0x62 then Some (Plain (Unused arguments.One))
     else if b == 0x3F then Some (Plain (Unused arguments.Two))
     else None
+
+-- and after DLE.
+abbrev pub dle_added : ℕ → Option Command
+dle_added b = if b == 0x14 then Some (ReadPast past.RealTimeRequest) else None
 
 abbrev pub added_command : Lead → ℕ → Option Command
 added_command Esc b = esc_added b
 added_command Gs b = gs_added b
 added_command Fs b = fs_added b
-added_command Dle b = None
+added_command Dle b = dle_added b
 
 abbrev pub or_else : Option Command → Option Command → Option Command
 or_else None other = other
@@ -175,6 +191,23 @@ plain_len Sensor args = 2
 plain_len RealTime args = if has_second (slice_index args 0) then 2 else 1
 plain_len (Unused count) args = count_of count
 
+-- DLE DC4 fn: the arguments, with fn
+abbrev pub request_len : ℕ → ℕ
+request_len fn = if fn == 0x03 then 6 else if fn == 0x07 then 2 else if fn == 0x08 then 8 else 3
+
+-- the arguments before any data of a command that is read past, where the first of them is known
+abbrev pub past_len : ReadPastCommand → List ℕ → ℕ
+past_len past.Family args = 3
+past_len past.StoredImage args = 2
+past_len past.ColumnImage args = 6
+past_len past.TwoByteCell args = 2
+past_len past.UserBytes args = 8
+past_len past.Counter args = if slice_index args 0 == 0x31 then 7 else 3
+past_len past.Maintenance args = 4
+past_len past.Recovery args = 3
+past_len past.Cheque args = if slice_index args 0 == 0x30 then 2 else 1
+past_len past.RealTimeRequest args = request_len (slice_index args 0)
+
 -- the arguments before any data
 abbrev pub head_len : Command → List ℕ → ℕ
 head_len (Plain plain) args = plain_len plain args
@@ -184,6 +217,17 @@ head_len Raster args = 6
 head_len Symbol args = if is_kind_to_zero (slice_index args 0) then 1 else 2
 head_len Function args = 3
 head_len Graphics args = 5
+head_len (ReadPast past) args = past_len past args
+
+-- the first argument of a command that is read past is one of the table's
+abbrev pub past_has : ReadPastCommand → ℕ → Bool
+past_has past.ColumnImage n = n == 0x30
+past_has past.UserBytes n = n == 0x31 || n == 0x32
+past_has past.Counter n = n == 0x30 || n == 0x31 || n == 0x32
+past_has past.Maintenance n = n == 0x30 || n == 0x32
+past_has past.Recovery n = n == 0x30
+past_has past.Cheque n = n == 0x30 || n == 0x31 || n == 0x32
+past_has _ n = true
 
 -- the first argument, which may be a part of the name, is one that the table has in each reading
 abbrev pub has : Command → ℕ → Bool
@@ -193,6 +237,7 @@ has Columns m = is_column_mode m
 has Raster z = z == 0x30
 has Symbol m = is_kind_to_zero m || is_kind_counted m
 has Graphics n = n == 0x4C
+has (ReadPast past) n = past_has past n
 has _ n = true
 
 -- one that the whole language adds

@@ -7,13 +7,15 @@ use Rattle.vp_esc.specs.declared.reading.Reading.TheVariants.{Whole}
 use Rattle.vp_esc.specs.declared.item.Lead.{Lead}
 use Rattle.vp_esc.specs.declared.command.Command.{Command}
 use Rattle.vp_esc.specs.declared.command.Command.TheVariants.{Plain, TabStops, Columns, Raster, Symbol}
-use Rattle.vp_esc.specs.declared.command.Command.TheVariants.{Function, Graphics}
+use Rattle.vp_esc.specs.declared.command.Command.TheVariants.{Function, Graphics, ReadPast}
+use Rattle.vp_esc.specs.declared.command.ReadPast.{ReadPast as ReadPastCommand}
 use Rattle.vp_esc.specs.declared.command.Plain.{Plain as PlainCommand}
 use Rattle.vp_esc.specs.declared.command.Plain.TheVariants.{Alone, OfByte, OfWord, Area, Cut, Sensor}
 use Rattle.vp_esc.specs.declared.command.Plain.TheVariants.{RealTime, Unused}
 use Rattle.vp_esc.specs.Values.{column_mode_of, column_bytes, is_kind_to_zero}
-use Rattle.vp_esc.specs.Command.{lead_of, lead_byte, command_of, count_of, has_feed, has_second, lists, is_listed}
-use Rattle.vp_esc.specs.Units.{rises_from}
+use Rattle.vp_esc.specs.Command.{lead_of, lead_byte, command_of, count_of, has_feed, has_second, past_len}
+use Rattle.vp_esc.specs.Command.{lists, is_listed}
+use Rattle.vp_esc.specs.Units.{rises_from, past_data}
 use Rattle.vp_esc.specs.Reader.{last_or}
 
 -- ESC W xL xH yL yH dxL dxH dyL dyH
@@ -115,6 +117,14 @@ pub record IsGraphics (args : List ℕ) : Type 0 where
   pub bytes : args ≡ x ∷ p1 ∷ p2 ∷ p3 ∷ p4 ∷ parameters
   pub count : length parameters ≡ p1 + 256 * p2 + 65536 * (p3 + 256 * p4)
 
+-- a command that is read past: a head, and the data that it counts
+pub record IsReadPast (past : ReadPastCommand) (args : List ℕ) : Type 0 where
+  pub head : List ℕ
+  pub parameters : List ℕ
+  pub bytes : args ≡ head ++ parameters
+  pub head_count : length head ≡ past_len past head
+  pub count : length parameters ≡ past_data past head
+
 -- how many the arguments are
 abbrev pub IsArguments : Command → List ℕ → Type 0
 IsArguments (Plain plain) args = IsPlain plain args
@@ -124,6 +134,7 @@ IsArguments Raster args = IsRaster args
 IsArguments Symbol args = IsToZero args ⊎ IsCountedSymbol args
 IsArguments Function args = IsFunction args
 IsArguments Graphics args = IsGraphics args
+IsArguments (ReadPast past) args = IsReadPast past args
 
 -- a lead, the byte after it, and the arguments, the first of which the table has
 pub record IsCommand (reading : Reading) (bytes : List ℕ) : Type 0 where

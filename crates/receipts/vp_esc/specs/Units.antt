@@ -17,7 +17,9 @@ use Rattle.vp_esc.specs.declared.item.ColumnMode.{ColumnMode}
 use Rattle.vp_esc.specs.declared.item.ColumnMode.TheVariants.{Single8, Double8, Single24, Double24}
 use Rattle.vp_esc.specs.declared.command.Command.{Command}
 use Rattle.vp_esc.specs.declared.command.Command.TheVariants.{Plain, TabStops, Columns, Raster, Symbol}
-use Rattle.vp_esc.specs.declared.command.Command.TheVariants.{Function, Graphics}
+use Rattle.vp_esc.specs.declared.command.Command.TheVariants.{Function, Graphics, ReadPast}
+use Rattle.vp_esc.specs.declared.command.ReadPast.{ReadPast as ReadPastCommand}
+use Rattle.vp_esc.specs.declared.command.ReadPast.TheVariants as past
 use Rattle.vp_esc.specs.declared.command.Plain.{Plain as PlainCommand}
 use Rattle.vp_esc.specs.declared.command.Plain.TheVariants.{Alone, OfByte, OfWord, Area, Cut, Sensor}
 use Rattle.vp_esc.specs.declared.command.Plain.TheVariants.{RealTime, Unused}
@@ -30,7 +32,7 @@ use Rattle.vp_esc.specs.declared.command.OfWord.TheVariants as of_word
 use Rattle.vp_esc.specs.Values
 use Rattle.vp_esc.specs.Values.{spelled, bit, is_feed_cut, is_other_cut, is_kind_to_zero, column_mode_of}
 use Rattle.vp_esc.specs.Values.{column_bytes, scale_of}
-use Rattle.vp_esc.specs.Command.{lead_of, command_of, head_len, is_listed}
+use Rattle.vp_esc.specs.Command.{lead_of, command_of, past_len, head_len, is_listed}
 use Rattle.vp_esc.specs.Qr.{qr_items, begins_store}
 
 -- two bytes of a number, low byte first
@@ -46,6 +48,16 @@ abbrev pub rises_from : ℕ → List ℕ → Bool
 rises_from last [] = true
 rises_from last (n ∷ ns) = nat_lt last n && rises_from n ns
 
+-- the bytes of data of a command that is read past: eight columns a byte, of bytes; columns of bytes; a cell of
+-- 24 by 24 dots
+abbrev pub past_data : ReadPastCommand → List ℕ → ℕ
+past_data past.Family args = word_at args 1
+past_data past.StoredImage args = 8 * (slice_index args 0 * slice_index args 1)
+past_data past.ColumnImage args = word_at args 2 * word_at args 4
+past_data past.TwoByteCell args = 72
+past_data past.UserBytes args = if slice_index args 0 == 0x31 then word_at args 6 else 0
+past_data _ args = 0
+
 -- the bytes of data behind the head, where the head says how many they are
 abbrev pub data_len : Command → List ℕ → ℕ
 data_len (Plain plain) args = 0
@@ -55,6 +67,7 @@ data_len Raster args = word_at args 2 * word_at args 4
 data_len Symbol args = slice_index args 1
 data_len Function args = word_at args 1
 data_len Graphics args = long_at args 1
+data_len (ReadPast past) args = past_data past args
 
 -- all bytes of a command are read where there are head and data
 abbrev pub is_short : Command → List ℕ → Bool
@@ -179,6 +192,7 @@ abbrev pub is_skipped : Command → List ℕ → Bool
 is_skipped Raster args = is_none (scale_of (slice_index args 1))
 is_skipped Function args = not (slice_index args 0 == 0x6B)
 is_skipped Graphics args = true
+is_skipped (ReadPast past) args = true
 is_skipped _ args = false
 
 -- a command of which the bytes behind its first three values are stored for a QR symbol
@@ -208,6 +222,7 @@ given_behind lead name Function args =
     if slice_index args 0 == 0x6B then qr_items (word_at args 1) (drop 3 args)
     else unused lead name (take 3 args) ∷ []
 given_behind lead name Graphics args = unused lead name (take 5 args) ∷ []
+given_behind lead name (ReadPast past) args = unused lead name (take (past_len past args) args) ∷ []
 
 -- what the arguments so far have given
 unfoldable pub given_by : Lead → ℕ → Command → List ℕ → List EscItem

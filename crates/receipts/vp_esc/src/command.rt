@@ -2,11 +2,12 @@
 ghost use Rattle.std.specs.Prelude.{◌≡◌, ◌≤◌, ◌<◌, ◌∷◌, length, slice_index};
 ghost use Rattle.vp_esc.specs.Command.{lead_of, lead_byte, command_of, profile_command, added_command};
 ghost use Rattle.vp_esc.specs.Command.{esc_command, gs_command, fs_command, dle_command};
-ghost use Rattle.vp_esc.specs.Command.{esc_added, gs_added, fs_added};
+ghost use Rattle.vp_esc.specs.Command.{esc_added, gs_added, fs_added, dle_added};
+ghost use Rattle.vp_esc.specs.Command.{request_len as request_len_as, past_len, past_has};
 ghost use Rattle.vp_esc.specs.Command.{count_of, has_feed as has_feed_as, has_second as has_second_as, plain_len};
 ghost use Rattle.vp_esc.specs.Command.{head_len, lists, has as has_as, adds as adds_as};
 ghost use Rattle.vp_esc.specs.Units.{alone_item, of_byte_item, of_word_item, cut_item as cut_item_as};
-ghost use Rattle.vp_esc.specs.Units.{plain_item};
+ghost use Rattle.vp_esc.specs.Units.{plain_item, past_data};
 
 use crate::item::{EscItem, HEAD_BYTES, Lead};
 use crate::reading::Reading;
@@ -89,6 +90,31 @@ pub enum Plain {
     Unused(Arguments),
 }
 
+/// Commands of the whole language without effect whose head says how long they are.
+#[derive(Clone, Copy)]
+pub enum ReadPast {
+    /// ESC ( and FS (: what stands behind the count.
+    Family,
+    /// GS *: a picture to be stored, and its columns.
+    StoredImage,
+    /// GS Q 0: a picture by columns.
+    ColumnImage,
+    /// FS 2: a character of two bytes, and its dots.
+    TwoByteCell,
+    /// FS g 1 and 2: bytes to be kept, or told.
+    UserBytes,
+    /// GS C 0, 1 and 2
+    Counter,
+    /// GS g 0 and 2
+    Maintenance,
+    /// GS z 0
+    Recovery,
+    /// FS a 0, 1 and 2
+    Cheque,
+    /// DLE DC4
+    RealTimeRequest,
+}
+
 /// The commands of several bytes.
 #[derive(Clone, Copy)]
 pub enum Command {
@@ -105,6 +131,7 @@ pub enum Command {
     Function,
     /// GS 8
     Graphics,
+    ReadPast(ReadPast),
 }
 
 impl Lead {
@@ -166,7 +193,7 @@ impl Command {
             Lead::Esc => Command::added_to_esc(byte),
             Lead::Gs => Command::added_to_gs(byte),
             Lead::Fs => Command::added_to_fs(byte),
-            Lead::Dle => None,
+            Lead::Dle => Command::added_to_dle(byte),
         }
     }
 
@@ -258,6 +285,7 @@ impl Command {
         ensures { result ≡ esc_added byte }
     {
         let arguments = match byte {
+            0x28 => return Some(Command::ReadPast(ReadPast::Family)),
             0x3C | 0x6F | 0x71 | 0x76 => Arguments::None,
             0x46 | 0x4B | 0x65 | 0x75 | 0x7A => Arguments::One,
             0x66 => Arguments::Two,
@@ -270,6 +298,11 @@ impl Command {
         ensures { result ≡ gs_added byte }
     {
         let arguments = match byte {
+            0x2A => return Some(Command::ReadPast(ReadPast::StoredImage)),
+            0x43 => return Some(Command::ReadPast(ReadPast::Counter)),
+            0x51 => return Some(Command::ReadPast(ReadPast::ColumnImage)),
+            0x67 => return Some(Command::ReadPast(ReadPast::Maintenance)),
+            0x7A => return Some(Command::ReadPast(ReadPast::Recovery)),
             0x0C | 0x3A | 0x3C | 0x63 => Arguments::None,
             0x2F | 0x45 | 0x54 | 0x6A => Arguments::One,
             0x41 => Arguments::Two,
@@ -283,12 +316,25 @@ impl Command {
         ensures { result ≡ fs_added byte }
     {
         let arguments = match byte {
+            0x28 => return Some(Command::ReadPast(ReadPast::Family)),
+            0x32 => return Some(Command::ReadPast(ReadPast::TwoByteCell)),
+            0x61 => return Some(Command::ReadPast(ReadPast::Cheque)),
+            0x67 => return Some(Command::ReadPast(ReadPast::UserBytes)),
             0x63 => Arguments::None,
             0x62 => Arguments::One,
             0x3F => Arguments::Two,
             _ => return None,
         };
         Some(Command::Plain(Plain::Unused(arguments)))
+    }
+
+    fn added_to_dle(byte: u8) -> Option<Command>
+        ensures { result ≡ dle_added byte }
+    {
+        match byte {
+            0x14 => Some(Command::ReadPast(ReadPast::RealTimeRequest)),
+            _ => None,
+        }
     }
 
     /// How many arguments come before any data, as far as these tell.
@@ -302,6 +348,7 @@ impl Command {
             Command::Raster => 6,
             Command::Symbol => if is_kind_to_zero(first(args)) { 1 } else { 2 },
             Command::Graphics => 5,
+            Command::ReadPast(past) => past.len(args),
         }
     }
 
@@ -326,6 +373,7 @@ impl Command {
             Command::Raster => first == 0x30,
             Command::Symbol => is_kind_to_zero(first) || is_kind_counted(first),
             Command::Graphics => first == 0x4C,
+            Command::ReadPast(past) => past.has(first),
             _ => true,
         }
     }
@@ -340,6 +388,57 @@ impl Command {
             Command::Symbol => is_added_kind(first),
             Command::Graphics => true,
             _ => false,
+        }
+    }
+}
+
+impl ReadPast {
+    /// How many arguments come before any data, as far as these tell.
+    fn len(self, args: &[u8]) -> usize
+        ensures { result ≡ past_len self args.now }
+    {
+        match self {
+            ReadPast::Family | ReadPast::Recovery => 3,
+            ReadPast::StoredImage | ReadPast::TwoByteCell => 2,
+            ReadPast::ColumnImage => 6,
+            ReadPast::UserBytes => 8,
+            ReadPast::Counter => if first(args) == 0x31 { 7 } else { 3 },
+            ReadPast::Maintenance => 4,
+            ReadPast::Cheque => if first(args) == 0x30 { 2 } else { 1 },
+            ReadPast::RealTimeRequest => request_len(first(args)),
+        }
+    }
+
+    /// Whether the table has the command with this first argument.
+    fn has(self, first: u8) -> bool
+        ensures { result ≡ past_has self first }
+    {
+        match self {
+            ReadPast::ColumnImage | ReadPast::Recovery => first == 0x30,
+            ReadPast::UserBytes => first == 0x31 || first == 0x32,
+            ReadPast::Counter | ReadPast::Cheque => {
+                first == 0x30 || first == 0x31 || first == 0x32
+            }
+            ReadPast::Maintenance => first == 0x30 || first == 0x32,
+            ReadPast::Family
+            | ReadPast::StoredImage
+            | ReadPast::TwoByteCell
+            | ReadPast::RealTimeRequest => true,
+        }
+    }
+
+    /// How many bytes of data come behind these arguments, at most 65,535 times 65,535.
+    pub fn data_len(self, args: &[u8]) -> u32
+        requires { length args.now ≡ past_len self args.now }
+        ensures { result ≡ past_data self args.now }
+    {
+        match self {
+            ReadPast::Family => word(args[1], args[2]) as u32,
+            ReadPast::StoredImage => 8 * (args[0] as u32 * args[1] as u32),
+            ReadPast::ColumnImage => word(args[2], args[3]) as u32 * word(args[4], args[5]) as u32,
+            ReadPast::TwoByteCell => 72,
+            ReadPast::UserBytes if args[0] == 0x31 => word(args[6], args[7]) as u32,
+            _ => 0,
         }
     }
 }
@@ -501,6 +600,18 @@ fn has_feed(m: u8) -> bool
     ensures { result ≡ has_feed_as m }
 {
     is_feed_cut(m) || is_other_cut(m)
+}
+
+/// How many arguments DLE DC4 has, with this first one.
+fn request_len(function: u8) -> usize
+    ensures { result ≡ request_len_as function }
+{
+    match function {
+        0x03 => 6,
+        0x07 => 2,
+        0x08 => 8,
+        _ => 3,
+    }
 }
 
 /// Whether DLE EOT n has one more argument.

@@ -16,7 +16,7 @@ ghost use Rattle.vp_esc.specs.Command.{lead_byte, head_len};
 ghost use Rattle.vp_esc.specs.Values.{is_kind_to_zero as is_to_zero};
 ghost use Rattle.vp_esc.specs.Units.{given, single_item, symbol_with};
 
-use crate::command::{Command, unused};
+use crate::command::{Command, ReadPast, unused};
 use crate::event::Event;
 use crate::item::{ColumnMode, DATA_BYTES, EscItem, HEAD_BYTES, Lead, RasterScale};
 use crate::qr::{begins_store, ignored, qr_given};
@@ -187,6 +187,7 @@ impl EscReader {
             Command::Symbol => self.symbol_head(),
             Command::Function => self.function_head(),
             Command::Graphics => self.graphics_head(),
+            Command::ReadPast(past) => self.past_head(past),
         }
     }
 
@@ -294,6 +295,21 @@ impl EscReader {
             bytes: unused(self.name, args),
         };
         self.phase = bytes_phase(Data::Skipped, left);
+        Event::Given
+    }
+
+    fn past_head(&mut self, past: ReadPast) -> Event
+        requires { length self.old.kept.items ≡ head_len (Command.ReadPast past) self.old.kept.items }
+        ensures { (rest : List ℕ) →
+            Begun self.old.reading self.old.lead self.old.name (Command.ReadPast past) self.old.kept.items rest →
+            Lands self.old.reading (shown result self.new.item) rest self.new }
+    {
+        let args = self.kept.as_slice();
+        self.item = EscItem::WithoutEffect {
+            lead: self.lead,
+            bytes: unused(self.name, args),
+        };
+        self.phase = bytes_phase(Data::Skipped, past.data_len(args));
         Event::Given
     }
 

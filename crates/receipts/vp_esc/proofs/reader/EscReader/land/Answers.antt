@@ -38,3 +38,6 @@ returns-in-Function c rest begun few = c.function_head.ensures rest (rw c.in-Fun
 
 pub returns-in-Graphics : goal.returns-in-Graphics
 returns-in-Graphics c rest begun few = c.graphics_head.ensures rest (rw c.in-Graphics.is at begun)
+
+pub returns-in-ReadPast : goal.returns-in-ReadPast
+returns-in-ReadPast c rest begun few = c.past_head.ensures rest (rw c.in-ReadPast.is at begun)
