@@ -1,14 +1,14 @@
 -- What the profile reads without a fault is read alike by the whole language.
-use Rattle.std.proofs.Common.{◌≡◌, ℕ, Bool, true, false, Option, None, Some, List, [], ◌∷◌, ◌++◌, refl, sym, ap, ◌∙◌, arith}
+use Rattle.std.proofs.Common.{◌≡◌, ℕ, Bool, true, false, Option, None, Some, List, [], ◌∷◌, ◌++◌, refl, sym, ◌∙◌, arith}
 use Rattle.std.specs.List.{flat_map, AllByRecursion}
 use Rattle.vp_esc.specs.declared.reading.Reading.TheVariants.{Profile, Whole}
 use Rattle.vp_dots.specs.declared.fault.Fault.{Fault}
 use Rattle.vp_esc.specs.declared.item.Lead.{Lead}
 use Rattle.vp_esc.specs.declared.command.Command.{Command}
 use Rattle.vp_esc.specs.Command.{lead_of, command_of, is_listed}
-use Rattle.vp_esc.specs.Units.{is_unfinished, given, fault_in, fault_after, is_unfinished_after, given_after}
+use Rattle.vp_esc.specs.Units.{is_unfinished, given, fault_in}
 use Rattle.vp_esc.specs.Split.{Split, with_byte, split_on, split, items, fault_of}
-use Rattle.vp_esc.specs.Laws.{IsUnit, Splits}
+use Rattle.vp_esc.specs.Laws.{IsUnit}
 use Rattle.vp_esc.proofs.Divisions.{splits}
 use Rattle.vp_esc.proofs.Faults.{split_stays, fault_stays_lem}
 use Rattle.vp_esc.proofs.Fronts.{closed_sound}

@@ -48,8 +48,8 @@ abbrev pub rises_from : ℕ → List ℕ → Bool
 rises_from last [] = true
 rises_from last (n ∷ ns) = nat_lt last n && rises_from n ns
 
--- the bytes of data of a command that is read past: eight columns a byte, of bytes; columns of bytes; a cell of
--- 24 by 24 dots
+-- the bytes of data of a command that is read past: behind a count; eight times x columns of y bytes; x columns
+-- of y bytes; a cell of 24 by 24 dots; as many as are to be kept
 abbrev pub past_data : ReadPastCommand → List ℕ → ℕ
 past_data past.Family args = word_at args 1
 past_data past.StoredImage args = 8 * (slice_index args 0 * slice_index args 1)

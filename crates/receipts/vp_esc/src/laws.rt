@@ -89,8 +89,8 @@ pub fn the_profile_is_within()
 {}
 
 /// The lines of a unit list its bytes, with two exceptions: data without effect, behind ESC (, GS v 0, GS (,
-/// GS 8, GS *, GS Q, FS (, FS 2 and FS g, stand in no line; and nothing is said here of GS k with more than 255 bytes of data, whose line
-/// lists the first 255.
+/// GS 8, GS *, GS Q, FS (, FS 2 and FS g, stand in no line; and nothing is said here of GS k with more than
+/// 255 bytes of data, whose line lists the first 255.
 pub fn lines_list_bytes()
     ensures byte { (reading : Reading) (b : ℕ) → lead_of b ≡ None →
         map line_of (given reading (b ∷ [])) ≡ line_of_byte b ∷ [] }

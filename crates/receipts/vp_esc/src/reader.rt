@@ -301,7 +301,8 @@ impl EscReader {
     fn past_head(&mut self, past: ReadPast) -> Event
         requires { length self.old.kept.items ≡ head_len (Command.ReadPast past) self.old.kept.items }
         ensures { (rest : List ℕ) →
-            Begun self.old.reading self.old.lead self.old.name (Command.ReadPast past) self.old.kept.items rest →
+            Begun self.old.reading self.old.lead self.old.name (Command.ReadPast past) self.old.kept.items
+            rest →
             Lands self.old.reading (shown result self.new.item) rest self.new }
     {
         let args = self.kept.as_slice();
@@ -494,7 +495,8 @@ impl EscReader {
         ensures count { result ≡ min (length input.now) (left - 1) }
         ensures gives { (reading : Reading) (bytes : List ℕ) (n : ℕ) → Stands reading self.old bytes →
             n ≤ result →
-            items reading (bytes ++ take n input.now) ≡ items reading bytes ++ data_items kind (take n input.now) }
+            items reading (bytes ++ take n input.now) ≡
+            items reading bytes ++ data_items kind (take n input.now) }
         ensures known { (reading : Reading) (bytes : List ℕ) (n : ℕ) → Stands reading self.old bytes →
             0 < n → n ≤ result → fault_of reading (bytes ++ take n input.now) ≡ None }
         ensures stands { (reading : Reading) (bytes : List ℕ) → Stands reading self.old bytes →
@@ -515,7 +517,8 @@ impl EscReader {
         ensures fits { result ≤ length input.now }
         ensures gives { (reading : Reading) (bytes : List ℕ) (n : ℕ) → Stands reading self.old bytes →
             n ≤ result →
-            items reading (bytes ++ take n input.now) ≡ items reading bytes ++ raster_items (take n input.now) }
+            items reading (bytes ++ take n input.now) ≡
+            items reading bytes ++ raster_items (take n input.now) }
         ensures known { (reading : Reading) (bytes : List ℕ) (n : ℕ) → Stands reading self.old bytes →
             0 < n → n ≤ result → fault_of reading (bytes ++ take n input.now) ≡ None }
         ensures stands { (reading : Reading) (bytes : List ℕ) → Stands reading self.old bytes →
@@ -559,7 +562,8 @@ impl EscReader {
         ensures fits { result ≤ length input.now }
         ensures gives { (reading : Reading) (bytes : List ℕ) (n : ℕ) → Stands reading self.old bytes →
             n ≤ result →
-            items reading (bytes ++ take n input.now) ≡ items reading bytes ++ stored_items (take n input.now) }
+            items reading (bytes ++ take n input.now) ≡
+            items reading bytes ++ stored_items (take n input.now) }
         ensures known { (reading : Reading) (bytes : List ℕ) (n : ℕ) → Stands reading self.old bytes →
             0 < n → n ≤ result → fault_of reading (bytes ++ take n input.now) ≡ None }
         ensures stands { (reading : Reading) (bytes : List ℕ) → Stands reading self.old bytes →
