@@ -112,4 +112,7 @@ module _ (reading : Reading) (bytes : List ℕ) (s : Splits reading bytes (split
   -- and where they end with a whole command, all rows have come
   pub items_whole : (split reading bytes).rest ≡ [] → rows_to_come (reverse (items reading bytes)) ≡ 0
   unfolding given
-  items_whole e = grind (arith, history_is, units_next)
+  items_whole e =
+      let between : IsBetween (onto (flat_map (given reading) (split reading bytes).units) []) = units_next reading (split reading bytes).units [] s.each (tt, refl) in
+      let none : given reading (split reading bytes).rest ≡ [] = rw e refl in
+      rw (history_is, none) between.1
