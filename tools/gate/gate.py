@@ -9,11 +9,11 @@ edits its right bodies in another form are tried, which must be taken (passing.p
 begin with. Edits that stand with all that they change as they were refused on are taken from record.py's file, but
 for a tenth.
 
-gate.py [--all] [--seed N] [--renew] [--make] [CRATE..]: --all tries all edits; --seed draws the tenth as an earlier run did,
-that said it; --renew writes the file of what was refused, crate by crate. (Each run leaves it in out/.) With names of
-crates it proves these and those below them, tries their edits, and makes nothing: that is not the gate. Nor is it
-with --make, which makes all that the gate makes, and has only that proved which it is made of: no edit is tried, no
-test is run.
+gate.py [--all] [--seed N] [--renew] [--make] [CRATE..]: --all tries all edits; --seed draws the tenth as an earlier
+run did, that said it; --renew writes the file of what was refused, crate by crate. (Each run leaves it in out/.) With
+names of crates it proves these and those below them, tries their edits, and makes nothing: that is not the gate. Nor
+is it with --make, which makes all that the gate makes, and has only that proved which it is made of: no edit is tried,
+no test is run.
 
 rt ci wants all crates side by side. So it runs on a copy of the repository in which each crate of crates/FOLDER/NAME
 stands in crates/NAME, and what it made of the program is brought back, with the module that LLVM made it of. Where
