@@ -69,6 +69,8 @@ says '^lint: cannot read none.bin'
 is 2 'wrong words' "$lint" --lang french plain.bin
 is 3 'no sheet' "$lint" --font-a plain.bin plain.bin
 says '^lint: plain.bin: not a glyph sheet$'
+is 3 'a closed output' sh -c '"$1" plain.bin >&-' sh "$lint"
+says '^lint: standard output is closed$'
 "$lint" label.zpl label.zpl 2>&1 >/dev/full | grep -q Traceback && fail 'a traceback'
 
 if [ "$has_places" ]; then

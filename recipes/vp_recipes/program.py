@@ -145,10 +145,13 @@ def ended(main: Callable[[], int]) -> int:
     signal ends it, it waits for no thread."""
     name = pathlib.Path(sys.argv[0]).name
     begins()
+    if not sys.stdout:
+        # (a file that is opened would be it)
+        print(f'{name}: standard output is closed', file=sys.stderr)
+        return 3
     try:
         status = main()
-        if sys.stdout:
-            sys.stdout.flush()
+        sys.stdout.flush()
         return status
     except Fault as fault:
         print(f'{name}: {fault}', file=sys.stderr)

@@ -1,5 +1,5 @@
-//! What is painted, through the public calls of the crates below: dots, characters, bar codes, QR symbols
-//! and the page, by outside vectors and by plain bodies that paint dot by dot.
+//! What is painted, through the public calls of the crates below: dots, characters, bar codes, QR symbols,
+//! the page, files of PNG, and packed bytes, by outside vectors and by plain bodies that paint dot by dot.
 #![tactic(auto)]
 
 #[cfg(test)]
@@ -13,7 +13,11 @@ mod elements;
 #[cfg(test)]
 mod glyph;
 #[cfg(test)]
+mod inflate;
+#[cfg(test)]
 mod page;
+#[cfg(test)]
+mod png;
 #[cfg(test)]
 mod qr;
 #[cfg(test)]

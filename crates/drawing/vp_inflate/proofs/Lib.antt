@@ -1,0 +1,8 @@
+pub mod BitWords
+pub mod CodeWords
+pub mod SymbolWords
+pub mod TableWords
+pub mod Rings
+pub mod Readings
+pub mod ElementReadings
+pub mod Leading

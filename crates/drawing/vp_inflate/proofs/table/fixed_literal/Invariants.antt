@@ -1,0 +1,6 @@
+use Rattle.std.proofs.Common.{◌≡◌, ℕ, ◌<◌, length, get_or}
+use Rattle.vp_inflate.specs.Tables.{fixed_bits}
+use Rattle.vp_inflate.proofs.table.fixed_literal.Given as goal
+
+abbrev pub invariant-loop-symbol : goal.invariant-loop-symbol
+invariant-loop-symbol l = (length l.lengths ≡ 288) × ((k : ℕ) → k < l.symbol → get_or l.lengths k 0 ≡ fixed_bits k)

@@ -1,0 +1,11 @@
+pub mod Bits
+pub mod Codes
+pub mod Headers
+pub mod Tables
+pub mod Pieces
+pub mod Ranges
+pub mod Unpacking
+pub mod Phases
+pub mod Windows
+pub mod Standing
+pub mod Reaching
