@@ -1,0 +1,2 @@
+-- The picture of a joined image.
+use Rattle.std.specs.Prelude.{ℕ}

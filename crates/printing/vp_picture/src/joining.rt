@@ -1,0 +1,1 @@
+//! Images joined into a PNG file.

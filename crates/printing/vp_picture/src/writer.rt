@@ -1,0 +1,1 @@
+//! What takes a joined image and puts its PNG file out.
