@@ -68,7 +68,7 @@ same_pbm text one other j k =
           ∙ ap (text_of_size other.width other.height) r ∙ sym (joined_text text other k)
     ]
 
-wide_fits : (width : ℕ) (strips : List Strip) → AreStrips width strips → height_of strips ≢ 0 → IsNumber width
+pub wide_fits : (width : ℕ) (strips : List Strip) → AreStrips width strips → height_of strips ≢ 0 → IsNumber width
 wide_fits width [] are n = absurd (n refl)
 wide_fits width (s ∷ strips) are n = rw are.0.width_is at are.0.width_fits
 

@@ -1,9 +1,10 @@
 //! What a joined image is written to: its size, and then its rows, in any pieces.
-ghost use Rattle.std.specs.Prelude.{◌≡◌, ℕ, ◌+◌, ◌*◌, Bool, false, List, [], ⊤, length, OnOk};
+ghost use Rattle.std.specs.Prelude.{◌≡◌, ℕ, ◌+◌, ◌*◌, ◌≤◌, Bool, false, List, [], ⊤, length, OnOk};
 ghost use Rattle.std.specs.Io.KnownBytes.{Appends};
 ghost use Rattle.std.proofs.KnownBytes.{Appends-nil};
 ghost use Rattle.vp_dots.specs.Images.{row_bytes};
 ghost use Rattle.vp_streams.specs.Count.{one_more_if};
+ghost use Rattle.vp_join.specs.Strips.{greatest};
 ghost use Rattle.vp_join.specs.Passes.{Writes, Follows, is_write_fault, head_of, never};
 
 use crate::fault::JoinFault;
@@ -32,7 +33,9 @@ pub trait ImageWriter {
 
     /// Begins an image. One of no rows has no header either.
     fn begin(&mut self, size: Size) -> Result<(), JoinFault>
-        requires { too_wide size.width ≡ false }
+        requires narrow { too_wide size.width ≡ false }
+        requires wide { size.width ≡ 0 → size.height ≡ 0 }
+        requires low { size.height ≤ greatest }
         ensures writes { Writes (λ bytes. has self.old bytes self.new) (head_of size) result }
         ensures awaits { OnOk result (awaits self.new (size.height * row_bytes size.width)) }
         ensures failed { failures self.new ≡ one_more_if (is_write_fault result) (failures self.old) };

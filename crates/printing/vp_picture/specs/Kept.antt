@@ -28,3 +28,18 @@ pub record Draws (held holds : Option (List ℕ)) (d e : Drawing) (bytes : List 
 abbrev pub IsAnswered : Result ⊤ JoinFault → Type 0
 IsAnswered (Ok done) = Unit {0}
 IsAnswered (Err fault) = fault ≡ Write
+
+-- a writer that was new took a text, and an output holds the bytes of its file so far
+abbrev pub ShowsAny : Option Drawing → List ℕ → List ℕ → Type 0
+ShowsAny None text out = (text ≡ []) × (out ≡ [])
+ShowsAny (Some d) text out = Shows d text out
+
+pub record Drawn (held holds : Option (List ℕ)) (image : Option Drawing) (text : List ℕ) : Type 0 where
+  pub out : List ℕ
+  pub appended : Appends held holds out
+  pub shows : ShowsAny image text out
+
+-- a writer waits for so many bytes of rows, and what came before is put out
+abbrev pub Waits : Option Drawing → ℕ → Type 0
+Waits None more = more ≡ 0
+Waits (Some d) more = (more + length d.part.items ≡ to_come d) × (waiting_bytes d.png ≡ [])

@@ -17,6 +17,7 @@ pub struct Drawing {
     part: ArrayVec<u8, 208>,
     ghost wide: { across ≡ (png.width + 7) / 8 },
     ghost few: { across ≤ 208 },
+    ghost tall: { (0 < png.height) × (png.height ≤ 999999999) },
     ghost cut: { array_vec_len part < across },
 }
 
@@ -24,7 +25,7 @@ impl Drawing {
     ghost use Rattle.vp_dots.specs.Headers.{header_of};
     ghost use Rattle.vp_dots.specs.Images.{row_bytes};
     ghost use Rattle.vp_png.specs.Kept.{waiting_bytes};
-    ghost use Rattle.vp_join.specs.Passes.{is_write_fault};
+    ghost use Rattle.vp_join.specs.Passes.{Writes, is_write_fault};
     ghost use Rattle.vp_streams.specs.Count.{one_more_if};
     ghost use Rattle.vp_picture.specs.Kept.{Shows, Draws, IsAnswered, to_come};
 
@@ -67,6 +68,28 @@ impl Drawing {
             self.part.clear();
         }
         n
+    }
+
+    /// Takes the next bytes of rows, and puts out what comes of them.
+    pub fn draw<K: Sink>(&mut self, rows: &[u8], output: &mut K) -> Result<(), JoinFault>
+        requires room { (more : ℕ) × (length rows.now + more + length self.old.part.items ≡ to_come self.old) }
+        requires idle { waiting_bytes self.old.png ≡ [] }
+        ensures writes { Writes
+            (λ bytes. Draws (K.contents output.old) (K.contents output.new) self.old self.new bytes)
+            rows.now result }
+        ensures room { (more : ℕ) → length rows.now + more + length self.old.part.items ≡ to_come self.old →
+            OnOk result (more + length self.new.part.items ≡ to_come self.new) }
+        ensures idle { OnOk result (waiting_bytes self.new.png ≡ []) }
+        ensures failed { K.failed_writes output.new
+            ≡ one_more_if (is_write_fault result) (K.failed_writes output.old) }
+    {
+        let mut at = 0;
+        'pieces: while at < rows.len() {
+            let n = self.take(&rows[at..]);
+            at += n;
+            self.flush(output)?;
+        }
+        Ok(())
     }
 
     /// Puts out what waits.

@@ -11,5 +11,5 @@ mod drawing;
 mod joining;
 mod writer;
 
-//pub use joining::join_png;
-//pub use writer::PngWriter;
+pub use joining::join_png;
+pub use writer::PngWriter;

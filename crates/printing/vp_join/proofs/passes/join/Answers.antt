@@ -5,7 +5,7 @@ use Rattle.vp_streams.specs.Count.{one_more_if}
 use Rattle.vp_join.specs.Passes.{is_read_fault, is_write_fault}
 use Rattle.vp_join.specs.declared.fault.JoinFault.TheVariants.{TooWide, TooManyTurns}
 use Rattle.vp_join.specs.declared.passes.Measured.{Measured}
-use Rattle.vp_join.proofs.Sizes.{no_height}
+use Rattle.vp_join.proofs.Sizes.{no_height, low}
 use Rattle.vp_join.proofs.Joining.{after_measure, after_width, after_head, after_copy, after_all, exact_of, first_writes, same_read, copy_read, copy_write, not_both}
 use Rattle.vp_join.proofs.passes.join.Goals as goal
 
@@ -77,6 +77,15 @@ returns-in_err-begin g c =
       failed_reads = record { first = false; second = false; first_counted = c.in_ok-measured.ensures.failed; second_counted = refl; either = refl; one = refl };
       failed_writes = rw w.answer at c.in_err-begin.ensures.failed;
     })
+
+pub begin-requires : goal.begin-requires
+begin-requires g c =
+    let m = c.in_ok-measured.ensures.measures in
+    record {
+      narrow = sym c.is_too_wide.ensures ∙ c.if-is_too_wide.false;
+      wide = no_height m.bytes c.in_ok-measured.measured.size m.answer.0;
+      low = low m.bytes c.in_ok-measured.measured.size m.answer.0;
+    }
 
 pub copy-requires : goal.copy-requires
 copy-requires g c = record {
