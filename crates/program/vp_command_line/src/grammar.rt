@@ -23,6 +23,14 @@ fn images<'a>(alloc: Global) -> Arg<'a> {
         .help("Images of one width, as they were printed; read twice")
 }
 
+/// Whether the joined image is written as PNG.
+fn png<'a>(alloc: Global) -> Arg<'a> {
+    Arg::new(alloc, "png")
+        .long("png")
+        .action(ArgAction::SetTrue)
+        .help("Write a PNG file, at most 1,664 dots wide")
+}
+
 /// The width of the paper.
 fn width<'a>(alloc: Global) -> Arg<'a> {
     Arg::new(alloc, "width")
@@ -112,6 +120,7 @@ fn list<'a>(alloc: Global) -> Result<Command<'a>, AllocError> {
 fn join<'a>(alloc: Global) -> Result<Command<'a>, AllocError> {
     Command::new(alloc, "join")
         .about("Joins images to one, with all their rows in order")
+        .arg(png(alloc))?
         .arg(images(alloc))
 }
 

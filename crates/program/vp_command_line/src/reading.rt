@@ -1,5 +1,5 @@
 //! What the words that were read ask for.
-use crate::order::{Fonts, Order, Stream, Task};
+use crate::order::{Fonts, Form, Order, Stream, Task};
 use clap::error::ErrorKind;
 use clap::{ArgMatches, Command, Error};
 use std::convert::AsStr;
@@ -41,7 +41,10 @@ fn listed<'a>(words: &ArgMatches<'a>) -> Stream<'a> {
 /// What the words ask for; none without a subcommand, or where it lacks what it requires.
 fn asked<'a>(words: &ArgMatches<'a>) -> Option<Order<'a>> {
     let order = match words.subcommand()? {
-        ("join", join) => Order::Join(join.get_str("FILE")?),
+        ("join", join) => Order::Join {
+            file: join.get_str("FILE")?,
+            form: form(join.get_flag("png")),
+        },
         ("list", list) => Order::Read(listed(list)),
         ("label", label) => Order::Read(printed_labels(label)),
         (_, receipt) => Order::Read(printed_receipt(receipt)),
@@ -94,6 +97,11 @@ fn listing<'a>(offsets: bool) -> Task<'a> {
     } else {
         Task::List
     }
+}
+
+/// The form that a joined image is written in.
+fn form(png: bool) -> Form {
+    if png { Form::Png } else { Form::Pbm }
 }
 
 /// The language of this name, one of those that can be listed. Labels have no profile: all their commands are
