@@ -159,7 +159,12 @@ impl<A: Small + Copy> Machine<A> {
             Language::Receipt => Machine::receipt(alloc, sheets, Width::W576, Reading::Profile),
             Language::Receipt58 => Machine::receipt(alloc, sheets, Width::W384, Reading::Profile),
             Language::WholeReceipt => Machine::receipt(alloc, sheets, Width::W576, Reading::Whole),
-            Language::WholeReceipt58 => Machine::receipt(alloc, sheets, Width::W384, Reading::Whole),
+            Language::WholeReceipt58 => Machine::receipt(
+                alloc,
+                sheets,
+                Width::W384,
+                Reading::Whole,
+            ),
             Language::Label => Machine::label(alloc, sheets),
         }
     }

@@ -63,8 +63,8 @@ pub fn an_item_draws_at_most()
 pub fn what_is_printed_is_images()
     ensures images { (reading : Reading) (setup : Setup) (bytes : List ℕ) →
         printed setup (reverse (items reading bytes)) ≡
-        flat_map pbm (images setup (reverse (items reading bytes))) ++ begun setup (reverse
-            (items reading bytes)) }
+        flat_map pbm (images setup (reverse (items reading bytes)))
+        ++ begun setup (reverse (items reading bytes)) }
     ensures whole { (reading : Reading) (setup : Setup) (bytes : List ℕ) → (split reading bytes).rest ≡ [] →
         begun setup (reverse (items reading bytes)) ≡ [] }
     ensures across { (setup : Setup) (before : List EscItem) →

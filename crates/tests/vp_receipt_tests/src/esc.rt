@@ -101,10 +101,12 @@ fn push_symbol(bytes: &mut Vec<u8>, count: usize) -> Result<(), AllocError> {
 fn long_symbol(alloc: Global, count: usize) -> Result<(usize, bool), AllocError> {
     let mut bytes = Vec::new(alloc);
     push_symbol(&mut bytes, count)?;
-    Ok(match last_item(&mut EscReader::new(Reading::Profile), bytes.as_slice()) {
-        Some(EscItem::Symbol { data, more, .. }) => (data.len(), *more),
-        _ => (0, false),
-    })
+    Ok(
+        match last_item(&mut EscReader::new(Reading::Profile), bytes.as_slice()) {
+            Some(EscItem::Symbol { data, more, .. }) => (data.len(), *more),
+            _ => (0, false),
+        },
+    )
 }
 
 /// How many bytes are sent, how many are kept, and whether there are more.
