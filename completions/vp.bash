@@ -16,7 +16,7 @@ _vp() {
         receipt:-*) options='--width --whole --font-a --font-b --help' ;;
         label:-*) options='--font-a --help' ;;
         list:-*) options='--lang --whole --offsets --help' ;;
-        join:-*) options='--help' ;;
+        join:-*) options='--png --help' ;;
         esac
         ;;
     esac

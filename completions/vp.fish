@@ -14,4 +14,5 @@ complete -c vp -n '__fish_seen_subcommand_from receipt label' -l font-a -r -F -d
 complete -c vp -n '__fish_seen_subcommand_from receipt' -l font-b -r -F -d 'Glyph sheet of font B'
 complete -c vp -n '__fish_seen_subcommand_from list' -l lang -x -a 'receipt label' -d 'What the stream is written in'
 complete -c vp -n '__fish_seen_subcommand_from list' -l offsets -d 'The place of each item before its line'
+complete -c vp -n '__fish_seen_subcommand_from join' -l png -d 'A PNG file'
 complete -c vp -n '__fish_seen_subcommand_from help' -f -a 'receipt label list join'
