@@ -1,5 +1,5 @@
 -- A writer that took all of an image holds its file.
-use Rattle.std.proofs.Common.{eq-eqb, add-mul, ◌≡◌, ◌<◌, ◌≤◌, ◌+◌, ◌*◌, ◌/◌, ℕ, zero, suc, Bool, true, false, List, [], ◌∷◌, ◌++◌, length, Option, None, Some, Ok, Err, refl, sym, ap, ◌∙◌, append_assoc, length-append, arith, subst}
+use Rattle.std.proofs.Common.{inl, inr, ◌⊎◌, eq-eqb, add-mul, ◌≡◌, ◌<◌, ◌≤◌, ◌+◌, ◌*◌, ◌/◌, ℕ, zero, suc, Bool, true, false, List, [], ◌∷◌, ◌++◌, length, Option, None, Some, Ok, Err, refl, sym, ap, ◌∙◌, append_assoc, length-append, arith, subst}
 use Rattle.std.specs.Prelude.{Result, ⊤, OnOk}
 use Rattle.std.proofs.lemmas.List.{append-nil}
 use Rattle.std.proofs.lemmas.Bool.{ne_eqb}
@@ -12,14 +12,15 @@ use Rattle.vp_png.specs.File.{IsPng, AreAcross, joined}
 use Rattle.vp_png.specs.Kept.{waiting_bytes}
 use Rattle.vp_join.specs.Strips.{Strip, IsNumber, IsJoined, AreStrips, BeginsWith, greatest}
 use Rattle.vp_join.specs.Told.{Told, told, nothing}
-use Rattle.vp_join.specs.Passes.{IsExactly, IsWritten}
+use Rattle.vp_join.specs.Passes.{Joins, IsExactly, IsWritten}
 use Rattle.vp_join.specs.declared.fault.JoinFault.{JoinFault}
 use Rattle.vp_join.specs.declared.fault.JoinFault.TheVariants.{Header, Width, TooTall, Short, TooWide, Differ, Read, Write, TooManyTurns}
+use Rattle.vp_png.proofs.Fronts.{goes_on}
 use Rattle.vp_join.proofs.Agree.{after, told_images}
 use Rattle.vp_join.proofs.JoinedLaws.{wide_fits}
 use Rattle.vp_picture.specs.declared.drawing.Drawing.{Drawing}
 use Rattle.vp_picture.specs.Kept.{Shows, ShowsAny, Draws, Drawn, Waits, IsAnswered, to_come}
-use Rattle.vp_picture.specs.Pictures.{IsFile, IsPicture, IsPictured, too_wide}
+use Rattle.vp_picture.specs.Pictures.{IsFile, IsPicture, IsPictured, Begins, HoldsFront, too_wide}
 
 -- what is drawn follows what was
 pub follows_drawn : (a b c : Option (List ℕ)) (d e : Drawing) (before bytes : List ℕ) → Drawn a b (Some d) before → Draws b c d e bytes → Drawn a c (Some e) (before ++ bytes)
@@ -139,3 +140,36 @@ module _ (text : List ℕ) (a b : Option (List ℕ)) (image : Option Drawing) (H
   pictured (Err Read) k w = tt
   pictured (Err Write) k w = tt
   pictured (Err TooManyTurns) k w = tt
+
+-- what is drawn is a front of a file
+any_front : (image : Option Drawing) (text out : List ℕ) → ShowsAny image text out → ((text ≡ []) × (out ≡ [])) ⊎ Begins text out
+any_front None text out s = inl s
+any_front (Some d) text out s = inr (record {
+  width = d.png.width;
+  height = d.png.height;
+  rows = s.rows;
+  part = d.part.items;
+  text_is = s.text_is;
+  less = omega (arith, d.cut, d.wide);
+  front = goes_on d.png s.rows out s.stands;
+})
+
+pub fronts : (a b : Option (List ℕ)) (image : Option Drawing) (text : List ℕ) → Drawn a b image text → HoldsFront a b text
+fronts a b image text d = record { out = d.out; appended = d.appended; front = any_front image text d.out d.shows }
+
+pub joins_by : (a c b d : Option (List ℕ)) (Has Holds : List ℕ → Type 0) (wide : ℕ → Bool) (result : Result ℕ JoinFault) → ((t : List ℕ) → Has t → Holds t) → Joins a c b d Has wide result → Joins a c b d Holds wide result
+joins_by a c b d Has Holds wide result f j = record {
+  size = j.size;
+  first = j.first;
+  second = j.second;
+  written = j.written;
+  rest = j.rest;
+  consumed_first = j.consumed_first;
+  consumed_second = j.consumed_second;
+  has = f j.written j.has;
+  front = j.front;
+  fits = j.fits;
+  measured = j.measured;
+  narrow = j.narrow;
+  ending = j.ending;
+}

@@ -2,8 +2,7 @@
 ghost use Rattle.std.specs.Prelude.{◌≡◌, ℕ, List, Some, None, Err};
 ghost use Rattle.vp_join.specs.Passes.{Joins, HaveCalled, HasFailed, is_read_fault, is_write_fault};
 ghost use Rattle.vp_streams.specs.Count.{one_more_if};
-ghost use Rattle.vp_picture.specs.Kept.{Drawn};
-ghost use Rattle.vp_picture.specs.Pictures.{IsPictured, too_wide};
+ghost use Rattle.vp_picture.specs.Pictures.{HoldsFront, IsPictured, too_wide};
 
 use crate::writer::PngWriter;
 use vp_join::{JoinFault, join};
@@ -21,7 +20,7 @@ pub fn join_png<S: Source, T: Source, K: Sink>(
     requires { picture.old.image ≡ None }
     ensures joins { Joins (S.remaining first.old) (S.remaining first.new)
         (T.remaining second.old) (T.remaining second.new)
-        (λ text. Drawn (K.contents picture.old.output) (K.contents picture.new.output) picture.new.image text)
+        (λ text. HoldsFront (K.contents picture.old.output) (K.contents picture.new.output) text)
         too_wide result }
     ensures exact { (text : List ℕ) → S.remaining first.old ≡ Some text → T.remaining second.old ≡ Some text →
         IsPictured text (K.contents picture.old.output) (K.contents picture.new.output) result }
