@@ -1,7 +1,7 @@
 -- A file's bytes, piece by piece.
 use Rattle.std.proofs.Common.{◌≡◌, ℕ, ◌+◌, ◌*◌, ◌/◌, ◌≤◌, List, [], ◌∷◌, ◌++◌, length, take, drop, flat_map, slice_index_or, refl, ap, sym, ◌∙◌, arith, append_assoc, length-append, subst}
 use Rattle.std.proofs.lemmas.Grind.{flat_map-append}
-use Rattle.std.proofs.lemmas.List.{append-nil, drop-append-le, take_at, length-take-le, drop-drop, take-append-drop}
+use Rattle.std.proofs.lemmas.List.{append-nil, drop-append-le, drop-drop, take-append-drop}
 use Rattle.std.specs.Int.{w32, to_be_bytes}
 use Rattle.vp_png.specs.Zlib.{four_bytes}
 use Rattle.vp_png.specs.Bits.{low_bits, bits_of}

@@ -1,19 +1,16 @@
 -- What is handed out of a file goes on to be the file, whatever rows are still to come.
-use Rattle.std.proofs.Common.{◌≡◌, ℕ, zero, suc, ◌+◌, ◌-◌, ◌*◌, ◌/◌, ◌%◌, ◌<◌, ◌≤◌, Bool, true, false, cond, ltb, List, [], ◌∷◌, ◌++◌, length, get_or, take, drop, reverse, flat_map, replicate, map, inl, inr, refl, ap, sym, ◌∙◌, arith, append_assoc, length-append, subst}
+use Rattle.std.proofs.Common.{◌≡◌, ℕ, zero, suc, ◌+◌, ◌-◌, ◌*◌, ◌/◌, ◌%◌, ◌<◌, Bool, true, false, cond, ltb, List, [], ◌∷◌, ◌++◌, length, get_or, take, drop, reverse, flat_map, replicate, map, inl, inr, refl, ap, sym, ◌∙◌, arith, append_assoc, length-append, subst}
 use Rattle.std.proofs.lemmas.Grind.{flat_map-append}
 use Rattle.std.proofs.lemmas.List.{append-nil, reverse-append, length-take-le, length-drop, length-replicate, take-append-drop}
 use Rattle.std.proofs.lemmas.Bool.{cases_eq}
-use Rattle.std.proofs.Math.Nat.{mod-lt}
-use Rattle.vp_png.specs.declared.token.Token.{Token}
 use Rattle.vp_png.specs.declared.token.Token.TheVariants.{Literal}
 use Rattle.vp_png.specs.declared.png.Png.{Png}
 use Rattle.vp_png.specs.Bits.{low_bits, code_bits, bits_of}
 use Rattle.vp_png.specs.Codes.{symbol_bits}
-use Rattle.vp_png.specs.Tokens.{copied, unpacked, IsToken}
+use Rattle.vp_png.specs.Tokens.{copied, unpacked}
 use Rattle.vp_png.specs.Zlib.{IsZlib, four_bytes, adler}
-use Rattle.vp_png.specs.File.{IsPng, IsFront, AreAcross, head, chunk, idat, iend, joined, scanline, scanlines}
+use Rattle.vp_png.specs.File.{IsFront, AreAcross, head, chunk, idat, iend, joined, scanline, scanlines}
 use Rattle.vp_png.specs.Kept.{Packs, Going, Stands, bits_in, waiting_bytes}
-use Rattle.vp_png.proofs.LowBits.{length_bits_of}
 use Rattle.vp_png.proofs.Packing.{packs_token, ended}
 use Rattle.vp_png.proofs.Files.{joined_more, chunk_file}
 
@@ -206,8 +203,7 @@ going_on p rows out g = λ later across all.
     let bits = are_both (bits_of p.packer.bits.bytes.items) (low_bits p.packer.bits.count p.packer.bits.held) (are_bytes p.packer.bits.bytes.items) (are_low p.packer.bits.count p.packer.bits.held) in
     let bytes = subst AreBytes lines (bytes_scanlines (rows ++ later)) in
     let last = last_part (joined g.parts) (bits_in p.packer.bits) _ _ (scanlines rows) (scanlines later) g.packed.packs bits bytes in
-    let packed = goes_on_packed (joined g.parts) (bits_in p.packer.bits) _ _ (scanlines rows) (scanlines later) g.packed.packs bits bytes in
-    (
+    let packed = goes_on_packed (joined g.parts) (bits_in p.packer.bits) _ _ (scanlines rows) (scanlines later) g.packed.packs bits bytes in (
       (old ++ chunk idat last) ++ chunk iend [],
       record {
         parts = g.parts ++ last ∷ [];

@@ -1,4 +1,4 @@
-use Rattle.std.proofs.Common.{◌≡◌, ◌+◌, ◌-◌, ap, sym, ◌∙◌, drop, length, length-drop, arith}
+use Rattle.std.proofs.Common.{◌≡◌, ◌+◌, ◌-◌, ap, ◌∙◌, length, length-drop, arith}
 use Rattle.vp_png.proofs.Files.{hand_file}
 use Rattle.vp_png.proofs.png.Png.hand_out.Goals as goal
 
