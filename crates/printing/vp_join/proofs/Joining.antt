@@ -7,7 +7,7 @@ use Rattle.std.specs.Io.KnownBytes.{Consumes, IsAtEnd}
 use Rattle.vp_dots.specs.Images.{Image}
 use Rattle.vp_join.specs.Strips.{IsJoined, IsOffence, without_padding, strips_rows}
 use Rattle.vp_join.specs.Told.{rows_told}
-use Rattle.vp_join.specs.Passes.{Tells, HasSize, IsMeasure, IsFound, IsCopy, Copies, Joins, IsEnding, IsRefused, IsWhole, IsTooWide, IsExactly, IsMeasured, Follows, MayFollow, head_of, is_late, is_read_fault, is_write_fault}
+use Rattle.vp_join.specs.Passes.{Tells, HasSize, IsMeasure, IsFound, IsCopy, Copies, Joins, IsEnding, IsRefused, IsWhole, IsExactly, IsMeasured, Follows, MayFollow, head_of, is_late, is_read_fault, is_write_fault}
 use Rattle.vp_join.specs.declared.fault.JoinFault.{JoinFault}
 use Rattle.vp_join.specs.declared.fault.JoinFault.TheVariants.{Header, Width, TooTall, Short, TooWide, Differ, Read, Write, TooManyTurns}
 use Rattle.vp_join.specs.declared.fault.Offence.{Offence}

@@ -1,22 +1,22 @@
 -- A writer that took all of an image holds its file.
-use Rattle.std.proofs.Common.{inl, inr, ◌⊎◌, eq-eqb, add-mul, ◌≡◌, ◌<◌, ◌≤◌, ◌+◌, ◌*◌, ◌/◌, ℕ, zero, suc, Bool, true, false, List, [], ◌∷◌, ◌++◌, length, Option, None, Some, Ok, Err, refl, sym, ap, ◌∙◌, append_assoc, length-append, arith, subst}
+use Rattle.std.proofs.Common.{inl, inr, ◌⊎◌, eq-eqb, add-mul, ◌≡◌, ◌<◌, ◌+◌, ◌*◌, ℕ, zero, suc, Bool, List, [], ◌∷◌, ◌++◌, length, Option, None, Some, Ok, Err, refl, sym, ap, ◌∙◌, length-append, arith, subst}
 use Rattle.std.specs.Prelude.{Result, ⊤, OnOk}
 use Rattle.std.proofs.lemmas.List.{append-nil}
 use Rattle.std.proofs.lemmas.Bool.{ne_eqb}
-use Rattle.std.proofs.KnownBytes.{Appends-nil, Appends-trans}
+use Rattle.std.proofs.KnownBytes.{Appends-trans}
 use Rattle.std.specs.Io.KnownBytes.{Appends}
 use Rattle.vp_dots.specs.Headers.{header_of}
 use Rattle.vp_dots.specs.Images.{Image, row_bytes, image_rows, pbm}
 use Rattle.vp_dots.proofs.ImageLaws.{length-image_rows}
 use Rattle.vp_png.specs.File.{IsPng, AreAcross, joined}
 use Rattle.vp_png.specs.Kept.{waiting_bytes}
-use Rattle.vp_join.specs.Strips.{Strip, IsNumber, IsJoined, AreStrips, BeginsWith, greatest}
-use Rattle.vp_join.specs.Told.{Told, told, nothing}
+use Rattle.vp_join.specs.Strips.{Strip, IsNumber, IsJoined, BeginsWith}
+use Rattle.vp_join.specs.Told.{Told}
 use Rattle.vp_join.specs.Passes.{Joins, IsExactly, IsWritten}
 use Rattle.vp_join.specs.declared.fault.JoinFault.{JoinFault}
 use Rattle.vp_join.specs.declared.fault.JoinFault.TheVariants.{Header, Width, TooTall, Short, TooWide, Differ, Read, Write, TooManyTurns}
 use Rattle.vp_png.proofs.Fronts.{goes_on}
-use Rattle.vp_join.proofs.Agree.{after, told_images}
+use Rattle.vp_join.proofs.Agree.{told_images}
 use Rattle.vp_join.proofs.JoinedLaws.{wide_fits}
 use Rattle.vp_picture.specs.declared.drawing.Drawing.{Drawing}
 use Rattle.vp_picture.specs.Kept.{Shows, ShowsAny, Draws, Drawn, Waits, IsAnswered, to_come}
@@ -100,6 +100,7 @@ file_of d i out s wide high all idle =
     none_in : (xs : List ℕ) → length xs ≡ 0 → xs ≡ []
     none_in [] h = refl
     none_in (x ∷ xs) h = absurd (omega arith)
+
     rows_none : (left across : ℕ) → left ≡ 0 → left * across ≡ 0
     rows_none left across e = rw e (omega arith)
 

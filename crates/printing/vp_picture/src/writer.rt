@@ -71,8 +71,8 @@ impl<K: Sink> ImageWriter for PngWriter<K> {
     }
 
     ghost nothing = { λ a new. record {
-        out = [];
-        appended = Appends-nil (K.contents a.output);
-        shows = subst (λ image. ShowsAny image [] []) (sym new) (refl, refl)
+      out = [];
+      appended = Appends-nil (K.contents a.output);
+      shows = subst (λ image. ShowsAny image [] []) (sym new) (refl, refl);
     } };
 }

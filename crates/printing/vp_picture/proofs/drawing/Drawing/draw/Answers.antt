@@ -1,9 +1,8 @@
-use Rattle.std.proofs.Common.{arith, ◌≡◌, ◌∙◌, ◌+◌, ◌++◌, [], take, drop, length, ap, sym, refl}
+use Rattle.std.proofs.Common.{arith, ◌+◌, take, drop, length, ap}
 use Rattle.std.proofs.lemmas.List.{take-append-drop, length-drop}
-use Rattle.std.proofs.Math.Seq.{take-add}
 use Rattle.std.proofs.lemmas.Result.{err_from_is_err_and}
 use Rattle.vp_join.proofs.Cuts.{part_is}
-use Rattle.vp_picture.proofs.Draws.{draws_more, drawn_more}
+use Rattle.vp_picture.proofs.Draws.{drawn_more}
 use Rattle.vp_picture.proofs.drawing.Drawing.draw.Goals as goal
 
 pub pieces-preserved : goal.pieces-preserved

@@ -1,4 +1,4 @@
-use Rattle.std.proofs.Common.{◌≡◌, ◌≤◌, ◌+◌, ◌-◌, [], length, take, ℕ}
+use Rattle.std.proofs.Common.{◌≡◌, ◌≤◌, ◌+◌, ◌-◌, [], length, take}
 use Rattle.vp_png.specs.Kept.{waiting_bytes}
 use Rattle.vp_picture.specs.Kept.{Draws, to_come}
 use Rattle.vp_picture.proofs.drawing.Drawing.draw.Given as goal

@@ -1,7 +1,6 @@
-use Rattle.std.proofs.Common.{arith, ◌≡◌, ◌∙◌, ◌*◌, [], take, length, drop, ap, refl}
-use Rattle.std.proofs.lemmas.List.{length-drop}
+use Rattle.std.proofs.Common.{arith, ◌∙◌, ◌*◌, [], take, ap, refl}
 use Rattle.vp_png.specs.Kept.{waiting_bytes}
-use Rattle.vp_picture.proofs.Draws.{draws_nil, draws_more, put_out}
+use Rattle.vp_picture.proofs.Draws.{draws_more, put_out}
 use Rattle.vp_picture.proofs.drawing.Drawing.flush.Goals as goal
 
 pub writes-preserved : goal.writes-preserved
