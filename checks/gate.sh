@@ -140,6 +140,12 @@ gate
 says '^must-pass one/quarter_with_a_type.edit: taken'
 says '^must-pass one/half_by_a_shift.edit: NOT TAKEN'
 [ "$status" = 1 ]
+# what is only made has no edit tried, nor is what is kept of them another
+before=$(sha256sum "$kept")
+gate --make
+says '^1 passed, 0 failed$'
+says '^gate: no edit was tried, and no test run: this is not the gate$'
+[ "$status$(sha256sum "$kept")" = "0$before" ]
 # (as with the crate's name)
 gate one
 says '^must-pass one/half_by_a_shift.edit: NOT TAKEN'

@@ -20,6 +20,9 @@ RECEIPTS: List[Tuple[bytes, List[Tuple[int, str, bytes]]]] = [
     (b'\x1d(H\x06\x000012\x1dr', [(11, 'GS ( H', b'0012\x1dr')]),
     (b'\x1d(E\x03\0\x01IN\x1dg2\0\x14\0.', [(8, 'GS ( E', b'\x01IN'), (14, 'GS g', b'2\0\x14\0')]),
     (b'\x1d(L\x06\x000EAB\1\1\x1d(L\x04\x000@KC.', [(20, 'GS ( L', b'0@KC')]),
+    # the size of a QR symbol is asked for, and is nothing else's
+    (b'\x1d(k\x05\x001P0HE\x1d(k\x03\x001R0.\x1d(k\x03\x000R0\x1d(k\x03\x001R1', [
+        (18, 'GS ( k', b'1R0'), (35, 'GS ( k', b'1R1')]),
     # out of range, so they aren't acted upon
     (b'\x10\x04\x05\x10\x04\x09\x10\x05\x03\x10\x14\x01\x02\x01', []),
     (b'\x10\x14\x01\0\x01\x1dr\x31\x10\x14\x08\x01\x03\x14\x01\x06\x02\x08\x10\x14\x02\x01\x08\x10\x14\x07\x01', [
@@ -62,6 +65,14 @@ class Asked(unittest.TestCase):
     def test_labels(self) -> None:
         for data, want in LABELS:
             self.assertEqual(short(self.each('label', data)), want, data)
+
+    def test_symbol(self) -> None:
+        """With the size of a symbol come the commands that it is drawn by, those before ESC @ no more."""
+        ask, module, level = b'\x1d(k\x03\x001R0', b'\x1d(k\x03\x001C\5', b'\x1d(k\x03\x001E1'
+        first, second = b'\x1d(k\x06\x001P0one', b'\x1d(k\x06\x001P0two'
+        stream = first + module + ask + second + level + ask + b'\x1b@' + ask
+        self.assertEqual([it.symbol for _, it in self.each('receipt', stream)],
+                         [module + first, module + level + second, b''])
 
     def test_as_they_come(self) -> None:
         """A request is given with its last byte, and nothing waits behind it."""

@@ -6,7 +6,8 @@ a printer answers them when they arrive.
 from __future__ import annotations
 
 import re
-from typing import Dict, Iterable, Iterator, List, NamedTuple, Optional, Tuple, Union
+from collections import deque
+from typing import Deque, Dict, Iterable, Iterator, List, NamedTuple, Optional, Tuple, Union
 
 from .faults import BadArgument, Fault
 from .handle import Handle
@@ -31,6 +32,8 @@ RECEIPT_NAMES = {'gs 72': 'GS r', 'gs 49': 'GS I', 'gs 61': 'GS a'}
 # Those whose item is their head: how many bytes follow at most.
 COUNTED_NAMES = {'gs 28 48': 'GS ( H', 'gs 28 45': 'GS ( E', 'gs 28 4c': 'GS ( L'}
 MOST_COUNTED = 16
+# The size of a QR symbol is asked for: an argument follows.
+SYMBOL_SIZE = 'gs 28 6b 03 00 31 52'.split()
 # The functions of GS ( L that ask: how much of the graphics memory there is, how much is left, which keys are kept.
 GRAPHICS = {b'0' + bytes([it]) for it in (0, 3, 4, 48, 51, 52, 64, 80)}
 # Commands that the listing doesn't have, and ends at: how many bytes follow the two that it says. Another one is
@@ -56,12 +59,14 @@ LABEL_END = re.compile(rb'[\^~]')
 
 class Request(NamedTuple):
     """A request by its name in the manual, the bytes behind the name, and the places of its first byte and behind its
-    last."""
+    last. Where it asks for the size of a symbol (GS ( k), `symbol` is the commands that store it and say how it is
+    drawn."""
 
     name: str
     arguments: bytes
     start: int
     end: int
+    symbol: bytes = b''
 
 
 class RealTime:
@@ -88,6 +93,39 @@ class RealTime:
                 at += 1
         self._rest, self._start = data[at:], self._start + at
         return found
+
+
+class _Symbol:
+    """What a stream has stored for its QR symbol, and said of how it is drawn, by the lines of its listing."""
+
+    # How many commands that say how it is drawn are kept: a good one isn't undone by a bad one behind it.
+    MOST = 64
+    SETTINGS = {'41', '43', '45'}
+
+    def __init__(self) -> None:
+        self._drawn: Deque[bytes] = deque(maxlen=self.MOST)
+        self._stored = bytearray()
+
+    @staticmethod
+    def _command(data: bytes) -> bytes:
+        return b'\x1d(k' + len(data).to_bytes(2, 'little') + data
+
+    def take(self, words: List[str]) -> None:
+        if words[0] == 'byte':
+            self._stored.append(int(words[1], 16))
+        elif words == ['esc', '40']:
+            self._drawn.clear()
+            self._stored.clear()
+        elif words[:3] == ['gs', '28', '6b'] and words[5:6] == ['31']:
+            data = bytes(int(it, 16) for it in words[5:])
+            if words[6:8] == ['50', '30']:
+                self._stored = bytearray(data)
+            elif words[6] in self.SETTINGS:
+                self._drawn.append(self._command(data))
+
+    @property
+    def commands(self) -> bytes:
+        return b''.join(self._drawn) + (self._command(bytes(self._stored)) if self._stored else b'')
 
 
 class _Listed:
@@ -164,6 +202,7 @@ class Commands:
         # the last bytes, from a place on, and a request whose end isn't known yet
         self._kept, self._from = b'', 0
         self._open: Optional[Request] = None
+        self._symbol = _Symbol()
 
     def feed(self, data: bytes) -> List[Request]:
         self._kept += data
@@ -217,7 +256,7 @@ class Commands:
         if it.end <= self._from + len(self._kept):
             request = self._of(it.name, it.start, it.end, 5 if '(' in it.name else 2)
             if it.name != 'GS ( L' or request.arguments[:2] in GRAPHICS:
-                found.append(request)
+                found.append(request._replace(symbol=it.symbol))
             self._open = None
 
     def _unlisted(self, fault: Fault, place: int) -> None:
@@ -232,6 +271,10 @@ class Commands:
 
     def _receipt(self, found: List[Request], place: int, text: str) -> None:
         words = text.split(' ')
+        self._symbol.take(words)
+        if words == SYMBOL_SIZE:
+            self._open = Request('GS ( k', b'', place - 7, place + 1, self._symbol.commands)
+            return
         name = RECEIPT_NAMES.get(' '.join(words[:2]))
         if name:
             found.append(Request(name, bytes([int(words[2], 16)]), place - 3, place))

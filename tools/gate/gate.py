@@ -9,9 +9,11 @@ edits its right bodies in another form are tried, which must be taken (passing.p
 begin with. Edits that stand with all that they change as they were refused on are taken from record.py's file, but
 for a tenth.
 
-gate.py [--all] [--seed N] [--renew] [CRATE..]: --all tries all edits; --seed draws the tenth as an earlier run did,
-that said it; --renew writes the file of what was refused, crate by crate. (Each run leaves it in out/.) With names of
-crates it proves these and those below them, tries their edits, and makes nothing: that is not the gate.
+gate.py [--all] [--seed N] [--renew] [--make] [CRATE..]: --all tries all edits; --seed draws the tenth as an earlier
+run did, that said it; --renew writes the file of what was refused, crate by crate. (Each run leaves it in out/.) With
+names of crates it proves these and those below them, tries their edits, and makes nothing: that is not the gate. Nor
+is it with --make, which makes all that the gate makes, and has only that proved which it is made of: no edit is tried,
+no test is run.
 
 rt ci wants all crates side by side. So it runs on a copy of the repository in which each crate of crates/FOLDER/NAME
 stands in crates/NAME, and what it made of the program is brought back, with the module that LLVM made it of. Where
@@ -196,6 +198,19 @@ def side_by_side(root: str, room: str) -> Dict[str, str]:
     return programs
 
 
+def leave_what_is_made(room: str, listed: str) -> None:
+    """Takes out of a copy what nothing is made of: edits, and the crates of tests and of examples."""
+    for folder in glob.glob(f"{room}/crates/*/must-*"):
+        shutil.rmtree(folder)
+    names = [os.path.basename(it) for it in re.findall(r"(?m)^(?:tests|examples)/[\w-]+", listed)]
+    for name in names:
+        shutil.rmtree(f"{room}/crates/{name}")
+    with open(f"{room}/crates.txt", encoding="utf-8") as it:
+        lines = [line for line in it if not re.match(rf"(?:{'|'.join(names)})\b", line)] if names else list(it)
+    with open(f"{room}/crates.txt", "w", encoding="utf-8") as it:
+        it.writelines(lines)
+
+
 def sources(root: str) -> bytes:
     """Returns the sum of what the program is made from, as the repository stands."""
     told = ["sh", "-c", 'root=$1 && . "$2/dist/dist.sh" && sources', "sh", root, TOOLS]
@@ -288,8 +303,12 @@ def read_words() -> argparse.Namespace:
     words.add_argument("--all", action="store_true", help="try all must-fail edits")
     words.add_argument("--seed", type=int, help="draw the same of those that need not be tried as the run that said so")
     words.add_argument("--renew", action="store_true", help=f"write {record.FILE}")
+    words.add_argument("--make", action="store_true", help="make all of what is proved, without edits and tests")
     words.add_argument("crates", nargs="*", metavar="CRATE", help="only these, and those below them")
-    return words.parse_args()
+    given = words.parse_args()
+    if given.make and (given.crates or given.renew):
+        words.error("--make tries no edits, and makes all")
+    return given
 
 
 def keep_record(kept: record.Record, is_renewed: bool) -> None:
@@ -319,9 +338,16 @@ def main() -> int:
         before = sources(root)
         programs = side_by_side(root, f"{room}/all")
         os.chdir(f"{room}/all")
-        kept.forget([os.path.basename(it) for it in glob.glob("crates/*")])
+        if words.make:
+            with open(f"{root}/crates.txt", encoding="utf-8") as it:
+                leave_what_is_made(f"{room}/all", it.read())
+        else:
+            kept.forget([os.path.basename(it) for it in glob.glob("crates/*")])
         status = int(rt.main(["ci", *words.crates]))
-        keep_record(kept, words.renew)
+        if words.make:
+            print("gate: no edit was tried, and no test run: this is not the gate", flush=True)
+        else:
+            keep_record(kept, words.renew)
         status = status or int(not all_taken(rt, f"{room}/all", OF_RIGHT_BODIES, words.crates))
         if words.crates:
             return int(status)

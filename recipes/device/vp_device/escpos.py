@@ -95,9 +95,15 @@ def counted(name: str, data: bytes) -> bytes:
     return SETTINGS if name == 'GS ( E' and data == b'\x01IN' else b''
 
 
-def answer(name: str, data: bytes, state: State) -> bytes:
+def symbol_size(side: int) -> bytes:
+    """GS ( k 82: how many dots a QR symbol is wide and high, of the size that is stored, and whether it can be printed;
+    none is where nothing is stored, or where there is no room for it."""
+    return b'\x37\x36%d\x1f%d\x1f1\x1f%d\0' % (side, side, not side)
+
+
+def answer(name: str, data: bytes, state: State, side: int = 0) -> bytes:
     """The bytes that answer a request; none where it has no answer. GS a answers with its four bytes where it asks for
-    anything."""
+    anything. `side` is that of the symbol which GS ( k asks about, in dots."""
     first = data[0] if data else 0
     if name == 'DLE EOT':
         return at_once(first, state)
@@ -111,6 +117,8 @@ def answer(name: str, data: bytes, state: State) -> bytes:
         return transmitted(1 if name == 'ESC v' else 2, state) if first in (0, 48) else b''
     if name == 'GS I':
         return identity(first, state)
+    if name == 'GS ( k':
+        return symbol_size(side) if data == b'1R0' else b''
     if name == 'GS g':
         return b'\x5f0\0' if data[:2] == b'2\0' else b''
     return counted(name, data)

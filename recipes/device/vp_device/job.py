@@ -158,6 +158,10 @@ class Job:
             self.ways.device.count('row', height)
             self.waiting = 0
 
+    def side_of(self, request: Any) -> int:
+        """How many dots the symbol is wide and high that a request asks about."""
+        return tools.side_of(request, self.ways.command or tools.words_of('receipt'))
+
     def can_go_on(self) -> bool:
         """Waits until the printer can print. False where the job was given up, or thrown away."""
         return self.ways.device.wait(lambda: self.is_given_up or self.drops != self.drops_done)

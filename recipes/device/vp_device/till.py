@@ -135,13 +135,14 @@ class Till:
     def answer(self, request: Any, at_once: bool) -> None:
         """Does and answers a request. Those of labels and real-time ones are known on arrival."""
         name, data = request.name, request.arguments
+        side = self.job.side_of(request) if name == 'GS ( k' else 0
         with self.device.changes:
             state = self.device.state
             if self.job.language == 'label':
                 said = self.label(name, data, state)
             else:
                 self.act(name, data)
-                said = escpos.answer(name, data, self.device.state)
+                said = escpos.answer(name, data, self.device.state, side)
             if name == 'GS a' and data:
                 self.chosen = data[0]
                 self.last = escpos.told(state, self.chosen)

@@ -21,6 +21,8 @@ program: Any = importlib.import_module('vp_recipes.program')
 sheets: Any = importlib.import_module('vp_recipes.sheets')
 streams: Any = importlib.import_module('vp_recipes.streams')
 LANGUAGES: Tuple[str, str] = streams.LANGUAGES
+# GS ( k: the symbol that is stored is printed.
+PRINT_SYMBOL = b'\x1d(k\x03\x001Q0'
 
 
 def words_of(language: str, width: Optional[int] = None) -> List[str]:
@@ -51,6 +53,16 @@ def handle_of(words: List[str]) -> Any:
     """A printer of the library's that was just switched on, whose paper nobody holds."""
     seen = in_process.sheets_seen(in_process.options(words[1:]))
     return printers(tuple(words), seen).start()._handle
+
+
+def side_of(request: Any, words: List[str]) -> int:
+    """How many dots the symbol is wide and high that a request asks about: what the printer prints of it. None is 0."""
+    package = package_of(words)
+    if not package or not request.symbol:
+        return 0
+    width = int((in_process.options(words[1:]) or {}).get('--width', '576'))
+    paper = package.Receipt(None, None, width).print(request.symbol + PRINT_SYMBOL)
+    return sum(it.height for it in paper)
 
 
 def part(package: Any, name: str) -> Any:

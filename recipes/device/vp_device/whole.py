@@ -102,9 +102,10 @@ def told(order: Order, package: Any, data: bytes, state: State, pages: List[bitm
 def answers(order: Order, package: Any, data: bytes, state: State) -> List[Dict[str, Any]]:
     """What is asked, and what a printer of this state answers."""
     found = []
+    words = tools.words_of(order.language, order.width)
     for place, it in tools.part(package, 'requests').requests(data, order.language):
         if order.language == 'receipt':
-            said = escpos.answer(it.name, it.arguments, state)
+            said = escpos.answer(it.name, it.arguments, state, tools.side_of(it, words))
         elif it.name == '^HV':
             said = zpl.field(data[:place], it.arguments)
         else:
