@@ -86,8 +86,10 @@ static void free_all(bytes a, bytes b, bytes stream) {
 static uint32_t made(const char *language, bytes a, bytes b, vp *printer) {
     if (strcmp(language, "receipt") == 0) return vp_new(VP_RECEIPT, a.at, a.length, b.at, b.length, printer);
     if (strcmp(language, "receipt58") == 0) return vp_new(VP_RECEIPT_58, a.at, a.length, b.at, b.length, printer);
+    if (strcmp(language, "whole") == 0) return vp_new(VP_WHOLE_RECEIPT, a.at, a.length, b.at, b.length, printer);
+    if (strcmp(language, "whole58") == 0) return vp_new(VP_WHOLE_RECEIPT_58, a.at, a.length, b.at, b.length, printer);
     if (strcmp(language, "label") == 0) return vp_new(VP_LABEL, a.at, a.length, b.at, b.length, printer);
-    uint32_t kind = strstr(language, "label") ? VP_LABEL : VP_RECEIPT;
+    uint32_t kind = strstr(language, "label") ? VP_LABEL : strstr(language, "whole") ? VP_WHOLE_RECEIPT : VP_RECEIPT;
     return vp_new_listing(kind, strncmp(language, "offsets", 7) == 0, printer);
 }
 

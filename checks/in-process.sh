@@ -76,6 +76,10 @@ compared() {
     case $2 in
     receipt) set -- "$@" receipt --font-a "$a" --font-b "$b" ;;
     receipt58) set -- "$@" receipt --width 384 --font-a "$a" --font-b "$b" ;;
+    whole) set -- "$@" receipt --whole --font-a "$a" --font-b "$b" ;;
+    whole58) set -- "$@" receipt --whole --width 384 --font-a "$a" --font-b "$b" ;;
+    list-whole) set -- "$@" list --lang receipt --whole ;;
+    offsets-whole) set -- "$@" list --lang receipt --whole --offsets ;;
     label) set -- "$@" label --font-a "$a" && second=- ;;
     list-*) set -- "$@" list --lang "${2#list-}" ;;
     offsets-*) set -- "$@" list --offsets --lang "${2#offsets-}" ;;
@@ -92,7 +96,9 @@ compared() {
 for caller in shared counted; do
     is 0 "bad calls of $caller" "$room/$caller" bad
     for stream in examples/*.bin; do
-        for language in receipt receipt58 list-receipt offsets-receipt; do compared "$caller" "$language" "$stream" 1; done
+        for language in receipt receipt58 whole whole58 list-receipt offsets-receipt list-whole offsets-whole; do
+            compared "$caller" "$language" "$stream" 1
+        done
     done
     for stream in examples/*.zpl; do
         for language in label list-label offsets-label; do compared "$caller" "$language" "$stream" 1; done
@@ -103,7 +109,7 @@ python3 checks/streams.py "$room/streams" "$count"
 nth=0
 for stream in "$room/streams"/*; do
     nth=$((nth + 1))
-    case $stream in *.bin) languages='receipt receipt58 list-receipt' ;; *) languages='label offsets-label' ;; esac
+    case $stream in *.bin) languages='receipt receipt58 whole list-receipt list-whole' ;; *) languages='label offsets-label' ;; esac
     for language in $languages; do compared counted "$language" "$stream" "$nth"; done
 done
 echo "the examples and $nth random streams, cut at random, without memory behind vp_new: ok"

@@ -13,10 +13,10 @@ _vp() {
     *)
         # a file, unless an option is begun
         case $command:$word in
-        receipt:-*) options='--width --font-a --font-b --help' ;;
+        receipt:-*) options='--width --whole --font-a --font-b --help' ;;
         label:-*) options='--font-a --help' ;;
-        list:-*) options='--lang --offsets --help' ;;
-        join:-*) options='--help' ;;
+        list:-*) options='--lang --whole --offsets --help' ;;
+        join:-*) options='--png --help' ;;
         esac
         ;;
     esac

@@ -58,18 +58,19 @@ namespace VirtualReceiptPrinter
 
     /// <summary>Printers of receipts, ESC/POS, on paper of 576 or 384 dots. A sheet is the bytes of a raw PBM of 16 by 16
     /// cells, 12 by 24 dots for font A and 9 by 17 for font B; null is the shipped one, and no bytes are white characters.
-    /// </summary>
+    /// By the whole language all commands of ESC/POS are read, and past what is none: else that is a fault, F1.</summary>
     public sealed class Receipt : Printers
     {
         public Receipt(byte[] fontA = null, byte[] fontB = null, int width = 576, long mostRows = DefaultRows,
-            long mostBytes = DefaultBytes) : base(Paper(width), fontA, fontB, mostRows, mostBytes) { }
+            long mostBytes = DefaultBytes, bool whole = false)
+            : base(Paper(width, whole), fontA, fontB, mostRows, mostBytes) { }
 
-        static uint Paper(int width)
+        static uint Paper(int width, bool whole)
         {
             switch (width)
             {
-                case 576: return Native.Receipt;
-                case 384: return Native.Receipt58;
+                case 576: return whole ? Native.WholeReceipt : Native.Receipt;
+                case 384: return whole ? Native.WholeReceipt58 : Native.Receipt58;
                 default: throw new ArgumentOutOfRangeException(nameof(width), $"paper is 576 or 384 dots wide, and not {width}");
             }
         }

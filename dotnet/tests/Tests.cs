@@ -84,6 +84,8 @@ static class Tests
         Same("images", paper.Count, 2);
         Same("joined", $"{paper.Joined().Width} {paper.Joined().Height}", "384 36");
         Same("read again", Paper.Read(paper.ToPbm()).DifferenceFrom(paper), null);
+        var whole = new Receipt(width: 384, whole: true).Print(Ascii("\u001b\u007f\u001bJ\u0002"));
+        Same("an unknown command is read past", $"{whole.Joined().Width} {whole.Joined().Height} {whole.Fault}", "384 2 ");
         Same("fewer", Paper.Read(paper[0].ToPbm()).DifferenceFrom(paper), "1 images in place of 2");
         Throws<ArgumentException>("no paper", "what vp prints", () => Paper.Read(Ascii("P4\n8 8\n1")));
         Throws<VpException>("nothing", "nothing is printed", () => new Receipt().Print(new byte[0]).Joined());

@@ -92,6 +92,8 @@ final class Tests {
         same("joined", paper.size() + " " + paper.joined(), "2 an image of 384 by 36 dots");
         same("read again", Paper.read(paper.toPbm()).differenceFrom(paper), null);
         same("fewer", Paper.read(paper.get(0).toPbm()).differenceFrom(paper), "images: 1 in place of 2");
+        Paper whole = new Receipt(384, null, null, 100, 10_000, true).print(bytes("\u001b\u007f\u001bJ\u0002"));
+        same("an unknown command is read past", whole.joined() + " " + whole.fault(), "an image of 384 by 2 dots null");
         refused("no paper", "what vp prints", () -> Paper.read(bytes("P4\n8 8\n1")));
         refused("no head", "what vp prints", () -> Paper.read(bytes("P5")));
         refused("nothing", "nothing is printed", () -> new Receipt().print(new byte[0]).joined());

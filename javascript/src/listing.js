@@ -7,12 +7,12 @@ import { VpError, named, optionsOf } from './errors.js';
 import { ready } from './module.js';
 import { piecesOf } from './reading.js';
 
-const OPTIONS = ['offsets', 'mostBytes', 'mostSeconds'];
+const OPTIONS = ['offsets', 'whole', 'mostBytes', 'mostSeconds'];
 
 /** Gives the bytes that vp lists of a stream to `take`, while that answers true; the fault that reading ends in. */
-export async function listed(stream, language, offsets, mostSeconds, take) {
+export async function listed(stream, { language, whole, offsets, mostSeconds }, take) {
   await ready();
-  const machine = new Machine(language, { offsets });
+  const machine = new Machine(language, { offsets, whole });
   const clock = new Clock(mostSeconds);
   try {
     for await (const piece of piecesOf(stream)) {
@@ -30,11 +30,12 @@ export async function list(stream, language, options = {}) {
   if (language !== 'receipt' && language !== 'label') {
     throw new VpError('argument', `a language is 'receipt' or 'label', and not ${named(language)}`);
   }
-  const { offsets = false } = optionsOf(options, OPTIONS, 'a list');
+  const { offsets = false, whole = false } = optionsOf(options, OPTIONS, 'a list');
   const { mostBytes, mostSeconds } = boundsOf(options);
   const pieces = [];
   let length = 0;
-  const fault = await listed(stream, language, Boolean(offsets), mostSeconds, out => {
+  const how = { language, whole: Boolean(whole), offsets: Boolean(offsets), mostSeconds };
+  const fault = await listed(stream, how, out => {
     length += out.length;
     if (mostBytes !== null && length > mostBytes) throw new Reached('bytes', mostBytes);
     return pieces.push(out);

@@ -28,7 +28,8 @@ const once = (paper, name, make) => {
 
 const rowsOn = paper => once(paper, 'rows', async () => {
   const rows = new Rows(paper.language, paper.stream, 0, false);
-  await listed(paper.stream, paper.language, true, paper.settings.bounds.mostSeconds, it => rows.take(it));
+  const { language, whole, bounds: { mostSeconds } } = paper.settings;
+  await listed(paper.stream, { language, whole, offsets: true, mostSeconds }, it => rows.take(it));
   return rows.done();
 });
 

@@ -20,13 +20,13 @@ export function sheetOf(name, value) {
 }
 
 /** A machine of settings that prints, as it is when it is switched on. */
-export async function machineOf({ language, width, fontA, fontB }) {
+export async function machineOf({ language, width, whole, fontA, fontB }) {
   const { sheets } = await ready();
   const isShipped = fontA === SHIPPED && fontB === SHIPPED;
   const [a, b] = isShipped ? [sheets.a, language === 'receipt' ? sheets.b : NO_SHEET]
     : [fontA ?? NO_SHEET, fontB ?? NO_SHEET];
   try {
-    return new Machine(language, { fontA: a, fontB: b, width });
+    return new Machine(language, { fontA: a, fontB: b, width, whole });
   } catch (error) {
     throw new VpError(/^font[AB]: /.test(error.message) ? 'sheet' : 'memory', error.message);
   }

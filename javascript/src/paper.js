@@ -13,15 +13,15 @@ export class Paper {
   #drawn;
 
   /** The paper of images; of a stream its settings, its bytes, its fault and what came of a last image. */
-  constructor(images, { language = null, width = 576, fontA = undefined, fontB = undefined, stream = null, fault = null,
-    unfinished = NOTHING, bounds = NONE } = {}) {
+  constructor(images, { language = null, width = 576, whole = false, fontA = undefined, fontB = undefined,
+    stream = null, fault = null, unfinished = NOTHING, bounds = NONE } = {}) {
     if (!Array.isArray(images)) throw new VpError('argument', 'a paper is what print() gives, or Paper.read(bytes)');
     this.images = Object.freeze([...images]);
     this.language = language;
     this.stream = stream;
     this.fault = fault;
     this.unfinished = unfinished;
-    this.#drawn = Object.freeze({ language, width, fontA, fontB, bounds });
+    this.#drawn = Object.freeze({ language, width, whole, fontA, fontB, bounds });
   }
 
   /** The paper of bytes that vp printed, as toPBM() gives them. */

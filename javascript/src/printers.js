@@ -23,12 +23,12 @@ export function signalOf(options = {}) {
 
 export class Printers {
   constructor(language, options, names) {
-    const { width = 576, fontA, fontB } = optionsOf(options, names, `a ${language}`);
+    const { width = 576, whole = false, fontA, fontB } = optionsOf(options, names, `a ${language}`);
     if (width !== 576 && width !== 384) {
       throw new VpError('argument', `paper is 576 or 384 dots wide, and not ${named(width)}`);
     }
-    this.settings = Object.freeze({ language, width, fontA: sheetOf('fontA', fontA), fontB: sheetOf('fontB', fontB),
-      bounds: Object.freeze(boundsOf(options)) });
+    this.settings = Object.freeze({ language, width, whole: Boolean(whole), fontA: sheetOf('fontA', fontA),
+      fontB: sheetOf('fontB', fontB), bounds: Object.freeze(boundsOf(options)) });
   }
 
   /** The paper of a whole stream. */
@@ -63,9 +63,9 @@ export class Printers {
   }
 }
 
-/** Printers of receipts, ESC/POS, on paper of 576 or 384 dots. */
+/** Printers of receipts, ESC/POS, on paper of 576 or 384 dots, by the profile or by the whole language. */
 export class Receipt extends Printers {
-  constructor(options = {}) { super('receipt', options, ['width', 'fontA', 'fontB', ...BOUNDS]); }
+  constructor(options = {}) { super('receipt', options, ['width', 'whole', 'fontA', 'fontB', ...BOUNDS]); }
 }
 
 /** Printers of labels, ZPL II; every font is of font A's sheet. */

@@ -42,14 +42,15 @@ export class PrinterWorker {
 
   async #print(settings, stream, signal) {
     const { module } = await ready();
-    const { language, width, bounds } = settings;
+    const { language, width, whole, bounds } = settings;
     const { a = null, b = null } = await sheetsOf(settings);
     try {
       this.#thread ??= newThread(given.worker);
     } catch (error) {
       throw new VpError('worker', `no thread can be made here: ${error.message}`);
     }
-    const told = await this.#asked({ module, language, width, fontA: a, fontB: b, bounds, stream }, bounds, signal);
+    const job = { module, language, width, whole, fontA: a, fontB: b, bounds, stream };
+    const told = await this.#asked(job, bounds, signal);
     const cutter = new Cutter(NONE);
     const images = [...cutter.add(told.paper)];
     if (told.reached) {

@@ -9,11 +9,11 @@ import { Cutter } from './cutting.js';
 const port = typeof postMessage === 'function' ? globalThis : require('node:worker_threads').parentPort;
 const none = new Uint8Array(0);
 
-async function print({ module, language, width, fontA, fontB, bounds, stream }) {
+async function print({ module, language, width, whole, fontA, fontB, bounds, stream }) {
   await load(module);
   let machine;
   try {
-    machine = new Printer(language, { width, fontA: fontA ?? none, fontB: fontB ?? none });
+    machine = new Printer(language, { width, whole, fontA: fontA ?? none, fontB: fontB ?? none });
   } catch (error) {
     return { paper: new Uint8Array(0), error: error.message };
   }

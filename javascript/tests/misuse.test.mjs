@@ -149,7 +149,7 @@ test('options', async () => {
     'a printer is made by new Receipt().start() or new Label().start()');
   await rejects(list('x', 'till'), 'argument', "a language is 'receipt' or 'label', and not \"till\"");
   await rejects(list('x', 'label', { offset: true }), 'argument',
-    'a list has no option offset: it has offsets, mostBytes, mostSeconds');
+    'a list has no option offset: it has offsets, whole, mostBytes, mostSeconds');
   refuses(() => new Picture(8, 2, new Uint8Array(3)), 'argument',
     'an image is a width and a height in dots, and its rows: as many bytes as its dots take');
   const [image] = await new Label().print(ZPL);

@@ -54,6 +54,17 @@ test('a fault', async () => {
     ['F1', 5, 'unknown command 1B 7F', 'vp: F1 after 5 bytes: unknown command 1B 7F']);
 });
 
+test('the whole language, in which no command is unknown', async () => {
+  const stream = '\x1bJ\x02\x1b\x7f\x1bJ\x03';
+  const printer = new Receipt({ width: 384, whole: true });
+  const paper = await printer.print(stream);
+  assert.deepEqual([paper.fault, paper.images.map(it => [it.width, it.height])], [null, [[384, 2], [384, 3]]]);
+  assert.deepEqual((await new PrinterWorker().print(printer, stream)).toPBM(), paper.toPBM());
+  const { items, fault } = await list('\x1b\x7fA', 'receipt', { whole: true });
+  assert.deepEqual([items.map(it => it.text), fault], [['esc 7f', 'char 41'], null]);
+  assert.deepEqual(await list(BOX, 'label', { whole: true }), await list(BOX, 'label'));
+});
+
 test('a PNG and an SVG have the dots in their true size', async () => {
   const [image] = await new Label().print('^XA^PW83^LL40^FO3,8^GB77,8,2^FS^XZ');
   const png = Buffer.from(await image.toPNG({ dpmm: 12 }));

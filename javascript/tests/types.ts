@@ -5,7 +5,7 @@ import type { Drew, Fault, Stream } from 'virtual-receipt-printer';
 import { papersOf, toMatchPaper } from 'virtual-receipt-printer/testing';
 
 export async function printed(stream: Stream): Promise<[number, string]> {
-  const paper: Paper = await new Receipt({ width: 384, fontA: null, mostRows: 9 }).print(stream);
+  const paper: Paper = await new Receipt({ width: 384, whole: true, fontA: null, mostRows: 9 }).print(stream);
   const [first]: readonly Picture[] = paper.images;
   for (const it of paper) it.isBlack(0, 0);
   const png: Uint8Array = await paper.toPNG({ dpmm: 12 });
@@ -22,7 +22,7 @@ export async function others(): Promise<void> {
   const images: Picture[] = await printer.feed(new Uint8Array(2));
   const worker = new PrinterWorker();
   await worker.print(new Label(), new ArrayBuffer(images.length));
-  const { items } = await list('x', 'receipt', { offsets: true });
+  const { items } = await list('x', 'receipt', { offsets: true, whole: true });
   await papersOf('file:///till.test.js')({ name: items[0].text }, new Label().print('^XA^XZ'), { incomplete: true });
   try {
     await toMatchPaper.call({}, null, 'second');

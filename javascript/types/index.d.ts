@@ -36,6 +36,8 @@ export interface ReceiptOptions extends LabelOptions {
   fontB?: Sheet;
   /** The paper's width in dots: 576 where nothing is said, 384 on paper of 58 mm. */
   width?: 576 | 384;
+  /** Whether all commands of ESC/POS are read, and past what is none: without it that is a fault, F1. */
+  whole?: boolean;
 }
 
 export interface PrintOptions {
@@ -184,9 +186,9 @@ export class PrinterWorker {
   end(): void;
 }
 
-/** A line for each command of a stream, and with offsets how many bytes come before its end. */
+/** A line for each command of a stream, and with offsets how many bytes come before its end; whole as of receipts. */
 export function list(stream: Stream, language: 'receipt' | 'label',
-  options?: { offsets?: boolean; mostBytes?: number | null; mostSeconds?: number | null },
+  options?: { offsets?: boolean; whole?: boolean; mostBytes?: number | null; mostSeconds?: number | null },
 ): Promise<{ items: { text: string; place: number | null }[]; fault: Fault | null }>;
 
 export const version: string;

@@ -13,6 +13,8 @@ import streams  # noqa: E402
 
 COUNT = int(os.environ.get('COUNT', '300'))
 LANGUAGES = {'receipt': vp.Receipt(), 'label': vp.Label()}
+# What is no command of the profile: a family that is read by its count, and what no printer has.
+UNKNOWN = b'A\x1c(A\x02\0\n\n\n\x1b\x7fB\n'
 
 
 def random_streams(draw, language):
@@ -81,6 +83,9 @@ class AsTheProgram(unittest.TestCase):
         tried = [
             (vp.Receipt(width=384), receipt, ['receipt', '--width', '384', *SHEETS['receipt']]),
             (vp.Receipt(None, None), receipt, ['receipt']),
+            (vp.Receipt(whole=True), receipt, ['receipt', '--whole', *SHEETS['receipt']]),
+            (vp.Receipt(whole=True), UNKNOWN, ['receipt', '--whole', *SHEETS['receipt']]),
+            (vp.Receipt(width=384, whole=True), UNKNOWN, ['receipt', '--whole', '--width', '384', *SHEETS['receipt']]),
             (vp.Receipt(font_a=data), receipt, ['receipt', '--font-a', font_a]),
             (vp.Receipt(font_b=font_b), receipt, ['receipt', '--font-b', font_b]),
             (vp.Receipt(font_a, font_b), receipt, ['receipt', *SHEETS['receipt']]),

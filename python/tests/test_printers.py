@@ -32,6 +32,15 @@ class Faults(unittest.TestCase):
         self.assertEqual(str(vp.Label().print(b'^XA^BQN,2,2^FDXA,1^FS').fault), 'vp: F2 after 21 bytes: symbol: set')
         self.assertEqual(str(vp.Label().print(b'^XA').fault), 'vp: F9 after 3 bytes: input ends before printing')
 
+    def test_the_whole_language_has_no_unknown_command(self):
+        paper = vp.Receipt(whole=True).print(b'\x1bJ\x02\x1b\x7f\x1bJ\x03')
+        self.assertEqual(([it.height for it in paper], paper.fault), ([2, 3], None))
+        self.assertEqual([it.width for it in vp.Receipt(width=384, whole=True).print(b'\x1b\x7f\x1bJ\x03')], [384])
+        listing = vp.list(b'\x1b\x7fA', 'receipt', whole=True)
+        self.assertEqual(([it.text for it in listing], listing.fault), (['esc 7f', 'char 41'], None))
+        label = b'^XA^ZZ1^XZ'
+        self.assertEqual(vp.list(label, 'label', whole=True).text(), vp.list(label, 'label').text())
+
     def test_behind_a_fault_nothing_is_printed(self):
         with vp.Receipt().start() as printer:
             self.assertEqual(printer.feed(b'\x1b\x7fA\n'), [])

@@ -17,6 +17,7 @@ DONE = [
     ['receipt'], ['receipt', '--font-a', A, '--font-b', B], ['receipt', '--width', '384', f'--font-a={A}'],
     ['label'], ['label', '--font-a', A], ['list', '--lang', 'receipt'], ['list', '--lang=receipt', '--offsets'],
     ['list', '--offsets', '--lang', 'label'], ['receipt', '--font-a', A, '--font-b', __file__],
+    ['receipt', '--whole', '--width', '384'], ['list', '--whole', '--lang', 'receipt'], ['list', '--lang=label', '--whole'],
 ]
 NOT_DONE = [
     [], ['join'], ['--version'], ['list'], ['list', '--lang', 'epl'], ['receipt', '--width', '80'], ['receipt', A],

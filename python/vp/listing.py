@@ -7,7 +7,7 @@ from typing import Iterator, List, NamedTuple, Optional, Sequence, Union, overlo
 from .bounds import HELD, Cutter, Reached
 from .faults import BadArgument, Fault, TooMuchPaper
 from .handle import Handle
-from .library import LABEL, RECEIPT
+from .library import LABEL, RECEIPT, WHOLE_RECEIPT
 from .printers import Stream, bytes_of
 
 LANGUAGES = {'receipt': RECEIPT, 'label': LABEL}
@@ -65,12 +65,13 @@ class Listing(Sequence[Item]):
         return f'<vp.Listing of {lines}{f", {self.fault}" if self.fault else ""}>'
 
 
-def list_stream(stream: Stream, lang: str, offsets: bool = False, most_bytes: Optional[int] = HELD.bytes) -> Listing:
-    """Lists a stream, 'receipt' or 'label', as `vp list` does."""
+def list_stream(stream: Stream, lang: str, offsets: bool = False, most_bytes: Optional[int] = HELD.bytes,
+                whole: bool = False) -> Listing:
+    """Lists a stream, 'receipt' or 'label', as `vp list` does; `whole` is of receipts, as of Receipt."""
     if lang not in LANGUAGES:
         raise BadArgument(f'vp: a language is receipt or label, and not {lang}')
     lines, cutter = bytearray(), Cutter(HELD._replace(bytes=most_bytes), is_paper=False)
-    handle = Handle.listing(LANGUAGES[lang], offsets)
+    handle = Handle.listing(WHOLE_RECEIPT if whole and lang == 'receipt' else LANGUAGES[lang], offsets)
 
     def put(part: memoryview) -> None:
         nonlocal lines

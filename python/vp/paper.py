@@ -1,7 +1,7 @@
 """Paper: images one after the other, as vp prints them."""
 from __future__ import annotations
 
-from typing import Iterator, List, Optional, Sequence, Tuple, Union, overload
+from typing import Iterator, List, NamedTuple, Optional, Sequence, Tuple, Union, overload
 
 from . import bounds
 from .bounds import HEAD, NONE, Bounds
@@ -9,16 +9,24 @@ from .faults import Fault, TooMuchPaper
 from .images import Image
 
 
+class Source(NamedTuple):
+    """What was printed: 'receipt' or 'label', the stream, and whether the whole language of receipts was read."""
+
+    language: str
+    stream: bytes
+    whole: bool
+
+
 class Paper(Sequence[Image]):
     """The images of a stream, in turn, and the fault that it ends in."""
 
     def __init__(self, data: bytes, starts: Sequence[int], fault: Optional[Fault] = None,
-                 source: Optional[Tuple[str, bytes]] = None) -> None:
+                 source: Optional[Source] = None) -> None:
         """The paper of bytes that vp printed, and the places where whole images begin in them."""
         self._data = data
         self._starts = starts
         self.fault = fault
-        # the language and the stream that it was printed of, where it is known
+        # what it was printed of, where it is known
         self.source = source
 
     @classmethod
@@ -117,7 +125,7 @@ class Cutter:
         most = getattr(self._cutter.bounds, bound)
         raise TooMuchPaper(bounds.Reached(bound, most), Paper(bytes(self._data), self._cutter.starts))
 
-    def paper(self, fault: Optional[Fault], source: Optional[Tuple[str, bytes]] = None) -> Paper:
+    def paper(self, fault: Optional[Fault], source: Optional[Source] = None) -> Paper:
         """The paper of a stream that has ended: all that came."""
         self._data += self._cutter.end()
         return Paper(bytes(self._data), self._cutter.starts, fault, source)

@@ -8,13 +8,14 @@ from .bounds import HELD, Bounds
 from .faults import BadArgument, Fault, TooMuchPaper
 from .handle import Handle
 from .images import Image
-from .library import LABEL, RECEIPT, RECEIPT_58, Held
-from .paper import Cutter, Paper
+from .library import LABEL, RECEIPT, RECEIPT_58, WHOLE_RECEIPT, WHOLE_RECEIPT_58, Held
+from .paper import Cutter, Paper, Source
 from .sheets import SHIPPED, Sheet, read
 
 Stream = Union[bytes, bytearray, memoryview]
-# Papers by their dots.
-PAPERS = {576: RECEIPT, 384: RECEIPT_58}
+# Papers by their dots, of the profile and of the whole language.
+PAPERS = {576: (RECEIPT, WHOLE_RECEIPT), 384: (RECEIPT_58, WHOLE_RECEIPT_58)}
+WHOLE = WHOLE_RECEIPT, WHOLE_RECEIPT_58
 
 
 def bytes_of(stream: Stream) -> bytes:
@@ -53,7 +54,8 @@ class _Printers:
         handle, cutter, data = self._handle(), Cutter(self._bounds), bytes_of(stream)
         try:
             fed(handle, cutter, data, self._bounds.seconds)
-            return cutter.paper(handle.finish(), ('label' if self._language == LABEL else 'receipt', data))
+            language, whole = 'label' if self._language == LABEL else 'receipt', self._language in WHOLE
+            return cutter.paper(handle.finish(), Source(language, data, whole))
         finally:
             handle.close()
 
@@ -67,17 +69,19 @@ class Receipt(_Printers):
 
     A sheet is a file's name or its bytes, and None is no sheet, whose characters are white; where none is given it is
     the shipped two. A stream, or what is fed at once, that prints more rows, bytes or images than it may, or takes more
-    seconds by the clock, is TooMuchPaper; None is no bound.
+    seconds by the clock, is TooMuchPaper; None is no bound. `whole` reads all commands of ESC/POS, and past what is
+    none: else that is a fault, F1.
     """
 
     def __init__(self, font_a: Sheet = SHIPPED, font_b: Sheet = SHIPPED, width: int = 576,
                  most_rows: Optional[int] = HELD.rows, most_bytes: Optional[int] = HELD.bytes,
-                 most_images: Optional[int] = HELD.images, most_seconds: Optional[float] = HELD.seconds) -> None:
+                 most_images: Optional[int] = HELD.images, most_seconds: Optional[float] = HELD.seconds,
+                 whole: bool = False) -> None:
         if width not in PAPERS:
             raise BadArgument(f'vp: paper is 576 or 384 dots wide, and not {width}')
         if font_a is not SHIPPED or font_b is not SHIPPED:
             font_a, font_b = (None if it is SHIPPED else it for it in (font_a, font_b))
-        super().__init__(PAPERS[width], (read(font_a, 'font_a'), read(font_b, 'font_b')),
+        super().__init__(PAPERS[width][bool(whole)], (read(font_a, 'font_a'), read(font_b, 'font_b')),
                          Bounds(most_rows, most_bytes, most_images, most_seconds))
 
 

@@ -18,8 +18,9 @@ def skips(paper: Paper) -> Iterator[str]:
     known."""
     if paper.source is None:
         return
-    language, data = paper.source
-    items = [(it.place, it.text) for it in list_stream(data, language, True) if not it.text.startswith('column ')]
+    language, data, whole = paper.source
+    listing = list_stream(data, language, True, whole=whole)
+    items = [(it.place, it.text) for it in listing if not it.text.startswith('column ')]
     drawn = {text.split(' ')[1] for _, text in items if text.startswith(('char ', 'byte '))}
     known = table()
     for n, command in skipped(items, language):

@@ -15,6 +15,8 @@ from .vp.bounds import HELD, Bounds, Reached
 HERE = os.path.dirname(os.path.dirname(os.path.realpath(__file__)))
 # The words behind each of vp's.
 OPTIONS = {'receipt': ('--font-a', '--font-b', '--width'), 'label': ('--font-a',), 'list': ('--lang',)}
+# Those that have no word behind them.
+FLAGS = {'receipt': ('--whole',), 'label': (), 'list': ('--offsets', '--whole')}
 SHEETS = '--font-a', '--font-b'
 VALUES = {'--width': ('576', '384'), '--lang': ('receipt', 'label')}
 
@@ -62,7 +64,7 @@ def options(words: Sequence[str]) -> Optional[Dict[str, Any]]:
     rest, found = list(words[1:]), {}
     while rest:
         name, equals, value = rest.pop(0).partition('=')
-        if name == '--offsets' and words[0] == 'list' and not equals:
+        if name in FLAGS[words[0]] and not equals:
             found[name] = 'yes'
         elif name in OPTIONS[words[0]] and name not in found and (equals or rest):
             found[name] = value if equals else rest.pop(0)
@@ -84,7 +86,7 @@ def done(words: Sequence[str], data: bytes, own: Bounds = HELD, most: Bounds = H
     held = least(own, most)
     try:
         if words[1] == 'list':
-            lines = own_package.list(data, found['--lang'], '--offsets' in found, held.bytes)
+            lines = own_package.list(data, found['--lang'], '--offsets' in found, held.bytes, '--whole' in found)
             return Done(lines.text().encode('latin-1'), str(lines.fault or ''), 1 if lines.fault else 0)
         made = printers(words[1], tuple(found.items()), sheets_seen(found), held).print(data)
         return Done(made.pbm(), str(made.fault or ''), 1 if made.fault else 0)
@@ -117,4 +119,5 @@ def printers(language: str, words: Tuple[Tuple[str, str], ...], seen: Tuple[Tupl
     font_a = found.get('--font-a')
     if language == 'label':
         return own_package.Label(font_a, *own)
-    return own_package.Receipt(font_a, found.get('--font-b'), int(found.get('--width', '576')), *own)
+    width = int(found.get('--width', '576'))
+    return own_package.Receipt(font_a, found.get('--font-b'), width, *own, whole='--whole' in found)

@@ -3,7 +3,9 @@
 //
 // Each printer has a memory of its own, takes all that it needs when it is made, and goes when nothing names it.
 
+// Languages by their papers, as the library numbers them; and where all commands are read, which labels' always are.
 const LANGUAGES = { receipt: { 576: 0, 384: 1 }, label: { 576: 2 } };
+const WHOLE = { receipt: { 576: 3, 384: 4 }, label: { 576: 2 } };
 const [MORE, ROOM, STOPPED] = [0, 1, 2];
 // What goes in and out in one step, and where the answers of calls lie: the handle, a step's progress, a line of text.
 const PIECE = 1 << 16;
@@ -133,18 +135,19 @@ class Machine {
   }
 }
 
-// Prints 'receipt' or 'label', with the bytes of glyph sheets; a receipt on paper of 576 or 384 dots.
+// Prints 'receipt' or 'label', with the bytes of glyph sheets; a receipt on paper of 576 or 384 dots, by the profile or
+// by the whole language.
 export class Printer extends Machine {
-  constructor(language, { fontA = new Uint8Array(0), fontB = new Uint8Array(0), width = 576 } = {}) {
+  constructor(language, { fontA = new Uint8Array(0), fontB = new Uint8Array(0), width = 576, whole = false } = {}) {
     super([fontA, fontB], (calls, [a, lengthA, b, lengthB], made) =>
-      calls.vp_new(known(language, width), a, lengthA, b, lengthB, made));
+      calls.vp_new(known(language, width, whole), a, lengthA, b, lengthB, made));
   }
 }
 
 // Lists a stream's commands, a line of text each; with offsets, behind its place.
 export class Listing extends Machine {
-  constructor(language, { offsets = false } = {}) {
-    super([], (calls, _, made) => calls.vp_new_listing(known(language, 576), Number(offsets), made));
+  constructor(language, { offsets = false, whole = false } = {}) {
+    super([], (calls, _, made) => calls.vp_new_listing(known(language, 576, whole), Number(offsets), made));
   }
 }
 
@@ -179,8 +182,8 @@ export function rowsOfFronts(printer, stream, ends) {
   });
 }
 
-function known(language, width) {
-  const found = LANGUAGES[language]?.[width];
+function known(language, width, whole) {
+  const found = (whole ? WHOLE : LANGUAGES)[language]?.[width];
   if (found === undefined) throw new Error(`there is no ${language} of ${width} dots`);
   return found;
 }

@@ -14,13 +14,19 @@ public final class Receipt extends Printers {
     }
 
     public Receipt(int width, byte[] fontA, byte[] fontB, long mostRows, long mostBytes) {
-        super(paper(width), fontA, fontB, mostRows, mostBytes);
+        this(width, fontA, fontB, mostRows, mostBytes, false);
     }
 
-    private static int paper(int width) {
+    /** By the whole language all commands of ESC/POS are read, and past what is none: else that is a fault, F1. */
+    public Receipt(int width, byte[] fontA, byte[] fontB, long mostRows, long mostBytes, boolean whole) {
+        super(paper(width, whole), fontA, fontB, mostRows, mostBytes);
+    }
+
+    private static int paper(int width, boolean whole) {
         if (width != 576 && width != 384) {
             throw new IllegalArgumentException("paper is 576 or 384 dots wide, and not " + width);
         }
+        if (whole) return width == 576 ? VpLibrary.WHOLE_RECEIPT : VpLibrary.WHOLE_RECEIPT_58;
         return width == 576 ? VpLibrary.RECEIPT : VpLibrary.RECEIPT_58;
     }
 }

@@ -45,7 +45,8 @@ def printers(words: Tuple[str, ...], _: Any) -> Any:
     font_a, none = found.get('--font-a'), {'most_rows': None, 'most_bytes': None}
     if words[1] == 'label':
         return package.Label(font_a, **none)
-    return package.Receipt(font_a, found.get('--font-b'), int(found.get('--width', '576')), **none)
+    width, whole = int(found.get('--width', '576')), '--whole' in found
+    return package.Receipt(font_a, found.get('--font-b'), width, **none, whole=whole)
 
 
 def handle_of(words: List[str]) -> Any:

@@ -1,7 +1,7 @@
 -- A file's bytes, piece by piece.
 use Rattle.std.proofs.Common.{◌≡◌, ℕ, ◌+◌, ◌*◌, ◌/◌, ◌≤◌, List, [], ◌∷◌, ◌++◌, length, take, drop, flat_map, slice_index_or, refl, ap, sym, ◌∙◌, arith, append_assoc, length-append, subst}
 use Rattle.std.proofs.lemmas.Grind.{flat_map-append}
-use Rattle.std.proofs.lemmas.List.{append-nil, drop-append-le, take_at, length-take-le, drop-drop, take-append-drop}
+use Rattle.std.proofs.lemmas.List.{append-nil, drop-append-le, drop-drop, take-append-drop}
 use Rattle.std.specs.Int.{w32, to_be_bytes}
 use Rattle.vp_png.specs.Zlib.{four_bytes}
 use Rattle.vp_png.specs.Bits.{low_bits, bits_of}
@@ -68,11 +68,10 @@ end_file out front waiting bytes w v end parts taken h within e f =
     ∙ ap (λ (l : List ℕ). l ++ end) (append_assoc out (drop taken waiting) (chunk idat bytes) ∙ chunk_file out front (drop taken waiting) bytes parts h)
 
 -- so many of the bytes that wait go out
-pub put_file : (out waiting part tail : List ℕ) (taken n : ℕ) → part ≡ take n (drop taken waiting) → n ≤ length (drop taken waiting) →
-    out ++ take n (part ++ tail) ++ drop (taken + n) waiting ≡ out ++ drop taken waiting
-put_file out waiting part tail taken n e within =
-    append_assoc out (take n (part ++ tail)) (drop (taken + n) waiting)
-    ∙ ap (λ (l : List ℕ). out ++ (l ++ drop (taken + n) waiting)) (take_at part tail n (ap length e ∙ length-take-le n (drop taken waiting) within) ∙ e)
+pub hand_file : (out waiting : List ℕ) (taken n next : ℕ) → next ≡ taken + n → out ++ take n (drop taken waiting) ++ drop next waiting ≡ out ++ drop taken waiting
+hand_file out waiting taken n next e =
+    append_assoc out (take n (drop taken waiting)) (drop next waiting)
+    ∙ ap (λ (k : ℕ). out ++ (take n (drop taken waiting) ++ drop k waiting)) e
     ∙ ap (λ (l : List ℕ). out ++ (take n (drop taken waiting) ++ l)) (sym (drop-drop n taken waiting))
     ∙ ap (λ (l : List ℕ). out ++ l) (take-append-drop n (drop taken waiting))
 

@@ -6,3 +6,4 @@ pub mod Files
 pub mod AdlerSums
 pub mod Packing
 pub mod LineCopies
+pub mod Fronts

@@ -1,5 +1,6 @@
 -- Which setup a machine is for: it stands nowhere by another.
 use Rattle.std.proofs.Common.{◌≡◌, ℕ, Bool, List, subst}
+use Rattle.vp_esc.specs.declared.reading.Reading.{Reading as EscReading}
 use Rattle.vp_esc.specs.declared.reader.EscReader.{EscReader}
 use Rattle.vp_esc.specs.Reader.{Stands as EscStands}
 use Rattle.vp_glyph.specs.Sheets.{Sheets}
@@ -19,24 +20,24 @@ use Rattle.vp_engine.proofs.Plain.{from_plain}
 
 module _ (P : (setup : Setup) → List ℕ → List (Item setup) → Type 0) where
   by_receipt : (reader : EscReader) (receipt : Printing) →
-      ((s : ReceiptSetup) (t : List ℕ) (before : List (Item (Receipts s))) → EscStands reader t × ReceiptStands s receipt before → P (Receipts s) t before) →
+      ((by : EscReading) (s : ReceiptSetup) (t : List ℕ) (before : List (Item (Receipts by s))) → EscStands by reader t × ReceiptStands s receipt before → P (Receipts by s) t before) →
       (setup : Setup) (t : List ℕ) (before : List (Item setup)) → MachineStands (Receipt reader receipt) setup t before → P setup t before
-  by_receipt reader receipt f (Receipts s) t before at = f s t before at
+  by_receipt reader receipt f (Receipts by s) t before at = f by s t before at
   by_receipt reader receipt f setup t before at = absurd at
 
   pub at_receipt : {A : Type 0} (machine : MachineOver A) (reader : EscReader) (receipt : Printing) → machine ≡ over.Receipt reader receipt →
-      ((s : ReceiptSetup) (t : List ℕ) (before : List (Item (Receipts s))) → EscStands reader t × ReceiptStands s receipt before → P (Receipts s) t before) →
+      ((by : EscReading) (s : ReceiptSetup) (t : List ℕ) (before : List (Item (Receipts by s))) → EscStands by reader t × ReceiptStands s receipt before → P (Receipts by s) t before) →
       (setup : Setup) (t : List ℕ) (before : List (Item setup)) → MachineStands (machine_of machine) setup t before → P setup t before
   at_receipt machine reader receipt is f setup t before at = by_receipt reader receipt f setup t before (subst (λ m. MachineStands (machine_of m) setup t before) is at)
 
   by_lines : (reader : EscReader) (lines : Listed) →
-      ((w : Bool) (t : List ℕ) (before : List (Item (ListingIn w EscPos))) → EscStands reader t × AreLines w lines t before → P (ListingIn w EscPos) t before) →
+      ((by : EscReading) (w : Bool) (t : List ℕ) (before : List (Item (ListingIn w (EscPos by)))) → EscStands by reader t × AreLines w lines t before → P (ListingIn w (EscPos by)) t before) →
       (setup : Setup) (t : List ℕ) (before : List (Item setup)) → MachineStands (ReceiptLines reader lines) setup t before → P setup t before
-  by_lines reader lines f (ListingIn w EscPos) t before at = f w t before at
+  by_lines reader lines f (ListingIn w (EscPos by)) t before at = f by w t before at
   by_lines reader lines f setup t before at = absurd at
 
   pub at_lines : {A : Type 0} (machine : MachineOver A) (reader : EscReader) (lines : Listed) → machine ≡ over.ReceiptLines reader lines →
-      ((w : Bool) (t : List ℕ) (before : List (Item (ListingIn w EscPos))) → EscStands reader t × AreLines w lines t before → P (ListingIn w EscPos) t before) →
+      ((by : EscReading) (w : Bool) (t : List ℕ) (before : List (Item (ListingIn w (EscPos by)))) → EscStands by reader t × AreLines w lines t before → P (ListingIn w (EscPos by)) t before) →
       (setup : Setup) (t : List ℕ) (before : List (Item setup)) → MachineStands (machine_of machine) setup t before → P setup t before
   at_lines machine reader lines is f setup t before at = by_lines reader lines f setup t before (subst (λ m. MachineStands (machine_of m) setup t before) is at)
 

@@ -9,6 +9,7 @@ use Rattle.vp_bars.specs.declared.code_128.CodeSet.{CodeSet}
 use Rattle.vp_bars.specs.Symbols.{Linear}
 use Rattle.vp_bars.specs.CodeSets.{symbol_from}
 use Rattle.vp_bars.specs.Symbologies.{symbol_of}
+use Rattle.vp_esc.specs.declared.reading.Reading.{Reading}
 use Rattle.vp_esc.specs.declared.item.EscItem.{EscItem}
 use Rattle.vp_esc.specs.Split.{split, fault_of as esc_fault}
 use Rattle.vp_esc.specs.Units.{fault_in}
@@ -63,13 +64,13 @@ from_of_byte set values = grind arith
 pub bars_of_byte : (code : BarCode) (bytes : List ℕ) → ErrOfByte (symbol_of code bytes)
 bars_of_byte code bytes = grind (arith, common_steps, from_of_byte)
 
-unit_of_byte : (unit : List ℕ) → SomeOfByte (fault_in unit)
+unit_of_byte : (by : Reading) (unit : List ℕ) → SomeOfByte (fault_in by unit)
 unfolding fault_in
-unit_of_byte unit = grind arith
+unit_of_byte by unit = grind arith
 
-pub esc_of_byte : (bytes : List ℕ) → SomeOfByte (esc_fault bytes)
+pub esc_of_byte : (by : Reading) (bytes : List ℕ) → SomeOfByte (esc_fault by bytes)
 unfolding esc_fault
-esc_of_byte bytes = unit_of_byte (split bytes).rest
+esc_of_byte by bytes = unit_of_byte by (split by bytes).rest
 
 symbol_by : (code : Option BarCode) (bytes : List ℕ) (more : Bool) → ErrOfByte (receipt.bars_of code bytes more)
 symbol_by code bytes more = grind (arith, bars_of_byte)

@@ -2,6 +2,7 @@
 use Rattle.std.specs.Prelude.{◌≡◌, ℕ, List, None}
 use Rattle.vp_dots.specs.Images.{Image}
 use Rattle.vp_glyph.specs.Sheets.{Sheets}
+use Rattle.vp_esc.specs.declared.reading.Reading.{Reading as EscReading}
 use Rattle.vp_esc.specs.declared.item.EscItem.{EscItem}
 use Rattle.vp_receipt_settings.specs.Setup.{Setup as ReceiptSetup}
 use Rattle.vp_receipt.specs.Images.{images, begun}
@@ -10,21 +11,22 @@ use Rattle.vp_label.specs.Images as label
 use Rattle.vp_engine.specs.Paper.{Rules, history, before_fault, fault_at_end}
 use Rattle.vp_engine.specs.Setups.{Receipts, Labels, rules_of}
 
--- the rules of receipts on a paper with sheets
-abbrev pub receipts : ReceiptSetup → Rules EscItem
-receipts setup = rules_of (Receipts setup)
+-- the rules of receipts by these commands on a paper with sheets
+abbrev pub receipts : EscReading → ReceiptSetup → Rules EscItem
+receipts by setup = rules_of (Receipts by setup)
 
 -- the bytes have no fault, and all is printed where they end
-abbrev pub IsPrinted : ReceiptSetup → List ℕ → Type 0
-IsPrinted setup bytes = fault_at_end (receipts setup) bytes ≡ None
+abbrev pub IsPrinted : EscReading → ReceiptSetup → List ℕ → Type 0
+IsPrinted by setup bytes = fault_at_end (receipts by setup) bytes ≡ None
 
 -- the images of the bytes before the first fault, from the top
-abbrev pub images_of : ReceiptSetup → List ℕ → List Image
-images_of setup bytes = images setup (history (receipts setup) (before_fault (receipts setup) bytes))
+abbrev pub images_of : EscReading → ReceiptSetup → List ℕ → List Image
+images_of by setup bytes =
+    images setup (history (receipts by setup) (before_fault (receipts by setup) bytes))
 
 -- what has come of a raster that rows are to come of: its header, and rows
-abbrev pub begun_of : ReceiptSetup → List ℕ → List ℕ
-begun_of setup bytes = begun setup (history (receipts setup) (before_fault (receipts setup) bytes))
+abbrev pub begun_of : EscReading → ReceiptSetup → List ℕ → List ℕ
+begun_of by setup bytes = begun setup (history (receipts by setup) (before_fault (receipts by setup) bytes))
 
 -- the rules of labels with sheets
 abbrev pub labels : Sheets → Rules Item

@@ -53,10 +53,10 @@ pub record AreLines (with_offsets : Bool) {Item : Type 0} (lines : Listed) (byte
 
 -- the reader stands after these bytes, and what it drives after these items
 abbrev pub MachineStands : Machine → (setup : Setup) → List ℕ → List (Item setup) → Type 0
-MachineStands (Receipt reader receipt) (Receipts setup) bytes before =
-    EscStands reader bytes × ReceiptStands setup receipt before
-MachineStands (ReceiptLines reader lines) (ListingIn with_offsets EscPos) bytes before =
-    EscStands reader bytes × AreLines with_offsets lines bytes before
+MachineStands (Receipt reader receipt) (Receipts by setup) bytes before =
+    EscStands by reader bytes × ReceiptStands setup receipt before
+MachineStands (ReceiptLines reader lines) (ListingIn with_offsets (EscPos by)) bytes before =
+    EscStands by reader bytes × AreLines with_offsets lines bytes before
 MachineStands (Label reader label) (Labels sheets) bytes before =
     ZplStands reader bytes × LabelStands sheets label before
 MachineStands (LabelLines reader lines) (ListingIn with_offsets Zpl) bytes before =

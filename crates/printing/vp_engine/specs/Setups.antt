@@ -1,5 +1,7 @@
 -- The languages, and what each printer is set up with.
 use Rattle.std.specs.Prelude.{ℕ, Bool, true, false, List, [], ◌∷◌, length, None}
+use Rattle.vp_esc.specs.declared.reading.Reading.{Reading as EscReading}
+use Rattle.vp_esc.specs.declared.reading.Reading.TheVariants.{Profile, Whole}
 use Rattle.vp_esc.specs.declared.item.EscItem.{EscItem}
 use Rattle.vp_esc.specs.Split.{split, items, fault_of}
 use Rattle.vp_esc.specs.Lines.{line_of}
@@ -20,16 +22,18 @@ use Rattle.vp_engine.specs.Paper.{Reading, Rules, listing, nothing_held}
 
 -- what a stream's bytes are, whatever they are printed on
 pub data Commands : Type 0 where
-  EscPos : Commands
+  EscPos : EscReading → Commands
   Zpl : Commands
 
 abbrev pub commands_of : Language → Commands
-commands_of languages.Receipt = EscPos
-commands_of languages.Receipt58 = EscPos
+commands_of languages.Receipt = EscPos Profile
+commands_of languages.Receipt58 = EscPos Profile
+commands_of languages.WholeReceipt = EscPos Whole
+commands_of languages.WholeReceipt58 = EscPos Whole
 commands_of languages.Label = Zpl
 
 abbrev pub ItemIn : Commands → Type 0
-ItemIn EscPos = EscItem
+ItemIn (EscPos by) = EscItem
 ItemIn Zpl = zpl.Item
 
 abbrev pub ItemOf : Language → Type 0
@@ -39,8 +43,12 @@ abbrev pub is_empty : List ℕ → Bool
 is_empty [] = true
 is_empty (b ∷ bytes) = false
 
-abbrev pub esc_reading : Reading EscItem
-esc_reading = record { items = items; fault_of = fault_of; is_between = λ bytes. is_empty (split bytes).rest }
+abbrev pub esc_reading : EscReading → Reading EscItem
+esc_reading by = record {
+  items = items by;
+  fault_of = fault_of by;
+  is_between = λ bytes. is_empty (split by bytes).rest;
+}
 
 -- every command of labels is known, or skipped
 abbrev pub zpl_reading : Reading zpl.Item
@@ -48,7 +56,7 @@ zpl_reading = record { items = zpl.items; fault_of = λ bytes. None; is_between 
 
 -- what the bytes say
 abbrev pub reading_in : (commands : Commands) → Reading (ItemIn commands)
-reading_in EscPos = esc_reading
+reading_in (EscPos by) = esc_reading by
 reading_in Zpl = zpl_reading
 
 abbrev pub reading : (language : Language) → Reading (ItemOf language)
@@ -56,16 +64,16 @@ reading language = reading_in (commands_of language)
 
 -- an item's line of a listing
 abbrev pub line_in : (commands : Commands) → ItemIn commands → List ℕ
-line_in EscPos = line_of
+line_in (EscPos by) = line_of
 line_in Zpl = zpl_lines.line_of
 
 abbrev pub line : (language : Language) → ItemOf language → List ℕ
 line language = line_in (commands_of language)
 
--- what a printer prints: receipts on a paper with sheets, labels with sheets, or a line for each item, which
--- needs no paper, with its place or without
+-- what a printer prints: receipts by these commands on a paper with sheets, labels with sheets, or a line for
+-- each item, which needs no paper, with its place or without
 pub data Setup : Type 0 where
-  Receipts : ReceiptSetup → Setup
+  Receipts : EscReading → ReceiptSetup → Setup
   Labels : Sheets → Setup
   ListingIn : (with_offsets : Bool) → Commands → Setup
 
@@ -78,18 +86,20 @@ ListingWithOffsets language = ListingIn true (commands_of language)
 
 -- the printer of a language with these sheets
 abbrev pub setup_of : Language → Sheets → Setup
-setup_of languages.Receipt sheets = Receipts (record { width = W576; sheets = sheets })
-setup_of languages.Receipt58 sheets = Receipts (record { width = W384; sheets = sheets })
+setup_of languages.Receipt sheets = Receipts Profile (record { width = W576; sheets = sheets })
+setup_of languages.Receipt58 sheets = Receipts Profile (record { width = W384; sheets = sheets })
+setup_of languages.WholeReceipt sheets = Receipts Whole (record { width = W576; sheets = sheets })
+setup_of languages.WholeReceipt58 sheets = Receipts Whole (record { width = W384; sheets = sheets })
 setup_of languages.Label sheets = Labels sheets
 
 abbrev pub Item : Setup → Type 0
-Item (Receipts receipt) = EscItem
+Item (Receipts by receipt) = EscItem
 Item (Labels sheets) = zpl.Item
 Item (ListingIn with_offsets commands) = ListedItem with_offsets (ItemIn commands)
 
 abbrev pub rules_of : (setup : Setup) → Rules (Item setup)
-rules_of (Receipts receipt) = record {
-  reading = esc_reading;
+rules_of (Receipts by receipt) = record {
+  reading = esc_reading by;
   prints = prints receipt;
   refusal = refusal receipt;
   is_at_rest = is_at_rest receipt;
@@ -114,6 +124,6 @@ rules_of (ListingIn with_offsets commands) =
 
 -- how many lines of a listing these items are
 abbrev pub lines_of : (setup : Setup) → List (Item setup) → ℕ
-lines_of (Receipts receipt) before = 0
+lines_of (Receipts by receipt) before = 0
 lines_of (Labels sheets) before = 0
 lines_of (ListingIn with_offsets commands) before = counted (length before)

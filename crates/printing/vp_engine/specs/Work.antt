@@ -26,7 +26,7 @@ work_told p = machine_work p.machine
 -- was laid and wiped. Of a label it is at most that of a copy of the one that was printed last, and at least
 -- that of what is seen of it, once all is put out
 abbrev pub IsWorkAfter : (setup : Setup) → List (Item setup) → List ℕ → ℕ → Type 0
-IsWorkAfter (Receipts receipt) before pending work =
+IsWorkAfter (Receipts by receipt) before pending work =
     mode receipt before ≡ Page →
     (min (least_work receipt before) MOST ≤ work) × (work ≤ most_work receipt before)
 IsWorkAfter (Labels sheets) before pending work =

@@ -14,6 +14,7 @@ ghost use Rattle.vp_receipt.specs.Work.{most_work};
 ghost use Rattle.vp_receipt_settings.specs.declared.text.TheConstants.{LINE_ROWS};
 ghost use Rattle.vp_receipt_settings.specs.Setup.{Setup as ReceiptSetup, across};
 ghost use Rattle.vp_language.specs.declared.language.Language.{Language};
+ghost use Rattle.vp_esc.specs.declared.reading.Reading.{Reading};
 ghost use Rattle.vp_engine.specs.Bytes.{IsPrefix};
 ghost use Rattle.vp_engine.specs.Images.{receipts, IsPrinted, images_of, begun_of, labels, images_of_labels};
 ghost use Rattle.vp_engine.specs.Listing.{lines};
@@ -94,12 +95,13 @@ pub fn places()
 /// each as wide as the paper and of a row or more. That of any bytes is images, and what has come of a
 /// raster.
 pub fn a_receipt_is_images()
-    ensures printed { (setup : ReceiptSetup) (bytes : List ℕ) → IsPrinted setup bytes →
-        paper (receipts setup) bytes ≡ flat_map pbm (images_of setup bytes) }
-    ensures any { (setup : ReceiptSetup) (bytes : List ℕ) →
-        paper (receipts setup) bytes ≡ flat_map pbm (images_of setup bytes) ++ begun_of setup bytes }
-    ensures across { (setup : ReceiptSetup) (bytes : List ℕ) →
-        AreAcross (across setup.width) (images_of setup bytes) }
+    ensures printed { (by : Reading) (setup : ReceiptSetup) (bytes : List ℕ) → IsPrinted by setup bytes →
+        paper (receipts by setup) bytes ≡ flat_map pbm (images_of by setup bytes) }
+    ensures any { (by : Reading) (setup : ReceiptSetup) (bytes : List ℕ) →
+        paper (receipts by setup) bytes ≡
+        flat_map pbm (images_of by setup bytes) ++ begun_of by setup bytes }
+    ensures across { (by : Reading) (setup : ReceiptSetup) (bytes : List ℕ) →
+        AreAcross (across setup.width) (images_of by setup bytes) }
 {
     what_is_printed_is_images();
 }
@@ -108,13 +110,14 @@ pub fn a_receipt_is_images()
 /// height, and is then never refused: only a call that fails, or too many of them, ends a call of `join`
 /// early.
 pub fn a_receipt_is_joined()
-    ensures joined { (setup : ReceiptSetup) (bytes : List ℕ) → IsPrinted setup bytes →
-        height_together (images_of setup bytes) ≤ greatest →
-        (image : Image) × IsJoined (paper (receipts setup) bytes) image × (image.width ≡ across setup.width)
-        × (image.height ≡ height_together (images_of setup bytes)) }
-    ensures not_refused { (setup : ReceiptSetup) (bytes : List ℕ) (held holds : Option (List ℕ))
-        (fault : JoinFault) → IsPrinted setup bytes → height_together (images_of setup bytes) ≤ greatest →
-        IsExact (paper (receipts setup) bytes) held holds (Err fault) → IsOfCalls fault }
+    ensures joined { (by : Reading) (setup : ReceiptSetup) (bytes : List ℕ) → IsPrinted by setup bytes →
+        height_together (images_of by setup bytes) ≤ greatest → (image : Image)
+        × IsJoined (paper (receipts by setup) bytes) image × (image.width ≡ across setup.width)
+        × (image.height ≡ height_together (images_of by setup bytes)) }
+    ensures not_refused { (by : Reading) (setup : ReceiptSetup) (bytes : List ℕ)
+        (held holds : Option (List ℕ)) (fault : JoinFault) → IsPrinted by setup bytes →
+        height_together (images_of by setup bytes) ≤ greatest →
+        IsExact (paper (receipts by setup) bytes) held holds (Err fault) → IsOfCalls fault }
 {
     a_receipt_is_images();
     images_make_one();
@@ -135,8 +138,8 @@ pub fn a_label_is_images()
 /// columns of a page, and for each byte the rows of a line with those; of the label that was printed last,
 /// for each byte 7,327 in each of 250 bands.
 pub fn work_is_by_bytes()
-    ensures receipts { (setup : ReceiptSetup) (bytes : List ℕ) →
-        most_work setup (history (receipts setup) (before_fault (receipts setup) bytes))
+    ensures receipts { (by : Reading) (setup : ReceiptSetup) (bytes : List ℕ) →
+        most_work setup (history (receipts by setup) (before_fault (receipts by setup) bytes))
         ≤ PAGE_ROWS + PAPER_DOTS + (LINE_ROWS + PAGE_ROWS + PAPER_DOTS) * length bytes }
     ensures labels { (sheets : Sheets) (bytes : List ℕ) →
         most_painting sheets (history (labels sheets) (before_fault (labels sheets) bytes))

@@ -1,6 +1,7 @@
 //! The machines: each a reader and what it drives. Only here has each language an arm.
 ghost use Rattle.std.specs.Prelude.{◌≡◌, ◌<◌, ◌≤◌, ◌↔◌, ◌++◌, List, [], ℕ, IsTrue, IfOk, None, flat_map, length, min, take, drop};
 ghost use Rattle.vp_engine.specs.Answers.{IsBounded};
+ghost use Rattle.vp_esc.specs.declared.reading.Reading.{Reading as EscReading};
 ghost use Rattle.vp_engine.specs.Lines.{listed_line};
 ghost use Rattle.vp_streams.specs.Count.{grown};
 ghost use Rattle.vp_engine.specs.Memory.{machine_memory};
@@ -23,7 +24,7 @@ use crate::laws::items_grow;
 use crate::lines::Lines;
 use std::alloc::{AllocError, Global};
 use vp_dots::{Fault, Small};
-use vp_esc::{EscItem, EscReader};
+use vp_esc::{EscItem, EscReader, Reading};
 use vp_glyph::Sheets;
 use vp_label::Label;
 use vp_label::laws::{data_in_turn, in_turn};
@@ -92,10 +93,10 @@ fn receipt_run<A: Small>(
     ensures put { result.put ≤ length output.old }
     ensures rest { drop result.put output.new ≡ drop result.put output.old }
     ensures pending { receipt.new.pending ≡ [] }
-    ensures takes { (setup : ReceiptSetup) (t : List ℕ) (before : List EscItem) →
-        EscStands reader.old t → ReceiptStands setup receipt.old before → fault_of t ≡ None →
-        TakesRun (rules_of (Receipts setup))
-        (λ t before. EscStands reader.new t × ReceiptStands setup receipt.new before) t before
+    ensures takes { (by : EscReading) (setup : ReceiptSetup) (t : List ℕ) (before : List EscItem) →
+        EscStands by reader.old t → ReceiptStands setup receipt.old before → fault_of by t ≡ None →
+        TakesRun (rules_of (Receipts by setup))
+        (λ t before. EscStands by reader.new t × ReceiptStands setup receipt.new before) t before
         (take result.taken input.now) (take result.put output.new) }
 {
     let skipped = reader.take_skipped(input);
@@ -155,20 +156,32 @@ impl<A: Small + Copy> Machine<A> {
         ensures pending { IfOk result (λ m. pending_of (machine_of m) ≡ []) }
     {
         match language {
-            Language::Receipt => Machine::receipt(alloc, sheets, Width::W576),
-            Language::Receipt58 => Machine::receipt(alloc, sheets, Width::W384),
+            Language::Receipt => Machine::receipt(alloc, sheets, Width::W576, Reading::Profile),
+            Language::Receipt58 => Machine::receipt(alloc, sheets, Width::W384, Reading::Profile),
+            Language::WholeReceipt => Machine::receipt(alloc, sheets, Width::W576, Reading::Whole),
+            Language::WholeReceipt58 => Machine::receipt(
+                alloc,
+                sheets,
+                Width::W384,
+                Reading::Whole,
+            ),
             Language::Label => Machine::label(alloc, sheets),
         }
     }
 
-    fn receipt(alloc: A, sheets: Sheets<A>, width: Width) -> Result<Self, AllocError>
-        ensures stands { IfOk result
-            (λ m. MachineStands (machine_of m) (Receipts (record { width = width; sheets = sheets })) [] []) }
+    fn receipt(
+        alloc: A,
+        sheets: Sheets<A>,
+        width: Width,
+        reading: Reading,
+    ) -> Result<Self, AllocError>
+        ensures stands { IfOk result (λ m. MachineStands (machine_of m)
+            (Receipts reading (record { width = width; sheets = sheets })) [] []) }
         ensures pending { IfOk result (λ m. pending_of (machine_of m) ≡ []) }
     {
         let receipt = Receipt::new(alloc, sheets, width)?;
         Ok(Machine::Receipt {
-            reader: EscReader::new(),
+            reader: EscReader::new(reading),
             receipt,
         })
     }
@@ -193,18 +206,24 @@ impl<A: Small> Machine<A> {
         ensures pending { pending_of (machine_of result) ≡ [] }
     {
         match language {
-            Language::Receipt => Machine::receipt_lines(with_offsets),
-            Language::Receipt58 => Machine::receipt_lines(with_offsets),
+            Language::Receipt | Language::Receipt58 => Machine::receipt_lines(
+                Reading::Profile,
+                with_offsets,
+            ),
+            Language::WholeReceipt | Language::WholeReceipt58 => Machine::receipt_lines(
+                Reading::Whole,
+                with_offsets,
+            ),
             Language::Label => Machine::label_lines(with_offsets),
         }
     }
 
-    fn receipt_lines(with_offsets: bool) -> Self
-        ensures stands { MachineStands (machine_of result) (ListingIn with_offsets EscPos) [] [] }
+    fn receipt_lines(reading: Reading, with_offsets: bool) -> Self
+        ensures stands { MachineStands (machine_of result) (ListingIn with_offsets (EscPos reading)) [] [] }
         ensures pending { pending_of (machine_of result) ≡ [] }
     {
         Machine::ReceiptLines {
-            reader: EscReader::new(),
+            reader: EscReader::new(reading),
             lines: Lines::new(with_offsets),
         }
     }

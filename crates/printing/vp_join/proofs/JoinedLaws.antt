@@ -1,5 +1,5 @@
 -- The laws of joined images.
-use Rattle.std.proofs.Common.{Err, Option, inl, inr, ◌≡◌, ◌≢◌, ◌+◌, ◌*◌, ℕ, cond, eqb, eq-eqb, List, [], ◌∷◌, ◌++◌, length, Some, None, refl, sym, ap, ◌∙◌, arith}
+use Rattle.std.proofs.Common.{Err, Option, inl, inr, ◌≡◌, ◌≢◌, ◌+◌, ◌*◌, ℕ, cond, eqb, eq-eqb, List, [], ◌∷◌, ◌++◌, length, Some, None, true, false, refl, sym, ap, ◌∙◌, arith}
 use Rattle.std.proofs.lemmas.Bool.{cases_eq, ne_eqb, lt-ltb}
 use Rattle.std.proofs.lemmas.List.{append-nil}
 use Rattle.vp_dots.specs.Dots.{dot}
@@ -10,7 +10,7 @@ use Rattle.vp_join.specs.Strips.{Strip, IsNumber, AreStrips, IsJoined, IsOffence
 use Rattle.vp_join.specs.Told.{Told, told, nothing}
 use Rattle.vp_join.specs.Passes.{IsExact, IsOfCalls}
 use Rattle.vp_join.specs.declared.fault.JoinFault.{JoinFault}
-use Rattle.vp_join.specs.declared.fault.JoinFault.TheVariants.{Differ, Read, Write, TooManyTurns}
+use Rattle.vp_join.specs.declared.fault.JoinFault.TheVariants.{TooWide, Differ, Read, Write, TooManyTurns}
 use Rattle.vp_join.specs.declared.fault.Offence.{Offence}
 use Rattle.vp_join.proofs.Agree.{after, after-height, after-rows, after-width, told_images, told_offence, images_told, each_text, never_both, length-rows_of, Images}
 use Rattle.vp_join.proofs.Pictures.{pbm_is, dot_in_row}
@@ -68,7 +68,7 @@ same_pbm text one other j k =
           ∙ ap (text_of_size other.width other.height) r ∙ sym (joined_text text other k)
     ]
 
-wide_fits : (width : ℕ) (strips : List Strip) → AreStrips width strips → height_of strips ≢ 0 → IsNumber width
+pub wide_fits : (width : ℕ) (strips : List Strip) → AreStrips width strips → height_of strips ≢ 0 → IsNumber width
 wide_fits width [] are n = absurd (n refl)
 wide_fits width (s ∷ strips) are n = rw are.0.width_is at are.0.width_fits
 
@@ -109,6 +109,7 @@ twice text image j = elim (cases_eq image.height 0) [
 
 -- images are not refused
 pub only_calls : (text : List ℕ) (image : Image) (held holds : Option (List ℕ)) (fault : JoinFault) → IsJoined text image → IsExact text held holds (Err fault) → IsOfCalls fault
+only_calls text image held holds TooWide j e = absurd (let k : false ≡ true = e.2 in cc)
 only_calls text image held holds Differ j e = e
 only_calls text image held holds Read j e = tt
 only_calls text image held holds Write j e = tt

@@ -1,8 +1,8 @@
 -- What is told of a size is the size of images.
-use Rattle.std.proofs.Common.{◌≡◌, ◌+◌, ◌*◌, ℕ, List, [], ◌∷◌, ◌++◌, refl, sym, ap, ◌∙◌, arith}
+use Rattle.std.proofs.Common.{◌≡◌, ◌+◌, ◌*◌, ℕ, List, [], ◌∷◌, ◌++◌, length, ◌≤◌, refl, sym, ap, ◌∙◌, arith}
 use Rattle.vp_dots.specs.Dots.{dot}
 use Rattle.vp_dots.specs.Images.{Image, row_bytes, pbm}
-use Rattle.vp_join.specs.Strips.{Strip, AreStrips, BeginsWith, IsJoined, height_of, strips_rows, without_padding}
+use Rattle.vp_join.specs.Strips.{Strip, AreStrips, BeginsWith, IsJoined, greatest, height_of, strips_rows, without_padding}
 use Rattle.vp_join.specs.Told.{Told, told, whole, nothing, rows_told}
 use Rattle.vp_join.specs.Passes.{Tells, HasSize, head_of}
 use Rattle.vp_join.specs.declared.reading.Size.{Size}
@@ -85,3 +85,12 @@ tells text size none k =
     wide : (strips : List Strip) → AreStrips k.image.width strips → size.height ≡ height_of strips → (after nothing strips).width ≡ size.width
     wide [] are e = sym (none e)
     wide (s ∷ strips) are e = after-width k.image.width nothing s strips are ∙ k.width_is
+
+-- all rows are told
+pub length_told : (text : List ℕ) (size : Size) → Tells text size → length (rows_told text) ≡ size.height * row_bytes size.width
+length_told text size t =
+    let m = measured text size t in
+    ap length m.rows_is ∙ length-rows_of size.width m.strips m.begins.are ∙ ap (λ h. h * row_bytes size.width) (sym m.height_is)
+
+pub low : (text : List ℕ) (size : Size) → Tells text size → size.height ≤ greatest
+low text size t = let m = measured text size t in omega (arith, m.height_is, m.begins.height_fits)

@@ -10,7 +10,7 @@ use Rattle.vp_join.specs.Standing.{Stands, HasRead}
 use Rattle.vp_join.specs.declared.fault.Offence.{Offence}
 use Rattle.vp_join.specs.declared.fault.Offence.TheVariants.{Header as HeaderOffence, Width as WidthOffence, TooTall as TooTallOffence, Short as ShortOffence}
 use Rattle.vp_join.specs.declared.fault.JoinFault.{JoinFault}
-use Rattle.vp_join.specs.declared.fault.JoinFault.TheVariants.{Header, Width, TooTall, Short, Differ, Read, Write, TooManyTurns}
+use Rattle.vp_join.specs.declared.fault.JoinFault.TheVariants.{Header, Width, TooTall, Short, TooWide, Differ, Read, Write, TooManyTurns}
 use Rattle.vp_join.specs.declared.passes.Measured.{Measured}
 use Rattle.vp_join.specs.declared.reading.Reading.{Reading}
 use Rattle.vp_join.specs.declared.reading.Size.{Size}
@@ -50,6 +50,7 @@ IsMeasure (Err Header) bytes end = IsFound HeaderOffence bytes end
 IsMeasure (Err Width) bytes end = IsFound WidthOffence bytes end
 IsMeasure (Err TooTall) bytes end = IsFound TooTallOffence bytes end
 IsMeasure (Err Short) bytes end = IsFound ShortOffence bytes end
+IsMeasure (Err TooWide) bytes end = ⊥
 IsMeasure (Err Differ) bytes end = ⊥
 IsMeasure (Err Read) bytes end = Unit {0}
 IsMeasure (Err Write) bytes end = ⊥
@@ -71,14 +72,17 @@ abbrev pub IsWritten : Result ⊤ JoinFault → List ℕ → Type 0
 IsWritten (Ok done) rest = rest ≡ []
 IsWritten (Err fault) rest = fault ≡ Write
 
--- a writer took a front of bytes, and all of them unless it failed
-pub record Writes (before after : Option (List ℕ)) (bytes : List ℕ)
-    (result : Result ⊤ JoinFault) : Type 0 where
+-- a front of bytes was taken, and all of them unless a write failed
+pub record Writes (Has : List ℕ → Type 0) (bytes : List ℕ) (result : Result ⊤ JoinFault) : Type 0 where
   pub taken : List ℕ
   pub rest : List ℕ
   pub split : taken ++ rest ≡ bytes
-  pub appended : Appends before after taken
+  pub has : Has taken
   pub answer : IsWritten result rest
+
+-- whatever was taken up to one state, these bytes more were up to the other
+abbrev pub Follows : {A : Type 0} → (A → List ℕ → A → Type 0) → A → List ℕ → A → Type 0
+Follows has a bytes b = (start : _) (before : List ℕ) → has start before a → has start (before ++ bytes) b
 
 -- the second pass's answer: all rows are written, or the reader doesn't tell images of this size, whatever
 -- follows
@@ -91,9 +95,9 @@ IsCopy (Err Write) size bytes rest end = Unit {0}
 IsCopy (Err TooManyTurns) size bytes rest end = Unit {0}
 IsCopy (Err fault) size bytes rest end = ⊥
 
--- the second pass read bytes and wrote a front of the rows among them, no more than the image has, and
--- answers for them
-pub record Copies (before after held holds : Option (List ℕ)) (size : Size)
+-- the second pass read bytes, of which a front of the rows among them was taken, no more than the image has,
+-- and answers for them
+pub record Copies (before after : Option (List ℕ)) (Has : List ℕ → Type 0) (size : Size)
     (result : Result ⊤ JoinFault) : Type 0 where
   pub bytes : List ℕ
   pub taken : List ℕ
@@ -101,12 +105,11 @@ pub record Copies (before after held holds : Option (List ℕ)) (size : Size)
   pub consumed : Consumes before after bytes
   pub front : taken ++ rest ≡ without_padding size.width (rows_told bytes)
   pub fits : length taken ≤ size.height * row_bytes size.width
-  pub appended : Appends held holds taken
+  pub has : Has taken
   pub answer : IsCopy result size bytes rest (IsAtEnd after)
 
--- in the second pass a reader gave bytes, the reading stands after them, and a writer took all rows among
--- them
-pub record IsCopied (before after held holds : Option (List ℕ)) (size : Size) (s : Reading)
+-- in the second pass a reader gave bytes, the reading stands after them, and all rows among them were taken
+pub record IsCopied (before after : Option (List ℕ)) (Has : List ℕ → Type 0) (size : Size) (s : Reading)
     (given : ℕ) : Type 0 where
   pub bytes : List ℕ
   pub rows : List ℕ
@@ -114,7 +117,7 @@ pub record IsCopied (before after held holds : Option (List ℕ)) (size : Size) 
   pub stands : Stands s bytes rows
   pub given_is : given ≡ length rows
   pub fits : given ≤ size.height * row_bytes size.width
-  pub appended : Appends held holds (without_padding size.width rows)
+  pub has : Has (without_padding size.width rows)
 
 -- a count after n calls
 abbrev pub after_calls : ℕ → ℕ → ℕ
@@ -148,13 +151,15 @@ GivesRows None s size b r bytes rows =
 abbrev pub head_of : Size → List ℕ
 head_of size = if size.height == 0 then [] else header_of size.width size.height
 
--- the whole joined image is written: both readers are at their ends, and tell images of one width and of one
--- height in all
-pub record IsWhole (height : ℕ) (size : Size) (second written : List ℕ) (end : Type 0) : Type 0 where
+-- the whole joined image is written, and is not too wide: both readers are at their ends, and tell images of
+-- one width and of one height in all
+pub record IsWhole (too_wide : ℕ → Bool) (height : ℕ) (size : Size) (second written : List ℕ)
+    (end : Type 0) : Type 0 where
   pub height_is : height ≡ size.height
   pub image : Image
   pub joined : IsJoined second image
   pub width_is : image.width ≡ size.width
+  pub narrow : too_wide image.width ≡ false
   pub image_height_is : image.height ≡ size.height
   pub written_is : written ≡ pbm image
   pub at_end : end
@@ -165,27 +170,37 @@ pub record IsRefused (offence : Offence) (first second written : List ℕ) (end 
   pub unread : second ≡ []
   pub unwritten : written ≡ []
 
+-- the image is too wide, with which nothing is written and the second reader is not read
+pub record IsTooWide (too_wide : ℕ → Bool) (size : Size) (second written : List ℕ) : Type 0 where
+  pub wide : too_wide size.width ≡ true
+  pub unread : second ≡ []
+  pub unwritten : written ≡ []
+
 -- the first reader gave the bytes `first`, the second `second`, and `written` was written
-abbrev pub IsEnding : Result ℕ JoinFault → Size → List ℕ → List ℕ → List ℕ → Type 0 → Type 0 → Type 0
-IsEnding (Ok height) size first second written first_end second_end =
-    IsWhole height size second written second_end
-IsEnding (Err Header) size first second written first_end second_end =
+abbrev pub IsEnding : (ℕ → Bool) → Result ℕ JoinFault → Size → List ℕ → List ℕ → List ℕ → Type 0 → Type 0
+    → Type 0
+IsEnding too_wide (Ok height) size first second written first_end second_end =
+    IsWhole too_wide height size second written second_end
+IsEnding too_wide (Err Header) size first second written first_end second_end =
     IsRefused HeaderOffence first second written first_end
-IsEnding (Err Width) size first second written first_end second_end =
+IsEnding too_wide (Err Width) size first second written first_end second_end =
     IsRefused WidthOffence first second written first_end
-IsEnding (Err TooTall) size first second written first_end second_end =
+IsEnding too_wide (Err TooTall) size first second written first_end second_end =
     IsRefused TooTallOffence first second written first_end
-IsEnding (Err Short) size first second written first_end second_end =
+IsEnding too_wide (Err Short) size first second written first_end second_end =
     IsRefused ShortOffence first second written first_end
-IsEnding (Err Differ) size first second written first_end second_end =
+IsEnding too_wide (Err TooWide) size first second written first_end second_end =
+    IsTooWide too_wide size second written
+IsEnding too_wide (Err Differ) size first second written first_end second_end =
     (more : List ℕ) → MayFollow second_end more → HasSize (second ++ more) size → ⊥
-IsEnding (Err Read) size first second written first_end second_end = Unit {0}
-IsEnding (Err Write) size first second written first_end second_end = Unit {0}
-IsEnding (Err TooManyTurns) size first second written first_end second_end = Unit {0}
+IsEnding too_wide (Err Read) size first second written first_end second_end = Unit {0}
+IsEnding too_wide (Err Write) size first second written first_end second_end = Unit {0}
+IsEnding too_wide (Err TooManyTurns) size first second written first_end second_end = Unit {0}
 
 -- the answer is one of those that come once the first reader was read to its end
 abbrev pub is_late : Result ℕ JoinFault → Bool
 is_late (Ok height) = true
+is_late (Err TooWide) = true
 is_late (Err Differ) = true
 is_late _ = false
 
@@ -194,9 +209,11 @@ pub record IsMeasured (first : List ℕ) (size : Size) (end : Type 0) : Type 0 w
   pub size_is : HasSize first size
   pub at_end : end
 
--- two readers gave bytes, and a writer took a front of the header of the first one's images and the rows of
--- the second one's, no more than the joined image has: nothing before the first reader was read to its end
-pub record Joins (a c b d held holds : Option (List ℕ)) (result : Result ℕ JoinFault) : Type 0 where
+-- two readers gave bytes, and a front of the header of the first one's images and the rows of the second
+-- one's was taken, no more than the joined image has: nothing before the first reader was read to its end, and
+-- nothing of an image that is too wide
+pub record Joins (a c b d : Option (List ℕ)) (Has : List ℕ → Type 0) (too_wide : ℕ → Bool)
+    (result : Result ℕ JoinFault) : Type 0 where
   pub size : Size
   pub first : List ℕ
   pub second : List ℕ
@@ -204,25 +221,36 @@ pub record Joins (a c b d held holds : Option (List ℕ)) (result : Result ℕ J
   pub rest : List ℕ
   pub consumed_first : Consumes a c first
   pub consumed_second : Consumes b d second
-  pub appended : Appends held holds written
+  pub has : Has written
   pub front : written ++ rest ≡ head_of size ++ without_padding size.width (rows_told second)
   pub fits : length written ≤ length (head_of size) + size.height * row_bytes size.width
   pub measured : ((written ≡ []) × (is_late result ≡ false)) ⊎ IsMeasured first size (IsAtEnd c)
-  pub ending : IsEnding result size first second written (IsAtEnd c) (IsAtEnd d)
+  pub narrow : ((second ≡ []) × (written ≡ [])) ⊎ (too_wide size.width ≡ false)
+  pub ending : IsEnding too_wide result size first second written (IsAtEnd c) (IsAtEnd d)
 
 -- where both readers tell this text: its joined image and its height, or its first offence and nothing
--- written
+-- taken, or an image that is too wide and nothing taken
+abbrev pub IsExactly : List ℕ → (List ℕ → Type 0) → (ℕ → Bool) → Result ℕ JoinFault → Type 0
+IsExactly text Has too_wide (Ok height) =
+    (image : Image) × IsJoined text image × (too_wide image.width ≡ false) × (height ≡ image.height) × Has (pbm image)
+IsExactly text Has too_wide (Err Header) = IsOffence text HeaderOffence × Has []
+IsExactly text Has too_wide (Err Width) = IsOffence text WidthOffence × Has []
+IsExactly text Has too_wide (Err TooTall) = IsOffence text TooTallOffence × Has []
+IsExactly text Has too_wide (Err Short) = IsOffence text ShortOffence × Has []
+IsExactly text Has too_wide (Err TooWide) =
+    (image : Image) × IsJoined text image × (too_wide image.width ≡ true) × Has []
+IsExactly text Has too_wide (Err Differ) = ⊥
+IsExactly text Has too_wide (Err Read) = Unit {0}
+IsExactly text Has too_wide (Err Write) = Unit {0}
+IsExactly text Has too_wide (Err TooManyTurns) = Unit {0}
+
+-- no image is too wide for a PBM
+abbrev pub never : ℕ → Bool
+never width = false
+
+-- the same of a writer that holds the joined image as it is
 abbrev pub IsExact : List ℕ → Option (List ℕ) → Option (List ℕ) → Result ℕ JoinFault → Type 0
-IsExact text held holds (Ok height) =
-    (image : Image) × IsJoined text image × (height ≡ image.height) × Appends held holds (pbm image)
-IsExact text held holds (Err Header) = IsOffence text HeaderOffence × Appends held holds []
-IsExact text held holds (Err Width) = IsOffence text WidthOffence × Appends held holds []
-IsExact text held holds (Err TooTall) = IsOffence text TooTallOffence × Appends held holds []
-IsExact text held holds (Err Short) = IsOffence text ShortOffence × Appends held holds []
-IsExact text held holds (Err Differ) = ⊥
-IsExact text held holds (Err Read) = Unit {0}
-IsExact text held holds (Err Write) = Unit {0}
-IsExact text held holds (Err TooManyTurns) = Unit {0}
+IsExact text held holds result = IsExactly text (λ bytes. Appends held holds bytes) never result
 
 -- what ends a call early though both readers tell images
 abbrev pub IsOfCalls : JoinFault → Type 0

@@ -26,6 +26,8 @@ pub enum JoinFault {
     TooTall,
     /// The first reader's first offence, as `Offence::Short`. Nothing is written.
     Short,
+    /// The joined image is wider than what it is written to takes. Nothing is written.
+    TooWide,
     /// The second reader doesn't tell images of the first one's width and of its height in all.
     Differ,
     /// A read failed.

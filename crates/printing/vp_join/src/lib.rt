@@ -6,6 +6,9 @@ pub mod laws;
 mod padding;
 mod passes;
 mod reading;
+mod writing;
 
 pub use fault::{JoinFault, Offence};
 pub use passes::join;
+pub use reading::Size;
+pub use writing::ImageWriter;

@@ -1,17 +1,16 @@
 //! The passes over two readers of the same bytes: the first checks all, the second copies.
-ghost use Rattle.std.specs.Prelude.{◌≡◌, ◌≤◌, ◌<◌, ◌+◌, ◌*◌, ◌-◌, ◌++◌, ℕ, List, length, take, Some, Ok, Err, IfOk, IfSome, MatchBool};
+ghost use Rattle.std.specs.Prelude.{◌≡◌, ◌≤◌, ◌<◌, ◌+◌, ◌*◌, ◌-◌, ◌++◌, ℕ, List, length, take, Some, Ok, Err, IfOk, IfSome, MatchBool, OnOk};
 ghost use Rattle.vp_dots.specs.Images.{row_bytes};
 ghost use Rattle.vp_streams.specs.Count.{one_more_if};
 ghost use Rattle.vp_join.specs.Strips.{without_padding};
 ghost use Rattle.vp_join.specs.Standing.{Stands, IsCounted, IsWide};
-ghost use Rattle.vp_join.specs.Passes.{Tells, Measures, Writes, Copies, HasCalled, GivesRows, Joins, IsExact, HaveCalled, HasFailed, after_calls, is_read_fault, is_write_fault, head_of};
+ghost use Rattle.vp_join.specs.Passes.{Tells, Measures, Follows, Copies, HasCalled, GivesRows, Joins, IsExactly, HaveCalled, HasFailed, after_calls, is_read_fault, is_write_fault};
 
 use crate::fault::JoinFault;
 use crate::padding::clear_padding;
 use crate::reading::{Reading, Size};
-use arrayvec::ArrayVec;
-use vp_dots::header;
-use vp_streams::{Sink, Source};
+use crate::writing::ImageWriter;
+use vp_streams::Source;
 
 /// How many bytes are read at once.
 const ROOM: usize = 32768;
@@ -59,25 +58,6 @@ fn measure<S: Source>(reader: &mut S) -> Result<Measured, JoinFault>
     Err(JoinFault::TooManyTurns)
 }
 
-/// Writes all of some bytes.
-fn write_all<K: Sink>(writer: &mut K, bytes: &[u8]) -> Result<(), JoinFault>
-    ensures writes { Writes (K.contents writer.old) (K.contents writer.new) bytes.now result }
-    ensures failed { K.failed_writes writer.new
-        ≡ one_more_if (is_write_fault result) (K.failed_writes writer.old) }
-{
-    let mut from = 0;
-    'writes: while from < bytes.len() {
-        let Ok(n) = writer.write(&bytes[from..]) else {
-            return Err(JoinFault::Write);
-        };
-        if n == 0 {
-            return Err(JoinFault::Write);
-        }
-        from += n;
-    }
-    Ok(())
-}
-
 /// How many bytes of rows stand among the next bytes of the second reader, and these without padding; none
 /// where it differs.
 fn next_rows(
@@ -123,21 +103,23 @@ fn is_of_size(reading: &Reading, size: Size) -> bool
 }
 
 /// Writes the rows of all that a reader gives, without padding, where they are images of this size.
-fn copy<T: Source, K: Sink>(
+fn copy<T: Source, W: ImageWriter>(
     reader: &mut T,
-    writer: &mut K,
+    writer: &mut W,
     size: Size,
     most: u32,
 ) -> Result<(), JoinFault>
-    requires { size.width ≡ 0 → size.height ≡ 0 }
+    requires none { size.width ≡ 0 → size.height ≡ 0 }
+    requires awaits { W.awaits writer.old (size.height * row_bytes size.width) }
     ensures copies { Copies (T.remaining reader.old) (T.remaining reader.new)
-        (K.contents writer.old) (K.contents writer.new) size result }
+        (λ bytes. Follows W.has writer.old bytes writer.new) size result }
+    ensures awaits { OnOk result (W.awaits writer.new 0) }
     ensures reads { HasCalled most (T.reads reader.old) (T.reads reader.new)
         (result ≡ Err JoinFault.TooManyTurns) }
     ensures failed_reads { T.failed_reads reader.new
         ≡ one_more_if (is_read_fault result) (T.failed_reads reader.old) }
-    ensures failed_writes { K.failed_writes writer.new
-        ≡ one_more_if (is_write_fault result) (K.failed_writes writer.old) }
+    ensures failed_writes { W.failures writer.new
+        ≡ one_more_if (is_write_fault result) (W.failures writer.old) }
 {
     let mut reading = Reading::new();
     let mut input = [0u8; ROOM];
@@ -157,46 +139,40 @@ fn copy<T: Source, K: Sink>(
             return Err(JoinFault::Differ);
         };
         given += m as u64;
-        write_all(writer, &rows[..m])?;
+        writer.put(&rows[..m])?;
     }
     Err(JoinFault::TooManyTurns)
-}
-
-/// The header of the joined image, where there is one.
-fn head(size: Size) -> ArrayVec<u8, 32>
-    ensures { result.items ≡ head_of size }
-{
-    if size.height == 0 {
-        return ArrayVec::new();
-    }
-    header(size.width, size.height)
 }
 
 /// Writes the one image with the rows of all images that two readers of the same bytes tell, and gives its
 /// height in dots; nothing, and 0, where there is no image. The images have one width, and stand one after
 /// the other as raw pbm (netpbm), as a printer writes them; padding bits, whatever they are, are written as
 /// 0. All is checked before anything is written. It reads at most 1,000,000,000 times, and takes no memory.
-pub fn join<S: Source, T: Source, K: Sink>(
+/// A `Sink` is given the image as raw pbm.
+pub fn join<S: Source, T: Source, W: ImageWriter>(
     first: &mut S,
     second: &mut T,
-    writer: &mut K,
+    writer: &mut W,
 ) -> Result<u64, JoinFault>
     ensures joins { Joins (S.remaining first.old) (S.remaining first.new)
         (T.remaining second.old) (T.remaining second.new)
-        (K.contents writer.old) (K.contents writer.new) result }
+        (λ bytes. W.has writer.old bytes writer.new) W.too_wide result }
     ensures exact { (text : List ℕ) → S.remaining first.old ≡ Some text → T.remaining second.old ≡ Some text →
-        IsExact text (K.contents writer.old) (K.contents writer.new) result }
+        IsExactly text (λ bytes. W.has writer.old bytes writer.new) W.too_wide result }
+    ensures awaits { OnOk result (W.awaits writer.new 0) }
     ensures reads { HaveCalled MOST_READS (S.reads first.old) (S.reads first.new)
         (T.reads second.old) (T.reads second.new)
         (result ≡ Err JoinFault.TooManyTurns) }
     ensures failed_reads { HasFailed (S.failed_reads first.old) (S.failed_reads first.new)
         (T.failed_reads second.old) (T.failed_reads second.new) (is_read_fault result) }
-    ensures failed_writes { K.failed_writes writer.new
-        ≡ one_more_if (is_write_fault result) (K.failed_writes writer.old) }
+    ensures failed_writes { W.failures writer.new
+        ≡ one_more_if (is_write_fault result) (W.failures writer.old) }
 {
     let measured = measure(first)?;
-    let head = head(measured.size);
-    write_all(writer, head.as_slice())?;
+    if writer.is_too_wide(measured.size.width) {
+        return Err(JoinFault::TooWide);
+    }
+    writer.begin(measured.size)?;
     let most = MOST_READS - measured.reads;
     copy(second, writer, measured.size, most)?;
     Ok(measured.size.height as u64)

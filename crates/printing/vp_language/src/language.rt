@@ -3,10 +3,14 @@
 /// What a stream is written in, and on which paper it is printed.
 #[derive(Clone, Copy, Debug, PartialEq, Eq)]
 pub enum Language {
-    /// ESC/POS, on paper of 576 dots.
+    /// The profile of ESC/POS, on paper of 576 dots.
     Receipt,
-    /// ESC/POS, on paper of 384 dots.
+    /// The profile of ESC/POS, on paper of 384 dots.
     Receipt58,
+    /// The whole language of ESC/POS, on paper of 576 dots.
+    WholeReceipt,
+    /// The whole language of ESC/POS, on paper of 384 dots.
+    WholeReceipt58,
     /// ZPL II, on labels as wide and as long as they say.
     Label,
 }

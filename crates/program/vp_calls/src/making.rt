@@ -15,6 +15,8 @@ pub fn language_of(number: u32) -> Option<Language>
         0 => Some(Language::Receipt),
         1 => Some(Language::Receipt58),
         2 => Some(Language::Label),
+        3 => Some(Language::WholeReceipt),
+        4 => Some(Language::WholeReceipt58),
         _ => None,
     }
 }

@@ -7,11 +7,12 @@ use std::convert::AsStr;
 use std::io::{Read, Write};
 use std::rt::{Env, Files};
 use std::{env, io};
-use vp_command_line::{Order, Stream, Task};
+use vp_command_line::{Form, Order, Stream, Task};
 use vp_engine::{Counted, Language, RunFault, Session};
 use vp_exit_status::Stop;
 use vp_glyph::Sheets;
 use vp_join::join;
+use vp_picture::{PngWriter, join_png};
 
 /// The exit status where the words are wrong.
 const USAGE: u8 = 2;
@@ -70,7 +71,7 @@ fn obey<'a, R: Files, I: Read, O: Write>(
 ) -> Result<(), Stop<'a>> {
     match order {
         Order::Read(stream) => carry_out(rt, alloc, stream, input, output),
-        Order::Join(name) => join_images(rt, name, output),
+        Order::Join { file, form } => join_images(rt, file, form, output),
     }
 }
 
@@ -78,16 +79,17 @@ fn obey<'a, R: Files, I: Read, O: Write>(
 fn join_images<'a, R: Files, O: Write>(
     rt: &R,
     name: &'a str,
+    form: Form,
     output: &mut O,
 ) -> Result<(), Stop<'a>> {
-    let first = open(rt, name)?;
-    let second = open(rt, name)?;
-    let mut writer = Counted::new(output);
-    match join(
-        &mut Counted::new(first),
-        &mut Counted::new(second),
-        &mut writer,
-    ) {
+    let mut first = Counted::new(open(rt, name)?);
+    let mut second = Counted::new(open(rt, name)?);
+    let mut output = Counted::new(output);
+    let joined = match form {
+        Form::Pbm => join(&mut first, &mut second, &mut output),
+        Form::Png => join_png(&mut first, &mut second, &mut PngWriter::new(output)),
+    };
+    match joined {
         Ok(_) => Ok(()),
         Err(fault) => Err(Stop::of_join(fault)),
     }

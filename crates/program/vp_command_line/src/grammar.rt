@@ -23,6 +23,14 @@ fn images<'a>(alloc: Global) -> Arg<'a> {
         .help("Images of one width, as they were printed; read twice")
 }
 
+/// Whether the joined image is written as PNG.
+fn png<'a>(alloc: Global) -> Arg<'a> {
+    Arg::new(alloc, "png")
+        .long("png")
+        .action(ArgAction::SetTrue)
+        .help("Write a PNG file, at most 1,664 dots wide")
+}
+
 /// The width of the paper.
 fn width<'a>(alloc: Global) -> Arg<'a> {
     Arg::new(alloc, "width")
@@ -31,6 +39,14 @@ fn width<'a>(alloc: Global) -> Arg<'a> {
         .value_parser(WIDTHS.as_slice())
         .default_value("576")
         .help("Width of the paper")
+}
+
+/// Whether all commands of receipts are read.
+fn whole<'a>(alloc: Global) -> Arg<'a> {
+    Arg::new(alloc, "whole")
+        .long("whole")
+        .action(ArgAction::SetTrue)
+        .help("Read all commands of receipts, and past unknown ones, where else they are a fault")
 }
 
 /// The file of a sheet.
@@ -79,6 +95,7 @@ fn receipt<'a>(alloc: Global) -> Result<Command<'a>, AllocError> {
     Command::new(alloc, "receipt")
         .about("Prints a receipt (ESC/POS)")
         .arg(width(alloc))?
+        .arg(whole(alloc))?
         .arg(font_a(alloc))?
         .arg(font_b(alloc))?
         .arg(file(alloc))
@@ -95,6 +112,7 @@ fn list<'a>(alloc: Global) -> Result<Command<'a>, AllocError> {
     Command::new(alloc, "list")
         .about("Lists the commands of a stream, a line for each")
         .arg(lang(alloc))?
+        .arg(whole(alloc))?
         .arg(offsets(alloc))?
         .arg(file(alloc))
 }
@@ -102,6 +120,7 @@ fn list<'a>(alloc: Global) -> Result<Command<'a>, AllocError> {
 fn join<'a>(alloc: Global) -> Result<Command<'a>, AllocError> {
     Command::new(alloc, "join")
         .about("Joins images to one, with all their rows in order")
+        .arg(png(alloc))?
         .arg(images(alloc))
 }
 

@@ -9,4 +9,4 @@ mod order;
 mod reading;
 
 pub use grammar::VERSION;
-pub use order::{Fonts, Order, Stream, Task};
+pub use order::{Fonts, Form, Order, Stream, Task};

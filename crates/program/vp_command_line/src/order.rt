@@ -12,7 +12,14 @@ pub enum Order<'a> {
     /// A stream is printed or listed.
     Read(Stream<'a>),
     /// The images of this file are joined.
-    Join(&'a str),
+    Join { file: &'a str, form: Form },
+}
+
+/// The form that a joined image is written in.
+#[derive(Clone, Copy)]
+pub enum Form {
+    Pbm,
+    Png,
 }
 
 /// A stream, and what is done with it.

@@ -1,5 +1,5 @@
 //! What the words that were read ask for.
-use crate::order::{Fonts, Order, Stream, Task};
+use crate::order::{Fonts, Form, Order, Stream, Task};
 use clap::error::ErrorKind;
 use clap::{ArgMatches, Command, Error};
 use std::convert::AsStr;
@@ -12,7 +12,7 @@ fn printed_receipt<'a>(words: &ArgMatches<'a>) -> Stream<'a> {
             a: words.get_str("font-a"),
             b: words.get_str("font-b"),
         }),
-        language: language_of_width(words.get_str("width")),
+        language: language_of_width(words.get_str("width"), words.get_flag("whole")),
         file: words.get_str("FILE"),
     }
 }
@@ -33,7 +33,7 @@ fn printed_labels<'a>(words: &ArgMatches<'a>) -> Stream<'a> {
 fn listed<'a>(words: &ArgMatches<'a>) -> Stream<'a> {
     Stream {
         task: listing(words.get_flag("offsets")),
-        language: language_named(words.get_str("lang")),
+        language: language_named(words.get_str("lang"), words.get_flag("whole")),
         file: words.get_str("FILE"),
     }
 }
@@ -41,7 +41,10 @@ fn listed<'a>(words: &ArgMatches<'a>) -> Stream<'a> {
 /// What the words ask for; none without a subcommand, or where it lacks what it requires.
 fn asked<'a>(words: &ArgMatches<'a>) -> Option<Order<'a>> {
     let order = match words.subcommand()? {
-        ("join", join) => Order::Join(join.get_str("FILE")?),
+        ("join", join) => Order::Join {
+            file: join.get_str("FILE")?,
+            form: form(join.get_flag("png")),
+        },
         ("list", list) => Order::Read(listed(list)),
         ("label", label) => Order::Read(printed_labels(label)),
         (_, receipt) => Order::Read(printed_receipt(receipt)),
@@ -69,11 +72,21 @@ pub fn order_of<'a, S: AsStr>(
     }
 }
 
-/// Receipts on paper of this width.
-fn language_of_width(width: Option<&str>) -> Language {
+/// Receipts on paper of this width, by all commands or by those of the profile.
+fn language_of_width(width: Option<&str>, whole: bool) -> Language {
     match width {
+        Some("384") if whole => Language::WholeReceipt58,
         Some("384") => Language::Receipt58,
-        _ => Language::Receipt,
+        _ => receipts(whole),
+    }
+}
+
+/// Receipts on the wider paper.
+fn receipts(whole: bool) -> Language {
+    if whole {
+        Language::WholeReceipt
+    } else {
+        Language::Receipt
     }
 }
 
@@ -86,10 +99,16 @@ fn listing<'a>(offsets: bool) -> Task<'a> {
     }
 }
 
-/// The language of this name, one of those that can be listed.
-fn language_named(name: Option<&str>) -> Language {
+/// The form that a joined image is written in.
+fn form(png: bool) -> Form {
+    if png { Form::Png } else { Form::Pbm }
+}
+
+/// The language of this name, one of those that can be listed. Labels have no profile: all their commands are
+/// read.
+fn language_named(name: Option<&str>, whole: bool) -> Language {
     match name {
         Some("label") => Language::Label,
-        _ => Language::Receipt,
+        _ => receipts(whole),
     }
 }

@@ -21,4 +21,5 @@ end_of_join join.Header = Join join.Header
 end_of_join join.Width = Join join.Width
 end_of_join join.TooTall = Join join.TooTall
 end_of_join join.Short = Join join.Short
+end_of_join join.TooWide = Join join.TooWide
 end_of_join join.Differ = Join join.Differ

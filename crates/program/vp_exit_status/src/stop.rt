@@ -29,7 +29,7 @@ pub enum Stop<'a> {
         number: u8,
         error: SheetError,
     },
-    /// What is to be joined isn't images of one width.
+    /// What is to be joined isn't images of one width, or is too wide for a PNG file.
     #[error("join: {0:?}")]
     Join(JoinFault),
     #[error("read failed")]

@@ -1,6 +1,7 @@
 -- A byte gives at most one item.
 use Rattle.std.proofs.Common.{◌≡◌, ℕ, ◌+◌, ◌≤◌, Bool, cond, List, [], ◌∷◌, ◌++◌, length, map, append_assoc, arith, lit≤, length-append}
 use Rattle.std.proofs.lemmas.List.{append-nil, map_push, length_push}
+use Rattle.vp_esc.specs.declared.reading.Reading.{Reading}
 use Rattle.vp_esc.specs.declared.item.EscItem.{EscItem}
 use Rattle.vp_esc.specs.declared.item.Lead.{Lead}
 use Rattle.vp_esc.specs.declared.command.Command.{Command}
@@ -50,13 +51,13 @@ unfolding given_by given_behind qr_items
 behind_few lead name Columns (a ∷ b ∷ d ∷ args) c = columns_behind lead name a b d args c
 behind_few lead name k args c = grind (arith, length_push, map_push, lit≤, qr_few)
 
-pub a_byte_gives : (bytes : List ℕ) (c : ℕ) → length (items_of (bytes ++ c ∷ [])) ≤ length (items_of bytes) + 1
+pub a_byte_gives : (reading : Reading) (bytes : List ℕ) (c : ℕ) → length (items_of reading (bytes ++ c ∷ [])) ≤ length (items_of reading bytes) + 1
 unfolding given given_by given_behind
-a_byte_gives bytes c = grind (arith, lit≤, behind_few, same, items-push, items-is, length-append)
+a_byte_gives reading bytes c = grind (arith, lit≤, behind_few, same, items-push, items-is, length-append)
 
-longer : (xs ys : List ℕ) → xs ≡ ys → (a b c : ℕ) (more : List ℕ) → b ≤ a + 1 → length (items_of ys) ≤ b + length more → length (items_of xs) ≤ a + length (c ∷ more)
-longer xs ys e a b c more h k = rw e (omega arith)
+longer : (reading : Reading) (xs ys : List ℕ) → xs ≡ ys → (a b c : ℕ) (more : List ℕ) → b ≤ a + 1 → length (items_of reading ys) ≤ b + length more → length (items_of reading xs) ≤ a + length (c ∷ more)
+longer reading xs ys e a b c more h k = rw e (omega arith)
 
-pub bytes_give : (bytes more : List ℕ) → length (items_of (bytes ++ more)) ≤ length (items_of bytes) + length more
-bytes_give bytes [] = rw (append-nil bytes) (omega arith)
-bytes_give bytes (c ∷ more) = grind (arith, longer, append_assoc, a_byte_gives, bytes_give (bytes ++ c ∷ []) more)
+pub bytes_give : (reading : Reading) (bytes more : List ℕ) → length (items_of reading (bytes ++ more)) ≤ length (items_of reading bytes) + length more
+bytes_give reading bytes [] = rw (append-nil bytes) (omega arith)
+bytes_give reading bytes (c ∷ more) = grind (arith, longer, append_assoc, a_byte_gives, bytes_give reading (bytes ++ c ∷ []) more)

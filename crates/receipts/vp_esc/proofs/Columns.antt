@@ -21,9 +21,9 @@ use Rattle.vp_esc.proofs.Phases.{kept_whole}
 use Rattle.vp_esc.proofs.Bytes.{land_bytes}
 
 land_short : (r : EscReader) (m nl nh : ℕ) (mode : ColumnMode) (rest : List ℕ) (final : ArrayVec ℕ)
-    → Begun r.lead r.name Columns r.kept.items rest → r.kept.items ≡ m ∷ nl ∷ nh ∷ [] → column_mode_of m ≡ mode
+    → Begun r.reading r.lead r.name Columns r.kept.items rest → r.kept.items ≡ m ∷ nl ∷ nh ∷ [] → column_mode_of m ≡ mode
     → column_bytes mode ≡ 1 → ((more : List ℕ) → columns mode more ≡ data_items kinds.Columns more)
-    → Lands (Some (items.Columns mode (nl + 256 * nh))) rest (record r { phase = bytes_or_ground kinds.Columns (nl + 256 * nh); kept = final })
+    → Lands r.reading (Some (items.Columns mode (nl + 256 * nh))) rest (record r { phase = bytes_or_ground kinds.Columns (nl + 256 * nh); kept = final })
 unfolding given_behind
 land_short r m nl nh mode rest final b k e one behind =
     let item : EscItem = items.Columns mode (nl + 256 * nh) in
@@ -31,14 +31,14 @@ land_short r m nl nh mode rest final b k e one behind =
     land_bytes r Columns kinds.Columns (nl + 256 * nh) rest item final b (rw k refl) refl (rw k (rw e (rw one (omega arith)))) refl refl (λ more. refl) (rw k (g [])) (λ more. rw k (g more))
 
 land_tall : (r : EscReader) (m nl nh : ℕ) (mode : ColumnMode) (rest : List ℕ) (final : ArrayVec ℕ)
-    → Begun r.lead r.name Columns r.kept.items rest → r.kept.items ≡ m ∷ nl ∷ nh ∷ [] → column_mode_of m ≡ mode
+    → Begun r.reading r.lead r.name Columns r.kept.items rest → r.kept.items ≡ m ∷ nl ∷ nh ∷ [] → column_mode_of m ≡ mode
     → column_bytes mode ≡ 3 → columns mode [] ≡ [] → final.items ≡ []
-    → Lands (Some (items.Columns mode (nl + 256 * nh))) rest (record r { phase = tall_or_ground (3 * (nl + 256 * nh)); kept = final })
+    → Lands r.reading (Some (items.Columns mode (nl + 256 * nh))) rest (record r { phase = tall_or_ground (3 * (nl + 256 * nh)); kept = final })
 unfolding given_behind
 land_tall r m nl nh mode rest final b k e three none empty =
-    let b' : Begun r.lead r.name Columns (m ∷ nl ∷ nh ∷ []) rest = rw k at b in
+    let b' : Begun r.reading r.lead r.name Columns (m ∷ nl ∷ nh ∷ []) rest = rw k at b in
     let left : ℕ = 3 * (nl + 256 * nh) in
-    lands_by (ltb 0 left) _ _ b' (grind (arith, needs_counted, nat_tests)) (grind (arith, given_is))
+    lands_by (ltb 0 left) _ _ refl b' (grind (arith, needs_counted, nat_tests)) (grind (arith, given_is))
     (stands_before (record r { kept = final }) (phases.TallColumns left) left rest (λ h. record {
       args = m ∷ nl ∷ nh ∷ [];
       begun = b';
@@ -48,8 +48,8 @@ land_tall r m nl nh mode rest final b k e three none empty =
     }))
 
 pub land_columns : (r : EscReader) (m nl nh : ℕ) (mode : ColumnMode) (rest : List ℕ) (final : ArrayVec ℕ)
-    → Begun r.lead r.name Columns r.kept.items rest → r.kept.items ≡ m ∷ nl ∷ nh ∷ [] → column_mode_of m ≡ mode → final.items ≡ []
-    → Lands (Some (items.Columns mode (nl + 256 * nh))) rest (record r { phase = columns_or_ground mode (nl + 256 * nh); kept = final })
+    → Begun r.reading r.lead r.name Columns r.kept.items rest → r.kept.items ≡ m ∷ nl ∷ nh ∷ [] → column_mode_of m ≡ mode → final.items ≡ []
+    → Lands r.reading (Some (items.Columns mode (nl + 256 * nh))) rest (record r { phase = columns_or_ground mode (nl + 256 * nh); kept = final })
 land_columns r m nl nh Single8 rest final b k e empty = land_short r m nl nh Single8 rest final b k e refl (λ more. refl)
 land_columns r m nl nh Double8 rest final b k e empty = land_short r m nl nh Double8 rest final b k e refl (λ more. refl)
 land_columns r m nl nh Single24 rest final b k e empty = land_tall r m nl nh Single24 rest final b k e refl refl empty
@@ -79,11 +79,11 @@ first_push args c h = grind (arith, common_steps)
 
 tall_step : (r : EscReader) (left c : ℕ) (rest : List ℕ) (item : Option EscItem) (final : ArrayVec ℕ) (hand : InTallColumns r left rest)
     → IsNext (drop 3 hand.args) c item final.items
-    → Advances (Ok item) rest c (record r { phase = tall_or_ground (left - 1); kept = final })
+    → Advances r.reading (Ok item) rest c (record r { phase = tall_or_ground (left - 1); kept = final })
 unfolding given_behind
 tall_step r left c rest item final hand next =
-    let p : IsPushed Columns hand.args left c = pushed Columns hand.args left c hand.begun.listed refl hand.left_is in
-    advances_by _ c item _ hand.begun p.listed p.needs (grind (arith, given_is))
+    let p : IsPushed r.reading Columns hand.args left c = pushed Columns hand.args left c hand.begun.listed refl hand.left_is in
+    advances_by _ c item _ refl hand.begun p.listed p.needs (grind (arith, given_is))
     (stands_before (record r { kept = final }) (phases.TallColumns (left - 1)) (left - 1) (rest ++ c ∷ []) (λ h. record {
       args = hand.args ++ c ∷ [];
       begun = begun_longer c hand.begun p.listed;
@@ -98,7 +98,7 @@ part_small xs = omega arith
 
 pub tall_part : (r : EscReader) (left c : ℕ) (rest : List ℕ) (final : ArrayVec ℕ) → InTallColumns r left rest → length r.kept.items ≢ 2
     → final.items ≡ take 255 (r.kept.items ++ c ∷ [])
-    → Advances (Ok None) rest c (record r { phase = tall_or_ground (left - 1); kept = final })
+    → Advances r.reading (Ok None) rest c (record r { phase = tall_or_ground (left - 1); kept = final })
 tall_part r left c rest final hand other k =
     let w : final.items ≡ part_of_column (drop 3 hand.args) ++ c ∷ [] = grind (arith, kept_whole, part_small, drop) in
     tall_step r left c rest None final hand (rw w (part_next (drop 3 hand.args) c (rw (← hand.part) other)))
@@ -108,7 +108,7 @@ two xs h = grind (arith, common_steps)
 
 pub tall_whole : (r : EscReader) (left c : ℕ) (rest : List ℕ) (final : ArrayVec ℕ) → InTallColumns r left rest → length r.kept.items ≡ 2
     → final.items ≡ []
-    → Advances (Ok (Some (items.Column24 (get_or r.kept.items 0 0 ∷ get_or r.kept.items 1 0 ∷ c ∷ [])))) rest c
+    → Advances r.reading (Ok (Some (items.Column24 (get_or r.kept.items 0 0 ∷ get_or r.kept.items 1 0 ∷ c ∷ [])))) rest c
     (record r { phase = tall_or_ground (left - 1); kept = final })
 tall_whole r left c rest final hand both empty =
     tall_step r left c rest _ final hand (rw empty (whole_next (drop 3 hand.args) _ _ c (sym hand.part ∙ two r.kept.items both)))

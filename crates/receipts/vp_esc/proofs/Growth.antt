@@ -4,6 +4,8 @@ use Rattle.std.specs.List.{flat_map}
 use Rattle.std.proofs.lemmas.List.{append-nil, map_push, length_push}
 use Rattle.std.proofs.lemmas.Bool.{cases_lt, cases_Bool}
 use Rattle.std.proofs.lemmas.Bool.Decides.{nat_tests}
+use Rattle.vp_esc.specs.declared.reading.Reading.{Reading}
+use Rattle.vp_esc.specs.declared.reading.Reading.TheVariants.{Profile, Whole}
 use Rattle.vp_esc.specs.declared.item.EscItem.{EscItem}
 use Rattle.vp_esc.specs.declared.item.EscItem.TheVariants as items
 use Rattle.vp_esc.specs.declared.item.Lead.{Lead}
@@ -12,15 +14,16 @@ use Rattle.vp_esc.specs.declared.item.ColumnMode.{ColumnMode}
 use Rattle.vp_esc.specs.declared.item.ColumnMode.TheVariants.{Single24, Double24}
 use Rattle.vp_esc.specs.declared.item.QrModel.{QrModel}
 use Rattle.vp_esc.specs.declared.command.Command.{Command}
-use Rattle.vp_esc.specs.declared.command.Command.TheVariants.{TabStops, Columns, Raster, Symbol, Function, Graphics}
+use Rattle.vp_esc.specs.declared.command.Command.TheVariants.{TabStops, Columns, Raster, Symbol, Function, Graphics, ReadPast}
 use Rattle.vp_esc.specs.Values.{scale_of, column_mode_of, qr_model_of}
 use Rattle.vp_esc.specs.Command.{lead_of, command_of, head_len, is_listed}
 use Rattle.vp_esc.specs.Qr.{qr_items, value_items, model_items, is_qr_function}
-use Rattle.vp_esc.specs.Units.{is_unfinished, given, needs_more, given_by, given_behind, is_unfinished_named, is_unfinished_after, given_named, given_after, raster_bytes, columns, tall_columns, at_last}
+use Rattle.vp_esc.specs.Units.{is_unfinished, given, needs_more, given_by, given_behind, is_unfinished_named, is_unfinished_after, given_named, given_after, raster_bytes, columns, tall_columns, at_last, unused}
 use Rattle.vp_esc.specs.Split.{split, items as items_of}
 use Rattle.vp_esc.specs.Laws.{Splits}
 use Rattle.vp_esc.proofs.Splits.{items-push, items-is}
 use Rattle.vp_esc.proofs.Divisions.{splits}
+use Rattle.vp_esc.proofs.Bytes.{past_front}
 use Rattle.vp_esc.proofs.Heads.{given_is, heads, IsHead}
 
 -- items go on from others
@@ -100,6 +103,7 @@ behind_grows lead name Raster (a ∷ b ∷ d ∷ e ∷ f ∷ g ∷ args) c h n =
 behind_grows lead name Symbol args c h n = last_grows _ _ _ n
 behind_grows lead name Function (a ∷ b ∷ d ∷ args) c h n = grind (arith, nat_tests, either_grows, qr_grows)
 behind_grows lead name Graphics (a ∷ b ∷ d ∷ e ∷ f ∷ args) c h n = unchanged _ _ refl
+behind_grows lead name (ReadPast past) args c h n = unchanged _ _ (ap (λ xs. unused lead name xs ∷ []) (past_front past args (c ∷ []) h))
 behind_grows lead name k args c h n = absurd (grind (arith, nat_tests))
 
 given_none : (lead : Lead) (name : ℕ) (k : Command) → needs_more k [] ≡ true → given_by lead name k [] ≡ []
@@ -116,27 +120,36 @@ by_command lead name k (a ∷ args) c n = ⊎_elim
     rw (given_is lead name k (a ∷ args) h, given_is lead name k (a ∷ args ++ c ∷ []) s) (behind_grows lead name k (a ∷ args) c h n))
     (cases_lt (length (a ∷ args)) (head_len k (a ∷ args)))
 
-by_listed : (l m n : Bool) (xs ys : List EscItem) → (l ≡ true → m ≡ true → n ≡ true → IsFrontOf xs ys) → cond l n true ≡ true
-    → (l ≡ false → m ≡ false) → (l ≡ true → m ≡ false → xs ≡ []) → IsFrontOf (cond l xs []) (cond m ys [])
-by_listed l m n xs ys p o q z = grind (arith, from_nil)
+-- what stops stays
+by_profile : (l m n : Bool) (xs ys : List EscItem) → (l ≡ true → m ≡ true → n ≡ true → IsFrontOf xs ys) → cond l n true ≡ true
+    → (l ≡ false → m ≡ false) → (l ≡ true → n ≡ true → m ≡ false → xs ≡ []) → IsFrontOf (cond l xs []) (cond m ys [])
+by_profile l m n xs ys p o q z = grind (arith, from_nil)
 
-by_named : (lead : Lead) (name : ℕ) (o : Option Command) (args : List ℕ) (c : ℕ) → is_unfinished_named o args ≡ true
-    → IsFrontOf (given_named lead name o args) (given_named lead name o (args ++ c ∷ []))
-by_named lead name None args c e = ([], refl)
-by_named lead name (Some k) [] c e =
-    by_listed true (is_listed k (c ∷ [])) (needs_more k []) _ _ (λ _ _ n. by_command lead name k [] c n) e (λ f. cc) (λ _ _. given_none lead name k e)
-by_named lead name (Some k) (a ∷ args) c e =
-    by_listed (is_listed k (a ∷ args)) (is_listed k (a ∷ args)) (needs_more k (a ∷ args)) _ _ (λ _ _ n. by_command lead name k (a ∷ args) c n) e (λ f. f) (λ f g. cc)
+by_named : (reading : Reading) (lead : Lead) (name : ℕ) (o : Option Command) (args : List ℕ) (c : ℕ) → is_unfinished_named reading o args ≡ true
+    → IsFrontOf (given_named reading lead name o args) (given_named reading lead name o (args ++ c ∷ []))
+by_named Profile lead name None args c e = ([], refl)
+by_named Whole lead name None args c e = cc
+by_named Profile lead name (Some k) [] c e =
+    by_profile true (is_listed Profile k (c ∷ [])) (needs_more k []) _ _ (λ _ _ n. by_command lead name k [] c n) e (λ f. cc) (λ _ n _. given_none lead name k n)
+by_named Profile lead name (Some k) (a ∷ args) c e =
+    by_profile (is_listed Profile k (a ∷ args)) (is_listed Profile k (a ∷ args)) (needs_more k (a ∷ args)) _ _ (λ _ _ n. by_command lead name k (a ∷ args) c n) e (λ f. f) (λ f _ g. cc)
+by_named Whole lead name (Some k) [] c e = from_nil _ _ (given_none lead name k e)
+by_named Whole lead name (Some k) (a ∷ args) c e =
+    by_open (is_listed Whole k (a ∷ args)) (needs_more k (a ∷ args)) _ _ _ _ (λ n. by_command lead name k (a ∷ args) c n) e
+  where
+    by_open : (l n : Bool) (xs ys zs ws : List EscItem) → (n ≡ true → IsFrontOf xs ys) → cond l n false ≡ true → IsFrontOf (cond l xs zs) (cond l ys ws)
+    by_open true n xs ys zs ws p o = p o
+    by_open false n xs ys zs ws p o = cc
 
-by_after : (o : Option Lead) (b : ℕ) (bytes : List ℕ) (c : ℕ) → is_unfinished_after o bytes ≡ true → IsFrontOf (given_after o b bytes) (given_after o b (bytes ++ c ∷ []))
-by_after None b bytes c e = cc
-by_after (Some lead) b [] c e = from_nil _ _ refl
-by_after (Some lead) b (n ∷ args) c e = by_named lead n (command_of lead n) args c e
+by_after : (reading : Reading) (o : Option Lead) (b : ℕ) (bytes : List ℕ) (c : ℕ) → is_unfinished_after reading o bytes ≡ true → IsFrontOf (given_after reading o b bytes) (given_after reading o b (bytes ++ c ∷ []))
+by_after reading None b bytes c e = cc
+by_after reading (Some lead) b [] c e = from_nil _ _ refl
+by_after reading (Some lead) b (n ∷ args) c e = by_named reading lead n (command_of reading lead n) args c e
 
-given_grows : (front : List ℕ) (c : ℕ) → is_unfinished front ≡ true → IsFrontOf (given front) (given (front ++ c ∷ []))
+given_grows : (reading : Reading) (front : List ℕ) (c : ℕ) → is_unfinished reading front ≡ true → IsFrontOf (given reading front) (given reading (front ++ c ∷ []))
 unfolding is_unfinished given
-given_grows [] c e = from_nil _ _ refl
-given_grows (b ∷ bytes) c e = by_after (lead_of b) b bytes c e
+given_grows reading [] c e = from_nil _ _ refl
+given_grows reading (b ∷ bytes) c e = by_after reading (lead_of b) b bytes c e
 
 behind : (us xs ys : List EscItem) → IsFrontOf xs ys → IsFrontOf (us ++ xs) (us ++ ys)
 behind us xs ys p = (p.0, ap (λ z. us ++ z) p.1 ∙ sym (append_assoc us xs p.0))
@@ -144,12 +157,13 @@ behind us xs ys p = (p.0, ap (λ z. us ++ z) p.1 ∙ sym (append_assoc us xs p.0
 prefix_trans : (xs ys zs : List EscItem) → IsFrontOf xs ys → IsFrontOf ys zs → IsFrontOf xs zs
 prefix_trans xs ys zs p q = (p.0 ++ q.0, q.1 ∙ ap (λ z. z ++ q.0) p.1 ∙ append_assoc xs p.0 q.0)
 
-items_grow : (bytes : List ℕ) (c : ℕ) → IsFrontOf (items_of bytes) (items_of (bytes ++ c ∷ []))
-items_grow bytes c =
-    let s : Splits bytes (split bytes).units (split bytes).rest = splits bytes in
-    let p : IsFrontOf (flat_map given (split bytes).units ++ given (split bytes).rest) (flat_map given (split bytes).units ++ given ((split bytes).rest ++ c ∷ [])) = grind (arith, behind, given_grows) in
-    (p.0, items-push bytes c ∙ p.1 ∙ ap (λ z. z ++ p.0) (sym (items-is bytes)))
+items_grow : (reading : Reading) (bytes : List ℕ) (c : ℕ) → IsFrontOf (items_of reading bytes) (items_of reading (bytes ++ c ∷ []))
+items_grow reading bytes c =
+    let s : Splits reading bytes (split reading bytes).units (split reading bytes).rest = splits reading bytes in
+    let p : IsFrontOf (flat_map (given reading) (split reading bytes).units ++ given reading (split reading bytes).rest)
+    (flat_map (given reading) (split reading bytes).units ++ given reading ((split reading bytes).rest ++ c ∷ [])) = grind (arith, behind, given_grows) in
+    (p.0, items-push reading bytes c ∙ p.1 ∙ ap (λ z. z ++ p.0) (sym (items-is reading bytes)))
 
-pub only_more_lem : (bytes more : List ℕ) → IsFrontOf (items_of bytes) (items_of (bytes ++ more))
-only_more_lem bytes [] = ([], ap items_of (append-nil bytes) ∙ sym (append-nil (items_of bytes)))
-only_more_lem bytes (c ∷ more) = prefix_trans _ _ _ (items_grow bytes c) (rw append_assoc at (only_more_lem (bytes ++ c ∷ []) more))
+pub only_more_lem : (reading : Reading) (bytes more : List ℕ) → IsFrontOf (items_of reading bytes) (items_of reading (bytes ++ more))
+only_more_lem reading bytes [] = ([], ap (items_of reading) (append-nil bytes) ∙ sym (append-nil (items_of reading bytes)))
+only_more_lem reading bytes (c ∷ more) = prefix_trans _ _ _ (items_grow reading bytes c) (rw append_assoc at (only_more_lem reading (bytes ++ c ∷ []) more))

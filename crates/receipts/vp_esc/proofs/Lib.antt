@@ -23,3 +23,4 @@ pub mod OnlyRows
 pub mod Runs
 pub mod Texts
 pub mod Lefts
+pub mod Within

@@ -1,5 +1,5 @@
 -- The lines of a unit list its bytes.
-use Rattle.std.proofs.Common.{◌≡◌, ℕ, ◌+◌, ◌-◌, ◌*◌, ◌<◌, ◌≤◌, true, false, Option, Some, None, List, [], ◌∷◌, ◌++◌, length, get_or, refl, sym, ap, ◌∙◌, arith}
+use Rattle.std.proofs.Common.{◌≡◌, ℕ, ◌+◌, ◌-◌, ◌*◌, ◌<◌, ◌≤◌, eqb, true, false, Option, Some, None, List, [], ◌∷◌, ◌++◌, length, take, get_or, refl, sym, ap, ◌∙◌, arith}
 use Rattle.std.proofs.lemmas.Grind.{common_steps}
 use Rattle.std.specs.Prelude.{map, codes}
 use Rattle.std.specs.List.{AllByRecursion}
@@ -14,14 +14,18 @@ use Rattle.vp_esc.specs.declared.item.Lead.TheVariants.{Esc, Gs}
 use Rattle.vp_esc.specs.declared.item.RasterScale.{RasterScale}
 use Rattle.vp_esc.specs.declared.item.ColumnMode.{ColumnMode}
 use Rattle.vp_esc.specs.declared.item.ColumnMode.TheVariants.{Single24, Double24}
-use Rattle.vp_esc.specs.declared.command.Command.TheVariants.{Plain, Columns, Raster, Symbol, Graphics}
+use Rattle.vp_esc.specs.declared.command.Command.TheVariants.{Plain, Columns, Raster, Symbol, Graphics, ReadPast}
+use Rattle.vp_esc.specs.declared.command.ReadPast.{ReadPast as ReadPastCommand}
+use Rattle.vp_esc.specs.declared.command.ReadPast.TheVariants as past
 use Rattle.vp_esc.specs.declared.command.Plain.{Plain as PlainCommand}
-use Rattle.vp_esc.specs.Values.{spelled, column_mode_of, column_bytes, scale_of}
-use Rattle.vp_esc.specs.Units.{needs_more, plain_item, stops_item, tall_columns, columns, raster_bytes, symbol_data, symbol_unit, given_behind}
+use Rattle.vp_esc.specs.Values.{spelled, is_column_mode, column_mode_of, column_bytes, scale_of}
+use Rattle.vp_esc.specs.Units.{needs_more, plain_item, stops_item, tall_columns, columns, raster_bytes, symbol_data, symbol_unit, given_behind, unused, past_data}
+use Rattle.vp_esc.specs.Command.{past_len}
 use Rattle.vp_esc.specs.Laws.{all_bytes}
 use Rattle.vp_esc.specs.Lines.{lead_word, two_bytes, symbol_bytes, line_of}
 use Rattle.vp_esc.specs.Listings.{may_skip, Lists}
-use Rattle.vp_esc.specs.Table.{IsPlain, IsStops, IsColumns, IsRaster, IsToZero, IsCountedSymbol, IsGraphics}
+use Rattle.vp_esc.specs.Table.{IsPlain, IsStops, IsColumns, IsRaster, IsToZero, IsCountedSymbol, IsGraphics, IsReadPast}
+use Rattle.vp_esc.proofs.Bytes.{past_front}
 use Rattle.vp_esc.proofs.Named.{IsNamed}
 
 abbrev pub IsBytes : List ℕ → Type 0
@@ -105,9 +109,10 @@ columns_listed mode bytes n e =
     let lines = single_lines items.Column8 (codes "column") bytes (λ b. refl) in
     record { parts = singles bytes; bytes_are = sym (all_singles bytes); lines_are = lines }
 
-pub columns_list : (args : List ℕ) → IsColumns args → IsBytes args → Lists Esc (0x2A ∷ args) (map line_of (given_behind Esc 0x2A Columns args))
+pub columns_list : (args : List ℕ) → IsColumns args → is_column_mode (get_or args 0 0) ≡ true → IsBytes args → Lists Esc (0x2A ∷ args) (map line_of (given_behind Esc 0x2A Columns args))
 unfolding given_behind
-columns_list args h b =
+columns_list args h mode b =
+    let mode_is : is_column_mode h.m ≡ true = rw h.bytes at mode in
     let parts = columns_listed (column_mode_of h.m) h.columns (h.nl + 256 * h.nh) h.count in
     rw h.bytes (part_lines Esc (0x2A ∷ h.m ∷ h.nl ∷ h.nh ∷ []) (codes "column") (0x2A ∷ h.m ∷ h.nl ∷ h.nh ∷ h.columns) parts.parts
     (items.Columns (column_mode_of h.m) (h.nl + 256 * h.nh)) (columns (column_mode_of h.m) h.columns)
@@ -122,17 +127,18 @@ by_scale head dots m w n (Some scale) s e =
     (ap (λ (t : List ℕ). head ++ t) (sym (all_singles dots))) e
     (single_lines items.RasterByte _ dots (λ b. refl))
 
-pub raster_list : (args : List ℕ) → IsRaster args → IsBytes args → Lists Gs (0x76 ∷ args) (map line_of (given_behind Gs 0x76 Raster args))
+pub raster_list : (args : List ℕ) → IsRaster args → eqb (get_or args 0 0) 0x30 ≡ true → IsBytes args → Lists Gs (0x76 ∷ args) (map line_of (given_behind Gs 0x76 Raster args))
 unfolding given_behind
-raster_list args h b =
-    rw h.bytes (by_scale (0x76 ∷ 0x30 ∷ h.m ∷ h.xl ∷ h.xh ∷ h.yl ∷ h.yh ∷ []) h.dots h.m (h.xl + 256 * h.xh) (h.yl + 256 * h.yh) (scale_of h.m) refl
+raster_list args h z b =
+    let zero : h.zero ≡ 0x30 = eqb-true h.zero 0x30 (rw h.bytes at z) in
+    rw (h.bytes, zero) (by_scale (0x76 ∷ 0x30 ∷ h.m ∷ h.xl ∷ h.xh ∷ h.yl ∷ h.yh ∷ []) h.dots h.m (h.xl + 256 * h.xh) (h.yl + 256 * h.yh) (scale_of h.m) refl
     (grind (arith, two_is)))
 
 pub graphics_list : (args : List ℕ) → IsGraphics args → Lists Gs (0x38 ∷ args) (map line_of (given_behind Gs 0x38 Graphics args))
 unfolding given_behind
 graphics_list args h =
-    rw h.bytes (front_line Gs (0x38 ∷ 0x4C ∷ h.p1 ∷ h.p2 ∷ h.p3 ∷ h.p4 ∷ []) h.parameters (0x38 ∷ 0x4C ∷ h.p1 ∷ h.p2 ∷ h.p3 ∷ h.p4 ∷ h.parameters)
-    (items.WithoutEffect Gs (record { items = 0x38 ∷ 0x4C ∷ h.p1 ∷ h.p2 ∷ h.p3 ∷ h.p4 ∷ [] })) refl refl refl)
+    rw h.bytes (front_line Gs (0x38 ∷ h.x ∷ h.p1 ∷ h.p2 ∷ h.p3 ∷ h.p4 ∷ []) h.parameters (0x38 ∷ h.x ∷ h.p1 ∷ h.p2 ∷ h.p3 ∷ h.p4 ∷ h.parameters)
+    (items.WithoutEffect Gs (record { items = 0x38 ∷ h.x ∷ h.p1 ∷ h.p2 ∷ h.p3 ∷ h.p4 ∷ [] })) refl refl refl)
 
 -- up to 255 bytes of data are kept
 symbol_line : (kind : ℕ) (bytes : List ℕ) → length bytes ≤ 255 → line_of (symbol_unit kind bytes) ≡ listed (codes "gs") (symbol_bytes kind bytes)
@@ -149,3 +155,41 @@ to_zero_list args h l n = grind (arith, common_steps, symbol_item)
 
 pub counted_list : (args : List ℕ) → IsCountedSymbol args → IsBytes args → needs_more Symbol args ≡ false → Lists Gs (0x6B ∷ args) (map line_of (given_behind Gs 0x6B Symbol args))
 counted_list args h b n = grind (arith, symbol_item)
+
+-- a command that is read past: its head in a line, and no data where none may be skipped
+past_of : (lead : Lead) (name : ℕ) (past : ReadPastCommand) (args : List ℕ) (h : IsReadPast past args)
+    → Lists lead (name ∷ (h.head ++ h.parameters)) (map line_of (unused lead name h.head ∷ []))
+    → Lists lead (name ∷ args) (map line_of (given_behind lead name (ReadPast past) args))
+unfolding given_behind
+past_of lead name past args h l =
+    let front : take (past_len past (h.head ++ h.parameters)) (h.head ++ h.parameters) ≡ h.head =
+    past_front past h.head h.parameters (omega (arith, h.head_count)) ∙ take_all (past_len past h.head) h.head (omega (arith, h.head_count)) in
+    rw h.bytes (rw front l)
+
+no_data : (xs : List ℕ) → length xs ≡ 0 → xs ≡ []
+no_data xs h = grind (arith, common_steps)
+
+pub past_list : (lead : Lead) (name : ℕ) (k : ReadPastCommand) (args : List ℕ) → IsNamed (ReadPast k) lead name → IsReadPast k args
+    → Lists lead (name ∷ args) (map line_of (given_behind lead name (ReadPast k) args))
+past_list lead name k args i h = past_of lead name k args h (by_past k i h.count)
+  where
+    skips : ((args : List ℕ) → may_skip lead (name ∷ args) ≡ true) → Lists lead (name ∷ (h.head ++ h.parameters)) (map line_of (unused lead name h.head ∷ []))
+    skips s = front_line lead (name ∷ h.head) h.parameters (name ∷ (h.head ++ h.parameters)) (unused lead name h.head) refl (s (h.head ++ h.parameters)) refl
+
+    none : length h.parameters ≡ 0 → Lists lead (name ∷ (h.head ++ h.parameters)) (map line_of (unused lead name h.head ∷ []))
+    none e =
+        let whole : h.head ++ h.parameters ≡ h.head = ap (λ xs. h.head ++ xs) (no_data h.parameters e) ∙ append-nil h.head in
+        rw whole (one_line lead (name ∷ h.head) (unused lead name h.head) refl)
+
+    by_past : (k : ReadPastCommand) → IsNamed (ReadPast k) lead name → length h.parameters ≡ past_data k h.head
+        → Lists lead (name ∷ (h.head ++ h.parameters)) (map line_of (unused lead name h.head ∷ []))
+    by_past past.Family i c = skips i
+    by_past past.StoredImage i c = skips i
+    by_past past.ColumnImage i c = skips i
+    by_past past.TwoByteCell i c = skips i
+    by_past past.UserBytes i c = skips i
+    by_past past.Counter i c = none c
+    by_past past.Maintenance i c = none c
+    by_past past.Recovery i c = none c
+    by_past past.Cheque i c = none c
+    by_past past.RealTimeRequest i c = none c

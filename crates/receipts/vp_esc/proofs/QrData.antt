@@ -50,12 +50,12 @@ unfolding given_behind
 qr_given_is lead name pl ph values = given_is lead name Function (107 ∷ pl ∷ ph ∷ values) (omega arith)
 
 pub land_qr : (r : EscReader) (pl ph count : ℕ) (rest : List ℕ) (final : ArrayVec ℕ) (item : Option EscItem)
-    → Begun r.lead r.name Function r.kept.items rest → r.kept.items ≡ 107 ∷ pl ∷ ph ∷ [] → count ≡ pl + 256 * ph → final.items ≡ []
+    → Begun r.reading r.lead r.name Function r.kept.items rest → r.kept.items ≡ 107 ∷ pl ∷ ph ∷ [] → count ≡ pl + 256 * ph → final.items ≡ []
     → qr_items count [] ≡ option_to_list item
-    → Lands item rest (record r { phase = qr_or_ground count count; kept = final })
+    → Lands r.reading item rest (record r { phase = qr_or_ground count count; kept = final })
 land_qr r pl ph count rest final item b k e empty g =
-    let b' : Begun r.lead r.name Function (107 ∷ pl ∷ ph ∷ []) rest = rw k at b in
-    lands_by (ltb 0 count) item _ b' (grind (arith, needs_counted, nat_tests)) (qr_given_is r.lead r.name pl ph [] ∙ rw (← e) g)
+    let b' : Begun r.reading r.lead r.name Function (107 ∷ pl ∷ ph ∷ []) rest = rw k at b in
+    lands_by (ltb 0 count) item _ refl b' (grind (arith, needs_counted, nat_tests)) (qr_given_is r.lead r.name pl ph [] ∙ rw (← e) g)
     (stands_before (record r { kept = final }) (phases.Qr count count) count rest (λ h. record {
       args = 107 ∷ pl ∷ ph ∷ [];
       begun = b';
@@ -105,11 +105,11 @@ stored_given count more h = let z : leb 4 count ≡ true = grind (arith, nat_tes
 pub qr_step : (r : EscReader) (count left c : ℕ) (rest : List ℕ) (item : Option EscItem) (final : ArrayVec ℕ) → InQr r count left rest
     → (length r.kept.items < count → begins_store r.kept.items ≡ false → qr_items count (r.kept.items ++ c ∷ []) ≡ qr_items count r.kept.items ++ option_to_list item)
     → final.items ≡ take 255 (r.kept.items ++ c ∷ [])
-    → Advances (Ok item) rest c (record r { phase = behind_values final.items count (left - 1); kept = final })
+    → Advances r.reading (Ok item) rest c (record r { phase = behind_values final.items count (left - 1); kept = final })
 qr_step r count left c rest item final hand given k =
     let enough : 3 ≤ length hand.args = hand.left_is.head in
     let q : IsQr hand.args count = grind arith in
-    let p : IsPushed Function hand.args left c = pushed Function hand.args left c hand.begun.listed refl hand.left_is in
+    let p : IsPushed r.reading Function hand.args left c = pushed Function hand.args left c hand.begun.listed refl hand.left_is in
     let len : length r.kept.items < count =
     rw hand.kept (omega (arith, length-take 255 (drop 3 hand.args), length_drop hand.args enough, hand.left_is.count, hand.left_is.some_left, hand.count_is)) in
     let h : qr_items count (take 255 (drop 3 hand.args) ++ c ∷ []) ≡ qr_items count (take 255 (drop 3 hand.args)) ++ option_to_list item =
@@ -125,7 +125,7 @@ qr_step r count left c rest item final hand given k =
     grind (arith, nat_tests) in
     let bytes : hand.args ++ c ∷ [] ≡ 107 ∷ q.pl ∷ q.ph ∷ 49 ∷ 80 ∷ 48 ∷ [] =
     ap (λ xs. xs ++ c ∷ []) q.bytes ∙ ap (λ xs. 107 ∷ q.pl ∷ q.ph ∷ xs) values in
-    advances_by _ c item _ hand.begun p.listed p.needs g
+    advances_by _ c item _ refl hand.begun p.listed p.needs g
     (stands_before (record r { kept = final }) (phases.Bytes kinds.Stored (left - 1)) (left - 1) (rest ++ c ∷ []) (λ l.
     let many : 4 ≤ q.pl + 256 * q.ph = omega (arith, hand.left_is.count, l, hand.count_is, q.count_is, ap length bytes, length_push hand.args c) in record {
       command = Function;
@@ -139,7 +139,7 @@ qr_step r count left c rest item final hand given k =
       gives = λ more. rw bytes (qr_given_is r.lead r.name q.pl q.ph (49 ∷ 80 ∷ 48 ∷ more) ∙ stored_given (q.pl + 256 * q.ph) more many
           ∙ sym (ap (λ xs. xs ++ data_items kinds.Stored more) (qr_given_is r.lead r.name q.pl q.ph (49 ∷ 80 ∷ 48 ∷ []) ∙ stored_given (q.pl + 256 * q.ph) [] many)));
     })))
-    (λ others. advances_by _ c item _ hand.begun p.listed p.needs g
+    (λ others. advances_by _ c item _ refl hand.begun p.listed p.needs g
     (stands_before (record r { kept = final }) (phases.Qr count (left - 1)) (left - 1) (rest ++ c ∷ []) (λ l. record {
       args = hand.args ++ c ∷ [];
       begun = begun_longer c hand.begun p.listed;
@@ -150,8 +150,8 @@ qr_step r count left c rest item final hand given k =
       not_stored = sym begins ∙ others;
     })))
   where
-    by_values : (b : Bool) → (b ≡ true → Advances (Ok item) rest c (record r { phase = bytes_or_ground kinds.Stored (left - 1); kept = final }))
-        → (b ≡ false → Advances (Ok item) rest c (record r { phase = qr_or_ground count (left - 1); kept = final }))
-        → Advances (Ok item) rest c (record r { phase = cond b (bytes_or_ground kinds.Stored (left - 1)) (qr_or_ground count (left - 1)); kept = final })
+    by_values : (b : Bool) → (b ≡ true → Advances r.reading (Ok item) rest c (record r { phase = bytes_or_ground kinds.Stored (left - 1); kept = final }))
+        → (b ≡ false → Advances r.reading (Ok item) rest c (record r { phase = qr_or_ground count (left - 1); kept = final }))
+        → Advances r.reading (Ok item) rest c (record r { phase = cond b (bytes_or_ground kinds.Stored (left - 1)) (qr_or_ground count (left - 1)); kept = final })
     by_values true f g = f refl
     by_values false f g = g refl

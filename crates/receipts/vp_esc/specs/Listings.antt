@@ -3,7 +3,7 @@ use Rattle.std.specs.Prelude.{◌≡◌, ℕ, ◌==◌, Bool, false, ◌&&◌, �
 use Rattle.std.specs.Prelude.{codes, if◌then◌else◌}
 use Rattle.vp_dots.specs.Listing.{listed}
 use Rattle.vp_esc.specs.declared.item.Lead.{Lead}
-use Rattle.vp_esc.specs.declared.item.Lead.TheVariants.{Gs}
+use Rattle.vp_esc.specs.declared.item.Lead.TheVariants.{Esc, Gs, Fs}
 use Rattle.vp_esc.specs.Laws.{all_bytes}
 use Rattle.vp_esc.specs.Lines.{lead_word}
 
@@ -23,9 +23,12 @@ abbrev pub is_long_symbol : Lead → List ℕ → Bool
 is_long_symbol Gs (name ∷ args) = name == 0x6B && nat_lt 257 (length args)
 is_long_symbol _ _ = false
 
--- GS v 0, GS ( and GS 8, of which data without effect aren't listed
+-- ESC (, GS v 0, GS (, GS 8, GS *, GS Q, FS (, FS 2 and FS g, of which data without effect aren't listed
 abbrev pub may_skip : Lead → List ℕ → Bool
-may_skip Gs (name ∷ args) = name == 0x76 || name == 0x28 || name == 0x38
+may_skip Esc (name ∷ args) = name == 0x28
+may_skip Gs (name ∷ args) =
+    name == 0x76 || name == 0x28 || name == 0x38 || name == 0x2A || name == 0x51
+may_skip Fs (name ∷ args) = name == 0x28 || name == 0x32 || name == 0x67
 may_skip _ _ = false
 
 -- The lines list a lead's bytes in their order: the first line those of the head, each further one those of

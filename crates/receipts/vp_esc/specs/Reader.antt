@@ -3,6 +3,7 @@ use Rattle.std.specs.Prelude.{◌≡◌, ℕ, ◌+◌, ◌*◌, ◌<◌, ◌≤�
 use Rattle.std.specs.Prelude.{Option, Some, None, Result, Ok, Err, List, [], ◌∷◌, ◌++◌, length, take, drop}
 use Rattle.std.specs.Prelude.{map, nat_lt, slice_index, option_to_list, if◌then◌else◌}
 use Rattle.std.specs.List.{list_any}
+use Rattle.vp_esc.specs.declared.reading.Reading.{Reading}
 use Rattle.vp_esc.specs.declared.item.TheConstants.{DATA_BYTES}
 use Rattle.vp_esc.specs.declared.item.EscItem.{EscItem}
 use Rattle.vp_esc.specs.declared.item.EscItem.TheVariants as items
@@ -22,7 +23,7 @@ use Rattle.vp_esc.specs.declared.reader.Phase.TheVariants.{TallColumns, SymbolTo
 use Rattle.vp_esc.specs.Values.{is_kind_to_zero, column_mode_of, column_bytes}
 use Rattle.vp_esc.specs.Command.{lead_of, lead_byte, command_of, head_len, is_listed}
 use Rattle.vp_esc.specs.Units.{is_unfinished, given, fault_in, rises_from, data_len, given_by, word_at, is_counted}
-use Rattle.vp_esc.specs.Units.{single_item, prints_rows, is_skipped, stores_bytes}
+use Rattle.vp_esc.specs.Units.{single_item, prints_rows, is_skipped, stores_bytes, is_listed_name}
 use Rattle.vp_esc.specs.Qr.{begins_store}
 use Rattle.vp_esc.specs.Split.{split}
 
@@ -37,10 +38,16 @@ part_of_column (a ∷ b ∷ c ∷ bytes) = part_of_column bytes
 part_of_column bytes = bytes
 
 -- the rest is this command with these arguments
-pub record Begun (lead : Lead) (name : ℕ) (command : Command) (args rest : List ℕ) : Type 0 where
-  pub named : command_of lead name ≡ Some command
+pub record Begun (reading : Reading) (lead : Lead) (name : ℕ) (command : Command) (args rest : List ℕ)
+    : Type 0 where
+  pub named : command_of reading lead name ≡ Some command
   pub bytes : rest ≡ lead_byte lead ∷ name ∷ args
-  pub listed : is_listed command args ≡ true
+  pub listed : is_listed reading command args ≡ true
+
+-- the front is no command of the table
+pub record IsNoCommand (reading : Reading) (lead : Lead) (name : ℕ) (args front : List ℕ) : Type 0 where
+  pub bytes : front ≡ lead_byte lead ∷ name ∷ args
+  pub unknown : is_listed_name reading (command_of reading lead name) args ≡ false
 
 -- `left` bytes of data are left
 pub record HasLeft (command : Command) (args : List ℕ) (left : ℕ) : Type 0 where
@@ -118,11 +125,11 @@ raster_data None = kinds.Skipped
 raster_data (Some scale) = kinds.Raster
 
 pub record InArguments (r : EscReader) (command : Command) (rest : List ℕ) : Type 0 where
-  pub begun : Begun r.lead r.name command r.kept.items rest
+  pub begun : Begun r.reading r.lead r.name command r.kept.items rest
   pub few : length r.kept.items < head_len command r.kept.items
 
 pub record InStops (r : EscReader) (last : ℕ) (rest : List ℕ) : Type 0 where
-  pub begun : Begun r.lead r.name commands.TabStops r.kept.items rest
+  pub begun : Begun r.reading r.lead r.name commands.TabStops r.kept.items rest
   pub rise : rises_from 0 r.kept.items ≡ true
   pub few : length r.kept.items < 32
   pub last_is : last ≡ last_or 0 r.kept.items
@@ -130,7 +137,7 @@ pub record InStops (r : EscReader) (last : ℕ) (rest : List ℕ) : Type 0 where
 pub record InBytes (r : EscReader) (kind : Data) (left : ℕ) (rest : List ℕ) : Type 0 where
   pub command : Command
   pub args : List ℕ
-  pub begun : Begun r.lead r.name command args rest
+  pub begun : Begun r.reading r.lead r.name command args rest
   pub counted : is_counted command args ≡ true
   pub left_is : HasLeft command args left
   pub rows : prints_rows command args ≡ are_rows kind
@@ -141,14 +148,14 @@ pub record InBytes (r : EscReader) (kind : Data) (left : ℕ) (rest : List ℕ) 
 
 pub record InTallColumns (r : EscReader) (left : ℕ) (rest : List ℕ) : Type 0 where
   pub args : List ℕ
-  pub begun : Begun r.lead r.name commands.Columns args rest
+  pub begun : Begun r.reading r.lead r.name commands.Columns args rest
   pub left_is : HasLeft commands.Columns args left
   pub tall : column_bytes (column_mode_of (slice_index args 0)) ≡ 3
   pub part : r.kept.items ≡ part_of_column (drop 3 args)
 
 pub record InSymbolToZero (r : EscReader) (kind : ℕ) (more : Bool) (rest : List ℕ) : Type 0 where
   pub codes : List ℕ
-  pub begun : Begun r.lead r.name commands.Symbol (kind ∷ codes) rest
+  pub begun : Begun r.reading r.lead r.name commands.Symbol (kind ∷ codes) rest
   pub to_zero : is_kind_to_zero kind ≡ true
   pub no_zero : list_any (λ b. b == 0) codes ≡ false
   pub kept : r.kept.items ≡ take DATA_BYTES codes
@@ -156,7 +163,7 @@ pub record InSymbolToZero (r : EscReader) (kind : ℕ) (more : Bool) (rest : Lis
 
 pub record InSymbolData (r : EscReader) (kind left : ℕ) (rest : List ℕ) : Type 0 where
   pub count : ℕ
-  pub begun : Begun r.lead r.name commands.Symbol (kind ∷ count ∷ r.kept.items) rest
+  pub begun : Begun r.reading r.lead r.name commands.Symbol (kind ∷ count ∷ r.kept.items) rest
   pub counted : is_kind_to_zero kind ≡ false
   pub some_left : 0 < left
   pub sum : length r.kept.items + left ≡ count
@@ -164,7 +171,7 @@ pub record InSymbolData (r : EscReader) (kind left : ℕ) (rest : List ℕ) : Ty
 
 pub record InQr (r : EscReader) (count left : ℕ) (rest : List ℕ) : Type 0 where
   pub args : List ℕ
-  pub begun : Begun r.lead r.name commands.Function args rest
+  pub begun : Begun r.reading r.lead r.name commands.Function args rest
   pub left_is : HasLeft commands.Function args left
   pub is_qr : slice_index args 0 ≡ 0x6B
   pub count_is : count ≡ word_at args 1
@@ -182,31 +189,34 @@ in_phase (TallColumns left) r rest = InTallColumns r left rest
 in_phase (SymbolToZero kind more) r rest = InSymbolToZero r kind more rest
 in_phase (SymbolData kind left) r rest = InSymbolData r kind left rest
 in_phase (Qr count left) r rest = InQr r count left rest
-in_phase (Stopped fault) r rest = fault_in rest ≡ Some fault
+in_phase (Stopped fault) r rest = fault_in r.reading rest ≡ Some fault
 
 abbrev pub StandsIn : EscReader → List ℕ → Type 0
 StandsIn r rest = in_phase r.phase r rest
 
--- the reader stands after these bytes
-unfoldable pub Stands : EscReader → List ℕ → Type 0
-Stands r bytes = StandsIn r (split bytes).rest
+-- the reader reads so, and stands after these bytes
+unfoldable pub Stands : Reading → EscReader → List ℕ → Type 0
+Stands reading r bytes = (r.reading ≡ reading) × StandsIn r (split reading bytes).rest
 
 -- what comes of a byte: just the items that are given beyond those before, or the fault
 abbrev pub Gives : Result (Option EscItem) Fault → List EscItem → List EscItem → Option Fault → Type 0
 Gives (Ok item) before after fault = (fault ≡ None) × (after ≡ before ++ option_to_list item)
 Gives (Err f) before after fault = fault ≡ Some f
 
-abbrev pub rest_of : List ℕ → List ℕ
-rest_of front = if is_unfinished front then front else []
+abbrev pub rest_of : Reading → List ℕ → List ℕ
+rest_of reading front = if is_unfinished reading front then front else []
 
 -- from this rest, by this byte, to new
-pub record Advances (result : Result (Option EscItem) Fault) (rest : List ℕ) (c : ℕ) (new : EscReader)
-    : Type 0 where
-  pub gives : Gives result (given rest) (given (rest ++ c ∷ [])) (fault_in (rest ++ c ∷ []))
-  pub stands : StandsIn new (rest_of (rest ++ c ∷ []))
+pub record Advances (reading : Reading) (result : Result (Option EscItem) Fault) (rest : List ℕ) (c : ℕ)
+    (new : EscReader) : Type 0 where
+  pub reads : new.reading ≡ reading
+  pub gives : Gives result (given reading rest) (given reading (rest ++ c ∷ []))
+      (fault_in reading (rest ++ c ∷ []))
+  pub stands : StandsIn new (rest_of reading (rest ++ c ∷ []))
 
 -- by the last byte of this front, of which nothing was given before, to new
-pub record Lands (item : Option EscItem) (front : List ℕ) (new : EscReader) : Type 0 where
-  pub fault : fault_in front ≡ None
-  pub gives : given front ≡ option_to_list item
-  pub stands : StandsIn new (rest_of front)
+pub record Lands (reading : Reading) (item : Option EscItem) (front : List ℕ) (new : EscReader) : Type 0 where
+  pub reads : new.reading ≡ reading
+  pub fault : fault_in reading front ≡ None
+  pub gives : given reading front ≡ option_to_list item
+  pub stands : StandsIn new (rest_of reading front)

@@ -4,6 +4,8 @@ use Rattle.std.specs.Prelude.{is_some, is_none, List, [], ◌∷◌, length, tak
 use Rattle.std.specs.Prelude.{if◌then◌else◌}
 use Rattle.std.specs.List.{list_any}
 use Rattle.std.specs.Int.{w16, cast_signed}
+use Rattle.vp_esc.specs.declared.reading.Reading.{Reading}
+use Rattle.vp_esc.specs.declared.reading.Reading.TheVariants.{Profile, Whole}
 use Rattle.vp_esc.specs.declared.item.TheConstants.{DATA_BYTES}
 use Rattle.vp_esc.specs.declared.item.EscItem.{EscItem}
 use Rattle.vp_esc.specs.declared.item.EscItem.TheVariants as items
@@ -15,7 +17,9 @@ use Rattle.vp_esc.specs.declared.item.ColumnMode.{ColumnMode}
 use Rattle.vp_esc.specs.declared.item.ColumnMode.TheVariants.{Single8, Double8, Single24, Double24}
 use Rattle.vp_esc.specs.declared.command.Command.{Command}
 use Rattle.vp_esc.specs.declared.command.Command.TheVariants.{Plain, TabStops, Columns, Raster, Symbol}
-use Rattle.vp_esc.specs.declared.command.Command.TheVariants.{Function, Graphics}
+use Rattle.vp_esc.specs.declared.command.Command.TheVariants.{Function, Graphics, ReadPast}
+use Rattle.vp_esc.specs.declared.command.ReadPast.{ReadPast as ReadPastCommand}
+use Rattle.vp_esc.specs.declared.command.ReadPast.TheVariants as past
 use Rattle.vp_esc.specs.declared.command.Plain.{Plain as PlainCommand}
 use Rattle.vp_esc.specs.declared.command.Plain.TheVariants.{Alone, OfByte, OfWord, Area, Cut, Sensor}
 use Rattle.vp_esc.specs.declared.command.Plain.TheVariants.{RealTime, Unused}
@@ -26,9 +30,9 @@ use Rattle.vp_esc.specs.declared.command.OfByte.TheVariants as of_byte
 use Rattle.vp_esc.specs.declared.command.OfWord.{OfWord as OfWordCommand}
 use Rattle.vp_esc.specs.declared.command.OfWord.TheVariants as of_word
 use Rattle.vp_esc.specs.Values
-use Rattle.vp_esc.specs.Values.{spelled, bit, is_feed_cut, is_kind_to_zero, column_mode_of, column_bytes}
-use Rattle.vp_esc.specs.Values.{scale_of}
-use Rattle.vp_esc.specs.Command.{lead_of, command_of, head_len, is_listed}
+use Rattle.vp_esc.specs.Values.{spelled, bit, is_feed_cut, is_other_cut, is_kind_to_zero, column_mode_of}
+use Rattle.vp_esc.specs.Values.{column_bytes, scale_of}
+use Rattle.vp_esc.specs.Command.{lead_of, command_of, past_len, head_len, is_listed}
 use Rattle.vp_esc.specs.Qr.{qr_items, begins_store}
 
 -- two bytes of a number, low byte first
@@ -44,6 +48,16 @@ abbrev pub rises_from : ℕ → List ℕ → Bool
 rises_from last [] = true
 rises_from last (n ∷ ns) = nat_lt last n && rises_from n ns
 
+-- the bytes of data of a command that is read past: behind a count; eight times x columns of y bytes; x columns
+-- of y bytes; a cell of 24 by 24 dots; as many as are to be kept
+abbrev pub past_data : ReadPastCommand → List ℕ → ℕ
+past_data past.Family args = word_at args 1
+past_data past.StoredImage args = 8 * (slice_index args 0 * slice_index args 1)
+past_data past.ColumnImage args = word_at args 2 * word_at args 4
+past_data past.TwoByteCell args = 72
+past_data past.UserBytes args = if slice_index args 0 == 0x31 then word_at args 6 else 0
+past_data _ args = 0
+
 -- the bytes of data behind the head, where the head says how many they are
 abbrev pub data_len : Command → List ℕ → ℕ
 data_len (Plain plain) args = 0
@@ -53,6 +67,7 @@ data_len Raster args = word_at args 2 * word_at args 4
 data_len Symbol args = slice_index args 1
 data_len Function args = word_at args 1
 data_len Graphics args = long_at args 1
+data_len (ReadPast past) args = past_data past args
 
 -- all bytes of a command are read where there are head and data
 abbrev pub is_short : Command → List ℕ → Bool
@@ -125,7 +140,9 @@ plain_item lead name (OfByte command) args = of_byte_item command (slice_index a
 plain_item lead name (OfWord command) args = of_word_item command (word_at args 0)
 plain_item lead name Area args =
     items.Area (word_at args 0) (word_at args 2) (word_at args 4) (word_at args 6)
-plain_item lead name Cut args = cut_item (slice_index args 0) (slice_index args 1)
+plain_item lead name Cut args =
+    if is_other_cut (slice_index args 0) then unused lead name args
+    else cut_item (slice_index args 0) (slice_index args 1)
 plain_item lead name Sensor args = unused lead name args
 plain_item lead name RealTime args = unused lead name args
 plain_item lead name (Unused count) args = unused lead name args
@@ -175,6 +192,7 @@ abbrev pub is_skipped : Command → List ℕ → Bool
 is_skipped Raster args = is_none (scale_of (slice_index args 1))
 is_skipped Function args = not (slice_index args 0 == 0x6B)
 is_skipped Graphics args = true
+is_skipped (ReadPast past) args = true
 is_skipped _ args = false
 
 -- a command of which the bytes behind its first three values are stored for a QR symbol
@@ -204,6 +222,7 @@ given_behind lead name Function args =
     if slice_index args 0 == 0x6B then qr_items (word_at args 1) (drop 3 args)
     else unused lead name (take 3 args) ∷ []
 given_behind lead name Graphics args = unused lead name (take 5 args) ∷ []
+given_behind lead name (ReadPast past) args = unused lead name (take (past_len past args) args) ∷ []
 
 -- what the arguments so far have given
 unfoldable pub given_by : Lead → ℕ → Command → List ℕ → List EscItem
@@ -221,46 +240,64 @@ single_item b =
     else if nat_lt b 0x20 then items.Control b
     else items.Character b
 
-abbrev pub is_unfinished_named : Option Command → List ℕ → Bool
-is_unfinished_named None args = true
-is_unfinished_named (Some command) args = if is_listed command args then needs_more command args else true
+-- bytes that are no command of the table are open for good in the profile, and a unit in the whole language
+abbrev pub stays_open : Reading → Bool
+stays_open Profile = true
+stays_open Whole = false
 
-abbrev pub is_unfinished_after : Option Lead → List ℕ → Bool
-is_unfinished_after None bytes = false
-is_unfinished_after (Some lead) [] = true
-is_unfinished_after (Some lead) (b ∷ args) = is_unfinished_named (command_of lead b) args
+abbrev pub is_unfinished_named : Reading → Option Command → List ℕ → Bool
+is_unfinished_named reading None args = stays_open reading
+is_unfinished_named reading (Some command) args =
+    if is_listed reading command args then needs_more command args else stays_open reading
+
+abbrev pub is_unfinished_after : Reading → Option Lead → List ℕ → Bool
+is_unfinished_after reading None bytes = false
+is_unfinished_after reading (Some lead) [] = true
+is_unfinished_after reading (Some lead) (b ∷ args) =
+    is_unfinished_named reading (command_of reading lead b) args
 
 -- The bytes, a front of a unit, are no whole unit. A unit is the shortest front that isn't open.
-unfoldable pub is_unfinished : List ℕ → Bool
-is_unfinished [] = true
-is_unfinished (b ∷ bytes) = is_unfinished_after (lead_of b) bytes
+unfoldable pub is_unfinished : Reading → List ℕ → Bool
+is_unfinished reading [] = true
+is_unfinished reading (b ∷ bytes) = is_unfinished_after reading (lead_of b) bytes
 
-abbrev pub given_named : Lead → ℕ → Option Command → List ℕ → List EscItem
-given_named lead name None args = []
-given_named lead name (Some command) args =
-    if is_listed command args then given_by lead name command args else []
+-- what bytes give that are no command of the table
+abbrev pub passed_over : Reading → Lead → ℕ → List ℕ → List EscItem
+passed_over Profile lead name args = []
+passed_over Whole lead name args = unused lead name args ∷ []
 
-abbrev pub given_after : Option Lead → ℕ → List ℕ → List EscItem
-given_after None b bytes = single_item b ∷ []
-given_after (Some lead) b [] = []
-given_after (Some lead) b (c ∷ args) = given_named lead c (command_of lead c) args
+abbrev pub given_named : Reading → Lead → ℕ → Option Command → List ℕ → List EscItem
+given_named reading lead name None args = passed_over reading lead name args
+given_named reading lead name (Some command) args =
+    if is_listed reading command args then given_by lead name command args
+    else passed_over reading lead name args
+
+abbrev pub given_after : Reading → Option Lead → ℕ → List ℕ → List EscItem
+given_after reading None b bytes = single_item b ∷ []
+given_after reading (Some lead) b [] = []
+given_after reading (Some lead) b (c ∷ args) = given_named reading lead c (command_of reading lead c) args
 
 -- the items that a unit, or a front of one, has given
-unfoldable pub given : List ℕ → List EscItem
-given [] = []
-given (b ∷ bytes) = given_after (lead_of b) b bytes
+unfoldable pub given : Reading → List ℕ → List EscItem
+given reading [] = []
+given reading (b ∷ bytes) = given_after reading (lead_of b) b bytes
 
-abbrev pub is_listed_name : Option Command → List ℕ → Bool
-is_listed_name None args = false
-is_listed_name (Some command) args = is_listed command args
+abbrev pub is_listed_name : Reading → Option Command → List ℕ → Bool
+is_listed_name reading None args = false
+is_listed_name reading (Some command) args = is_listed reading command args
 
-abbrev pub fault_after : Option Lead → ℕ → List ℕ → Option Fault
-fault_after None b bytes = None
-fault_after (Some lead) b [] = None
-fault_after (Some lead) b (c ∷ args) =
-    if is_listed_name (command_of lead c) args then None else Some (Unknown b c)
+-- the profile stops at bytes that are no command of its table
+abbrev pub unknown : Reading → ℕ → ℕ → Option Fault
+unknown Profile b c = Some (Unknown b c)
+unknown Whole b c = None
+
+abbrev pub fault_after : Reading → Option Lead → ℕ → List ℕ → Option Fault
+fault_after reading None b bytes = None
+fault_after reading (Some lead) b [] = None
+fault_after reading (Some lead) b (c ∷ args) =
+    if is_listed_name reading (command_of reading lead c) args then None else unknown reading b c
 
 -- these bytes begin no unit
-unfoldable pub fault_in : List ℕ → Option Fault
-fault_in [] = None
-fault_in (b ∷ bytes) = fault_after (lead_of b) b bytes
+unfoldable pub fault_in : Reading → List ℕ → Option Fault
+fault_in reading [] = None
+fault_in reading (b ∷ bytes) = fault_after reading (lead_of b) b bytes

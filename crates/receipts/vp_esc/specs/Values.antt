@@ -99,6 +99,10 @@ is_cut m = m == 0 || m == 1 || m == 48 || m == 49
 abbrev pub is_feed_cut : ℕ → Bool
 is_feed_cut m = m == 65 || m == 66
 
+-- GS V, functions C and D: cuts later, or takes the paper back behind the cut
+abbrev pub is_other_cut : ℕ → Bool
+is_other_cut m = m == 97 || m == 98 || m == 103 || m == 104
+
 -- what of these m is a full cut
 abbrev pub cut_of : ℕ → Cut
 cut_of m = if m == 0 || m == 48 || m == 65 then Full else Partial
@@ -133,6 +137,10 @@ is_kind_to_zero m = nat_le m 6
 
 abbrev pub is_kind_counted : ℕ → Bool
 is_kind_counted m = nat_le 65 m && nat_le m 73
+
+-- GS k: the counted kinds that the whole language adds
+abbrev pub is_added_kind : ℕ → Bool
+is_added_kind m = nat_le 74 m && nat_le m 79
 
 -- GS k: the kinds that are drawn
 abbrev pub bar_code_of : ℕ → Option BarCode

@@ -1,16 +1,20 @@
 //! The commands by their first two bytes, and how many arguments they have.
 ghost use Rattle.std.specs.Prelude.{◌≡◌, ◌≤◌, ◌<◌, ◌∷◌, length, slice_index};
-ghost use Rattle.vp_esc.specs.Command.{lead_of, lead_byte, command_of, esc_command, gs_command, fs_command};
-ghost use Rattle.vp_esc.specs.Command.{dle_command, count_of, has_second as has_second_as, plain_len};
-ghost use Rattle.vp_esc.specs.Command.{head_len, lists};
+ghost use Rattle.vp_esc.specs.Command.{lead_of, lead_byte, command_of, profile_command, added_command};
+ghost use Rattle.vp_esc.specs.Command.{esc_command, gs_command, fs_command, dle_command};
+ghost use Rattle.vp_esc.specs.Command.{esc_added, gs_added, fs_added, dle_added};
+ghost use Rattle.vp_esc.specs.Command.{request_len as request_len_as, past_len, past_has};
+ghost use Rattle.vp_esc.specs.Command.{count_of, has_feed as has_feed_as, has_second as has_second_as, plain_len};
+ghost use Rattle.vp_esc.specs.Command.{head_len, lists, has as has_as, adds as adds_as};
 ghost use Rattle.vp_esc.specs.Units.{alone_item, of_byte_item, of_word_item, cut_item as cut_item_as};
-ghost use Rattle.vp_esc.specs.Units.{plain_item};
+ghost use Rattle.vp_esc.specs.Units.{plain_item, past_data};
 
-use crate::item::{EscItem, Lead};
+use crate::item::{EscItem, HEAD_BYTES, Lead};
+use crate::reading::Reading;
 use crate::value::{
-    bit, cut_of, direction_of, font_of, hri_position_of, is_column_mode, is_cut, is_feed_cut,
-    is_kind_counted, is_kind_to_zero, justification_of, magnification_of, print_mode_of, spelled,
-    underline_of, word,
+    bit, cut_of, direction_of, font_of, hri_position_of, is_added_kind, is_column_mode, is_cut,
+    is_feed_cut, is_kind_counted, is_kind_to_zero, is_other_cut, justification_of,
+    magnification_of, print_mode_of, spelled, underline_of, word,
 };
 use arrayvec::ArrayVec;
 
@@ -78,12 +82,37 @@ pub enum Plain {
     Area,
     /// GS V
     Cut,
-    /// ESC c 3, 4 and 5, without effect.
+    /// ESC c, without effect.
     Sensor,
     /// DLE EOT, without effect.
     RealTime,
     /// Without effect.
     Unused(Arguments),
+}
+
+/// Commands of the whole language without effect whose head says how long they are.
+#[derive(Clone, Copy)]
+pub enum ReadPast {
+    /// ESC ( and FS (: what stands behind the count.
+    Family,
+    /// GS *: a picture to be stored, and its columns.
+    StoredImage,
+    /// GS Q 0: a picture by columns.
+    ColumnImage,
+    /// FS 2: a character of two bytes, and its dots.
+    TwoByteCell,
+    /// FS g 1 and 2: bytes to be kept, or told.
+    UserBytes,
+    /// GS C 0, 1 and 2
+    Counter,
+    /// GS g 0 and 2
+    Maintenance,
+    /// GS z 0
+    Recovery,
+    /// FS a 0, 1 and 2
+    Cheque,
+    /// DLE DC4
+    RealTimeRequest,
 }
 
 /// The commands of several bytes.
@@ -100,8 +129,9 @@ pub enum Command {
     Symbol,
     /// GS (
     Function,
-    /// GS 8 L
+    /// GS 8
     Graphics,
+    ReadPast(ReadPast),
 }
 
 impl Lead {
@@ -131,14 +161,39 @@ impl Lead {
 
 #[tactic(auto, unfolding(crate::specs::Command::command_of))]
 impl Command {
-    pub fn of(lead: Lead, byte: u8) -> Option<Command>
-        ensures { result ≡ command_of lead byte }
+    pub fn of(reading: Reading, lead: Lead, byte: u8) -> Option<Command>
+        ensures { result ≡ command_of reading lead byte }
+    {
+        match Command::of_profile(lead, byte) {
+            None => match reading {
+                Reading::Profile => None,
+                Reading::Whole => Command::added(lead, byte),
+            },
+            known => known,
+        }
+    }
+
+    /// The commands of the profile.
+    fn of_profile(lead: Lead, byte: u8) -> Option<Command>
+        ensures { result ≡ profile_command lead byte }
     {
         match lead {
             Lead::Esc => Command::after_esc(byte),
             Lead::Gs => Command::after_gs(byte),
             Lead::Fs => Command::after_fs(byte),
             Lead::Dle => Command::after_dle(byte),
+        }
+    }
+
+    /// The commands that the whole language adds.
+    fn added(lead: Lead, byte: u8) -> Option<Command>
+        ensures { result ≡ added_command lead byte }
+    {
+        match lead {
+            Lead::Esc => Command::added_to_esc(byte),
+            Lead::Gs => Command::added_to_gs(byte),
+            Lead::Fs => Command::added_to_fs(byte),
+            Lead::Dle => Command::added_to_dle(byte),
         }
     }
 
@@ -226,6 +281,62 @@ impl Command {
         }
     }
 
+    fn added_to_esc(byte: u8) -> Option<Command>
+        ensures { result ≡ esc_added byte }
+    {
+        let arguments = match byte {
+            0x28 => return Some(Command::ReadPast(ReadPast::Family)),
+            0x3C | 0x6F | 0x71 | 0x76 => Arguments::None,
+            0x46 | 0x4B | 0x65 | 0x75 | 0x7A => Arguments::One,
+            0x66 => Arguments::Two,
+            _ => return None,
+        };
+        Some(Command::Plain(Plain::Unused(arguments)))
+    }
+
+    fn added_to_gs(byte: u8) -> Option<Command>
+        ensures { result ≡ gs_added byte }
+    {
+        let arguments = match byte {
+            0x2A => return Some(Command::ReadPast(ReadPast::StoredImage)),
+            0x43 => return Some(Command::ReadPast(ReadPast::Counter)),
+            0x51 => return Some(Command::ReadPast(ReadPast::ColumnImage)),
+            0x67 => return Some(Command::ReadPast(ReadPast::Maintenance)),
+            0x7A => return Some(Command::ReadPast(ReadPast::Recovery)),
+            0x0C | 0x3A | 0x3C | 0x63 => Arguments::None,
+            0x2F | 0x45 | 0x54 | 0x6A => Arguments::One,
+            0x41 => Arguments::Two,
+            0x5E => Arguments::Three,
+            _ => return None,
+        };
+        Some(Command::Plain(Plain::Unused(arguments)))
+    }
+
+    fn added_to_fs(byte: u8) -> Option<Command>
+        ensures { result ≡ fs_added byte }
+    {
+        let arguments = match byte {
+            0x28 => return Some(Command::ReadPast(ReadPast::Family)),
+            0x32 => return Some(Command::ReadPast(ReadPast::TwoByteCell)),
+            0x61 => return Some(Command::ReadPast(ReadPast::Cheque)),
+            0x67 => return Some(Command::ReadPast(ReadPast::UserBytes)),
+            0x63 => Arguments::None,
+            0x62 => Arguments::One,
+            0x3F => Arguments::Two,
+            _ => return None,
+        };
+        Some(Command::Plain(Plain::Unused(arguments)))
+    }
+
+    fn added_to_dle(byte: u8) -> Option<Command>
+        ensures { result ≡ dle_added byte }
+    {
+        match byte {
+            0x14 => Some(Command::ReadPast(ReadPast::RealTimeRequest)),
+            _ => None,
+        }
+    }
+
     /// How many arguments come before any data, as far as these tell.
     pub fn head_len(self, args: &[u8]) -> usize
         ensures { result ≡ head_len self args.now }
@@ -237,12 +348,23 @@ impl Command {
             Command::Raster => 6,
             Command::Symbol => if is_kind_to_zero(first(args)) { 1 } else { 2 },
             Command::Graphics => 5,
+            Command::ReadPast(past) => past.len(args),
         }
     }
 
     /// Whether the table has the command with this first argument, which may be a part of its name.
-    pub fn lists(self, first: u8) -> bool
-        ensures { result ≡ lists self first }
+    pub fn lists(self, reading: Reading, first: u8) -> bool
+        ensures { result ≡ lists reading self first }
+    {
+        match reading {
+            Reading::Profile => self.has(first),
+            Reading::Whole => self.has(first) || self.adds(first),
+        }
+    }
+
+    /// Whether it has this first argument in each reading.
+    fn has(self, first: u8) -> bool
+        ensures { result ≡ has_as self first }
     {
         match self {
             Command::Plain(Plain::Cut) => is_cut(first) || is_feed_cut(first),
@@ -251,7 +373,72 @@ impl Command {
             Command::Raster => first == 0x30,
             Command::Symbol => is_kind_to_zero(first) || is_kind_counted(first),
             Command::Graphics => first == 0x4C,
+            Command::ReadPast(past) => past.has(first),
             _ => true,
+        }
+    }
+
+    /// Whether the whole language adds this first argument.
+    fn adds(self, first: u8) -> bool
+        ensures { result ≡ adds_as self first }
+    {
+        match self {
+            Command::Plain(Plain::Cut) => is_other_cut(first),
+            Command::Plain(Plain::Sensor) => first == 0x30 || first == 0x31,
+            Command::Symbol => is_added_kind(first),
+            Command::Graphics => true,
+            _ => false,
+        }
+    }
+}
+
+impl ReadPast {
+    /// How many arguments come before any data, as far as these tell.
+    fn len(self, args: &[u8]) -> usize
+        ensures { result ≡ past_len self args.now }
+    {
+        match self {
+            ReadPast::Family | ReadPast::Recovery => 3,
+            ReadPast::StoredImage | ReadPast::TwoByteCell => 2,
+            ReadPast::ColumnImage => 6,
+            ReadPast::UserBytes => 8,
+            ReadPast::Counter => if first(args) == 0x31 { 7 } else { 3 },
+            ReadPast::Maintenance => 4,
+            ReadPast::Cheque => if first(args) == 0x30 { 2 } else { 1 },
+            ReadPast::RealTimeRequest => request_len(first(args)),
+        }
+    }
+
+    /// Whether the table has the command with this first argument.
+    fn has(self, first: u8) -> bool
+        ensures { result ≡ past_has self first }
+    {
+        match self {
+            ReadPast::ColumnImage | ReadPast::Recovery => first == 0x30,
+            ReadPast::UserBytes => first == 0x31 || first == 0x32,
+            ReadPast::Counter | ReadPast::Cheque => {
+                first == 0x30 || first == 0x31 || first == 0x32
+            }
+            ReadPast::Maintenance => first == 0x30 || first == 0x32,
+            ReadPast::Family
+            | ReadPast::StoredImage
+            | ReadPast::TwoByteCell
+            | ReadPast::RealTimeRequest => true,
+        }
+    }
+
+    /// How many bytes of data come behind these arguments, at most 65,535 times 65,535.
+    pub fn data_len(self, args: &[u8]) -> u32
+        requires { length args.now ≡ past_len self args.now }
+        ensures { result ≡ past_data self args.now }
+    {
+        match self {
+            ReadPast::Family => word(args[1], args[2]) as u32,
+            ReadPast::StoredImage => 8 * (args[0] as u32 * args[1] as u32),
+            ReadPast::ColumnImage => word(args[2], args[3]) as u32 * word(args[4], args[5]) as u32,
+            ReadPast::TwoByteCell => 72,
+            ReadPast::UserBytes if args[0] == 0x31 => word(args[6], args[7]) as u32,
+            _ => 0,
         }
     }
 }
@@ -279,7 +466,7 @@ impl Plain {
             Plain::OfByte(_) => 1,
             Plain::OfWord(_) => 2,
             Plain::Area => 8,
-            Plain::Cut => if is_feed_cut(first(args)) { 2 } else { 1 },
+            Plain::Cut => if has_feed(first(args)) { 2 } else { 1 },
             Plain::Sensor => 2,
             Plain::RealTime => if has_second(first(args)) { 2 } else { 1 },
             Plain::Unused(arguments) => arguments.count(),
@@ -301,11 +488,13 @@ impl Plain {
                 width: word(args[4], args[5]),
                 height: word(args[6], args[7]),
             },
-            Plain::Cut => *item = cut_item(args),
-            Plain::Sensor | Plain::RealTime | Plain::Unused(_) => *item = EscItem::WithoutEffect {
-                lead,
-                bytes: unused(name, args),
-            },
+            Plain::Cut if !is_other_cut(args[0]) => *item = cut_item(args),
+            Plain::Cut | Plain::Sensor | Plain::RealTime | Plain::Unused(_) => {
+                *item = EscItem::WithoutEffect {
+                    lead,
+                    bytes: unused(name, args),
+                };
+            }
         }
     }
 }
@@ -386,8 +575,8 @@ fn cut_item(args: &[u8]) -> EscItem
 }
 
 /// The bytes after the lead of a command without effect.
-pub fn unused(name: u8, args: &[u8]) -> ArrayVec<u8, 6>
-    requires { length args.now ≤ 5 }
+pub fn unused(name: u8, args: &[u8]) -> ArrayVec<u8, HEAD_BYTES>
+    requires { length args.now < HEAD_BYTES }
     ensures { result.items ≡ name ∷ args.now }
 {
     let mut bytes = ArrayVec::new();
@@ -403,6 +592,25 @@ fn first(args: &[u8]) -> u8
     match args {
         [] => 0,
         [first, ..] => *first,
+    }
+}
+
+/// Whether GS V m has one more argument.
+fn has_feed(m: u8) -> bool
+    ensures { result ≡ has_feed_as m }
+{
+    is_feed_cut(m) || is_other_cut(m)
+}
+
+/// How many arguments DLE DC4 has, with this first one.
+fn request_len(function: u8) -> usize
+    ensures { result ≡ request_len_as function }
+{
+    match function {
+        0x03 => 6,
+        0x07 => 2,
+        0x08 => 8,
+        _ => 3,
     }
 }
 

@@ -6,6 +6,9 @@ use vp_glyph::{Alignment, Font};
 /// The most bytes of data of GS k that are kept.
 pub const DATA_BYTES: usize = 255;
 
+/// The most bytes that a command without effect has after its lead and before its data.
+pub const HEAD_BYTES: usize = 9;
+
 /// A byte as it was sent, and what it stands for.
 #[derive(Clone, Copy)]
 pub struct Spelled<T> {
@@ -240,10 +243,10 @@ pub enum EscItem {
     /// GS ( k that is ignored: its bytes from the count on, as far as they were read when that was known.
     QrIgnored(ArrayVec<u8, 6>),
 
-    /// A command that is read without effect: its lead, and its bytes as far as they were read when it was
-    /// given.
+    /// A command that is read without effect, or bytes that are none: the lead, and the bytes behind it as
+    /// far as they were read when it was given.
     WithoutEffect {
         lead: Lead,
-        bytes: ArrayVec<u8, 6>,
+        bytes: ArrayVec<u8, HEAD_BYTES>,
     },
 }

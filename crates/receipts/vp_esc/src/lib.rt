@@ -21,7 +21,9 @@ pub mod laws;
 mod line;
 mod qr;
 mod reader;
+pub mod reading;
 mod value;
 
 pub use item::EscItem;
 pub use reader::EscReader;
+pub use reading::Reading;

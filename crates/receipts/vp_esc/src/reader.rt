@@ -6,6 +6,7 @@ ghost use Rattle.std.specs.Borrow.{sem};
 ghost use Rattle.vp_esc.specs.Split.{split, items, fault_of};
 ghost use Rattle.vp_esc.specs.Shown.{shown, shown_answer, shown_loan};
 ghost use Rattle.vp_esc.specs.Reader.{Stands, StandsIn, Gives, Advances, Begun, Lands, InArguments, InStops};
+ghost use Rattle.vp_esc.specs.Reader.{IsNoCommand};
 ghost use Rattle.vp_esc.specs.Reader.{InBytes, InTallColumns, InSymbolToZero, InSymbolData, InQr};
 ghost use Rattle.vp_esc.specs.Reader.{bytes_or_ground, tall_or_ground, columns_or_ground, qr_or_ground};
 ghost use Rattle.vp_esc.specs.Reader.{behind_values, raster_data, data_items, raster_items, stored_items, is_text, text_items};
@@ -13,12 +14,13 @@ ghost use Rattle.vp_esc.specs.Runs.{raster_left, skipped_left, stored_left, text
 ghost use Rattle.vp_dots.specs.declared.fault.Fault.{Fault};
 ghost use Rattle.vp_esc.specs.Command.{lead_byte, head_len};
 ghost use Rattle.vp_esc.specs.Values.{is_kind_to_zero as is_to_zero};
-ghost use Rattle.vp_esc.specs.Units.{single_item, symbol_with};
+ghost use Rattle.vp_esc.specs.Units.{given, single_item, symbol_with};
 
-use crate::command::{Command, unused};
+use crate::command::{Command, ReadPast, unused};
 use crate::event::Event;
-use crate::item::{ColumnMode, DATA_BYTES, EscItem, Lead, RasterScale};
+use crate::item::{ColumnMode, DATA_BYTES, EscItem, HEAD_BYTES, Lead, RasterScale};
 use crate::qr::{begins_store, ignored, qr_given};
+use crate::reading::Reading;
 use crate::value::{bar_code_of, column_mode_of, is_kind_to_zero, scale_of, spelled, word};
 use arrayvec::ArrayVec;
 use vp_dots::Fault;
@@ -59,6 +61,7 @@ enum Phase {
 /// A reader of receipt bytes.
 #[derive(Drop)]
 pub struct EscReader {
+    reading: Reading,
     phase: Phase,
     /// The lead of the command in hand, and the byte after it.
     lead: Lead,
@@ -72,13 +75,14 @@ pub struct EscReader {
 impl EscReader {
     ghost use Rattle.vp_esc.specs.Lent.{Leaves};
 
-    /// A reader of no bytes.
-    pub fn new() -> Self
-        ensures stands { Stands result [] }
-        ensures nothing { items [] ≡ [] }
-        ensures no_fault { fault_of [] ≡ None }
+    /// A reader of no bytes, by these commands.
+    pub fn new(reading: Reading) -> Self
+        ensures stands { Stands reading result [] }
+        ensures nothing { items reading [] ≡ [] }
+        ensures no_fault { fault_of reading [] ≡ None }
     {
         EscReader {
+            reading,
             phase: Phase::Ground,
             lead: Lead::Esc,
             name: 0,
@@ -88,7 +92,7 @@ impl EscReader {
     }
 
     fn begin(&mut self, byte: u8) -> Event
-        ensures { Advances (Ok (shown result self.new.item)) [] byte self.new }
+        ensures { Advances self.old.reading (Ok (shown result self.new.item)) [] byte self.new }
     {
         match Lead::of(byte) {
             Some(lead) => {
@@ -106,14 +110,11 @@ impl EscReader {
 
     /// The byte after a lead.
     fn call(&mut self, byte: u8) -> Result<Event, Fault>
-        ensures { Advances (shown_answer result self.new.item) (lead_byte self.old.lead ∷ []) byte self.new }
+        ensures { Advances self.old.reading (shown_answer result self.new.item) (lead_byte self.old.lead ∷ [])
+            byte self.new }
     {
-        match Command::of(self.lead, byte) {
-            None => {
-                let fault = Fault::Unknown(self.lead.byte(), byte);
-                self.phase = Phase::Stopped(fault);
-                Err(fault)
-            }
+        match Command::of(self.reading, self.lead, byte) {
+            None => self.pass_over(byte, &[]),
             Some(command) => {
                 self.name = byte;
                 self.kept.clear();
@@ -122,15 +123,38 @@ impl EscReader {
         }
     }
 
+    /// Bytes that are no command: the profile stops at them, and the whole language goes on behind them.
+    fn pass_over(&mut self, name: u8, args: &[u8]) -> Result<Event, Fault>
+        requires { length args.now < HEAD_BYTES }
+        ensures { (rest : List ℕ) (c : ℕ) →
+            IsNoCommand self.old.reading self.old.lead name args.now (rest ++ c ∷ []) →
+            given self.old.reading rest ≡ [] →
+            Advances self.old.reading (shown_answer result self.new.item) rest c self.new }
+    {
+        match self.reading {
+            Reading::Profile => {
+                let fault = Fault::Unknown(self.lead.byte(), name);
+                self.phase = Phase::Stopped(fault);
+                Err(fault)
+            }
+            Reading::Whole => {
+                self.phase = Phase::Ground;
+                self.item = EscItem::WithoutEffect {
+                    lead: self.lead,
+                    bytes: unused(name, args),
+                };
+                Ok(Event::Given)
+            }
+        }
+    }
+
     /// An argument that comes before any data.
     fn argument(&mut self, command: Command, byte: u8) -> Result<Event, Fault>
         ensures { (rest : List ℕ) → InArguments self.old command rest →
-            Advances (shown_answer result self.new.item) rest byte self.new }
+            Advances self.old.reading (shown_answer result self.new.item) rest byte self.new }
     {
-        if self.kept.is_empty() && !command.lists(byte) {
-            let fault = Fault::Unknown(self.lead.byte(), self.name);
-            self.phase = Phase::Stopped(fault);
-            return Err(fault);
+        if self.kept.is_empty() && !command.lists(self.reading, byte) {
+            return self.pass_over(self.name, &[byte]);
         }
         keep(&mut self.kept, byte);
         Ok(self.land(command))
@@ -138,9 +162,10 @@ impl EscReader {
 
     /// Goes on behind the arguments that are kept.
     fn land(&mut self, command: Command) -> Event
-        ensures { (rest : List ℕ) → Begun self.old.lead self.old.name command self.old.kept.items rest →
+        ensures { (rest : List ℕ) →
+            Begun self.old.reading self.old.lead self.old.name command self.old.kept.items rest →
             length self.old.kept.items ≤ head_len command self.old.kept.items →
-            Lands (shown result self.new.item) rest self.new }
+            Lands self.old.reading (shown result self.new.item) rest self.new }
     {
         let args = self.kept.as_slice();
         if args.len() != command.head_len(args) {
@@ -162,14 +187,15 @@ impl EscReader {
             Command::Symbol => self.symbol_head(),
             Command::Function => self.function_head(),
             Command::Graphics => self.graphics_head(),
+            Command::ReadPast(past) => self.past_head(past),
         }
     }
 
     fn columns_head(&mut self) -> Event
         requires { length self.old.kept.items ≡ 3 }
         ensures { (rest : List ℕ) →
-            Begun self.old.lead self.old.name Command.Columns self.old.kept.items rest →
-            Lands (shown result self.new.item) rest self.new }
+            Begun self.old.reading self.old.lead self.old.name Command.Columns self.old.kept.items rest →
+            Lands self.old.reading (shown result self.new.item) rest self.new }
     {
         let args = self.kept.as_slice();
         let mode = column_mode_of(args[0]);
@@ -183,8 +209,8 @@ impl EscReader {
     fn raster_head(&mut self) -> Event
         requires { length self.old.kept.items ≡ 6 }
         ensures { (rest : List ℕ) →
-            Begun self.old.lead self.old.name Command.Raster self.old.kept.items rest →
-            Lands (shown result self.new.item) rest self.new }
+            Begun self.old.reading self.old.lead self.old.name Command.Raster self.old.kept.items rest →
+            Lands self.old.reading (shown result self.new.item) rest self.new }
     {
         let args = self.kept.as_slice();
         let scale = scale_of(args[1]);
@@ -202,8 +228,8 @@ impl EscReader {
     fn symbol_head(&mut self) -> Event
         requires { length self.old.kept.items ≡ head_len Command.Symbol self.old.kept.items }
         ensures { (rest : List ℕ) →
-            Begun self.old.lead self.old.name Command.Symbol self.old.kept.items rest →
-            Lands (shown result self.new.item) rest self.new }
+            Begun self.old.reading self.old.lead self.old.name Command.Symbol self.old.kept.items rest →
+            Lands self.old.reading (shown result self.new.item) rest self.new }
     {
         let args = self.kept.as_slice();
         let kind = args[0];
@@ -221,8 +247,8 @@ impl EscReader {
     fn symbol_count(&mut self, kind: u8, count: u8) -> Event
         requires { self.old.kept.items ≡ [] }
         ensures { (rest : List ℕ) →
-            Begun self.old.lead self.old.name Command.Symbol (kind ∷ count ∷ []) rest →
-            is_to_zero kind ≡ false → Lands (shown result self.new.item) rest self.new }
+            Begun self.old.reading self.old.lead self.old.name Command.Symbol (kind ∷ count ∷ []) rest →
+            is_to_zero kind ≡ false → Lands self.old.reading (shown result self.new.item) rest self.new }
     {
         if count == 0 {
             self.phase = Phase::Ground;
@@ -235,8 +261,8 @@ impl EscReader {
     fn function_head(&mut self) -> Event
         requires { length self.old.kept.items ≡ 3 }
         ensures { (rest : List ℕ) →
-            Begun self.old.lead self.old.name Command.Function self.old.kept.items rest →
-            Lands (shown result self.new.item) rest self.new }
+            Begun self.old.reading self.old.lead self.old.name Command.Function self.old.kept.items rest →
+            Lands self.old.reading (shown result self.new.item) rest self.new }
     {
         let args = self.kept.as_slice();
         let count = word(args[1], args[2]);
@@ -259,8 +285,8 @@ impl EscReader {
     fn graphics_head(&mut self) -> Event
         requires { length self.old.kept.items ≡ 5 }
         ensures { (rest : List ℕ) →
-            Begun self.old.lead self.old.name Command.Graphics self.old.kept.items rest →
-            Lands (shown result self.new.item) rest self.new }
+            Begun self.old.reading self.old.lead self.old.name Command.Graphics self.old.kept.items rest →
+            Lands self.old.reading (shown result self.new.item) rest self.new }
     {
         let args = self.kept.as_slice();
         let left = word(args[1], args[2]) as u32 + 65536 * word(args[3], args[4]) as u32;
@@ -272,9 +298,25 @@ impl EscReader {
         Event::Given
     }
 
+    fn past_head(&mut self, past: ReadPast) -> Event
+        requires { length self.old.kept.items ≡ head_len (Command.ReadPast past) self.old.kept.items }
+        ensures { (rest : List ℕ) →
+            Begun self.old.reading self.old.lead self.old.name (Command.ReadPast past) self.old.kept.items
+            rest →
+            Lands self.old.reading (shown result self.new.item) rest self.new }
+    {
+        let args = self.kept.as_slice();
+        self.item = EscItem::WithoutEffect {
+            lead: self.lead,
+            bytes: unused(self.name, args),
+        };
+        self.phase = bytes_phase(Data::Skipped, past.data_len(args));
+        Event::Given
+    }
+
     fn stop(&mut self, last: u8, byte: u8) -> Event
         ensures { (rest : List ℕ) → InStops self.old last rest →
-            Advances (Ok (shown result self.new.item)) rest byte self.new }
+            Advances self.old.reading (Ok (shown result self.new.item)) rest byte self.new }
     {
         if byte <= last {
             self.phase = Phase::Ground;
@@ -300,7 +342,7 @@ impl EscReader {
     /// A byte of data.
     fn byte(&mut self, kind: Data, left: u32, byte: u8) -> Event
         ensures { (rest : List ℕ) → InBytes self.old kind left rest →
-            Advances (Ok (shown result self.new.item)) rest byte self.new }
+            Advances self.old.reading (Ok (shown result self.new.item)) rest byte self.new }
     {
         self.phase = bytes_phase(kind, left.saturating_sub(1));
         match kind {
@@ -315,7 +357,7 @@ impl EscReader {
     /// A byte of a column of 24 dots.
     fn tall_column(&mut self, left: u32, byte: u8) -> Event
         ensures { (rest : List ℕ) → InTallColumns self.old left rest →
-            Advances (Ok (shown result self.new.item)) rest byte self.new }
+            Advances self.old.reading (Ok (shown result self.new.item)) rest byte self.new }
     {
         self.phase = tall_phase(left.saturating_sub(1));
         if self.kept.len() != 2 {
@@ -346,7 +388,7 @@ impl EscReader {
 
     fn symbol_byte(&mut self, kind: u8, more: bool, byte: u8) -> Event
         ensures { (rest : List ℕ) → InSymbolToZero self.old kind more rest →
-            Advances (Ok (shown result self.new.item)) rest byte self.new }
+            Advances self.old.reading (Ok (shown result self.new.item)) rest byte self.new }
     {
         if byte == 0 {
             self.phase = Phase::Ground;
@@ -360,7 +402,7 @@ impl EscReader {
 
     fn symbol_data(&mut self, kind: u8, left: u8, byte: u8) -> Event
         ensures { (rest : List ℕ) → InSymbolData self.old kind left rest →
-            Advances (Ok (shown result self.new.item)) rest byte self.new }
+            Advances self.old.reading (Ok (shown result self.new.item)) rest byte self.new }
     {
         keep(&mut self.kept, byte);
         if left <= 1 {
@@ -376,7 +418,7 @@ impl EscReader {
 
     fn qr_byte(&mut self, count: u16, left: u16, byte: u8) -> Event
         ensures { (rest : List ℕ) → InQr self.old count left rest →
-            Advances (Ok (shown result self.new.item)) rest byte self.new }
+            Advances self.old.reading (Ok (shown result self.new.item)) rest byte self.new }
     {
         let event = qr_given(count, self.kept.as_slice(), byte, &mut self.item);
         keep(&mut self.kept, byte);
@@ -388,7 +430,7 @@ impl EscReader {
     #[inline(never)]
     fn step(&mut self, byte: u8) -> Result<Event, Fault>
         ensures { (rest : List ℕ) → StandsIn self.old rest →
-            Advances (shown_answer result self.new.item) rest byte self.new }
+            Advances self.old.reading (shown_answer result self.new.item) rest byte self.new }
     {
         match self.phase {
             Phase::Ground => Ok(self.begin(byte)),
@@ -408,7 +450,7 @@ impl EscReader {
     #[inline(always)]
     fn event(&mut self, byte: u8) -> Result<Event, Fault>
         ensures { (rest : List ℕ) → StandsIn self.old rest →
-            Advances (shown_answer result self.new.item) rest byte self.new }
+            Advances self.old.reading (shown_answer result self.new.item) rest byte self.new }
     {
         if let Phase::Bytes {
             kind: Data::Raster,
@@ -431,14 +473,13 @@ impl EscReader {
     /// Takes the next byte, and gives the item that it completes. The item is the reader's and stands until
     /// the next byte. After a fault each call answers it.
     pub fn take(&mut self, byte: u8) -> Result<Option<&EscItem>, Fault>
-        ensures* stands { sem 𝓛 (Leaves self.entry (λ new. (bytes : List ℕ) → Stands self.old bytes →
-            Stands new (bytes ++ byte ∷ []))) }
-        ensures gives { (bytes : List ℕ) → Stands self.old bytes →
-            Gives (shown_loan result) (items bytes) (items (bytes ++ byte ∷ []))
-            (fault_of (bytes ++ byte ∷ [])) }
-        ensures sticks { (bytes : List ℕ) (fault : Fault) → Stands self.old bytes →
-            fault_of bytes ≡ Some fault →
-            result ≡ Err fault }
+        ensures* stands { sem 𝓛 (Leaves self.entry (λ new. (reading : Reading) (bytes : List ℕ) →
+            Stands reading self.old bytes → Stands reading new (bytes ++ byte ∷ []))) }
+        ensures gives { (reading : Reading) (bytes : List ℕ) → Stands reading self.old bytes →
+            Gives (shown_loan result) (items reading bytes) (items reading (bytes ++ byte ∷ []))
+            (fault_of reading (bytes ++ byte ∷ [])) }
+        ensures sticks { (reading : Reading) (bytes : List ℕ) (fault : Fault) →
+            Stands reading self.old bytes → fault_of reading bytes ≡ Some fault → result ≡ Err fault }
     {
         match self.event(byte) {
             Ok(Event::Nothing) => Ok(None),
@@ -452,12 +493,14 @@ impl EscReader {
     fn take_bytes(&mut self, kind: Data, left: u32, input: &[u8]) -> usize
         requires { self.old.phase ≡ Phase.Bytes kind left }
         ensures count { result ≡ min (length input.now) (left - 1) }
-        ensures gives { (bytes : List ℕ) (n : ℕ) → Stands self.old bytes → n ≤ result →
-            items (bytes ++ take n input.now) ≡ items bytes ++ data_items kind (take n input.now) }
-        ensures known { (bytes : List ℕ) (n : ℕ) → Stands self.old bytes → 0 < n → n ≤ result →
-            fault_of (bytes ++ take n input.now) ≡ None }
-        ensures stands { (bytes : List ℕ) → Stands self.old bytes →
-            Stands self.new (bytes ++ take result input.now) }
+        ensures gives { (reading : Reading) (bytes : List ℕ) (n : ℕ) → Stands reading self.old bytes →
+            n ≤ result →
+            items reading (bytes ++ take n input.now) ≡
+            items reading bytes ++ data_items kind (take n input.now) }
+        ensures known { (reading : Reading) (bytes : List ℕ) (n : ℕ) → Stands reading self.old bytes →
+            0 < n → n ≤ result → fault_of reading (bytes ++ take n input.now) ≡ None }
+        ensures stands { (reading : Reading) (bytes : List ℕ) → Stands reading self.old bytes →
+            Stands reading self.new (bytes ++ take result input.now) }
     {
         let taken = input.len().min(left.saturating_sub(1) as usize);
         self.phase = Phase::Bytes {
@@ -469,15 +512,17 @@ impl EscReader {
 
     /// Takes bytes of a raster that is printed, all but its last, and tells how many; none anywhere else.
     pub fn take_raster(&mut self, input: &[u8]) -> usize
-        ensures count { (bytes : List ℕ) → Stands self.old bytes →
-            result ≡ min (length input.now) (raster_left bytes) }
+        ensures count { (reading : Reading) (bytes : List ℕ) → Stands reading self.old bytes →
+            result ≡ min (length input.now) (raster_left reading bytes) }
         ensures fits { result ≤ length input.now }
-        ensures gives { (bytes : List ℕ) (n : ℕ) → Stands self.old bytes → n ≤ result →
-            items (bytes ++ take n input.now) ≡ items bytes ++ raster_items (take n input.now) }
-        ensures known { (bytes : List ℕ) (n : ℕ) → Stands self.old bytes → 0 < n → n ≤ result →
-            fault_of (bytes ++ take n input.now) ≡ None }
-        ensures stands { (bytes : List ℕ) → Stands self.old bytes →
-            Stands self.new (bytes ++ take result input.now) }
+        ensures gives { (reading : Reading) (bytes : List ℕ) (n : ℕ) → Stands reading self.old bytes →
+            n ≤ result →
+            items reading (bytes ++ take n input.now) ≡
+            items reading bytes ++ raster_items (take n input.now) }
+        ensures known { (reading : Reading) (bytes : List ℕ) (n : ℕ) → Stands reading self.old bytes →
+            0 < n → n ≤ result → fault_of reading (bytes ++ take n input.now) ≡ None }
+        ensures stands { (reading : Reading) (bytes : List ℕ) → Stands reading self.old bytes →
+            Stands reading self.new (bytes ++ take result input.now) }
     {
         match self.phase {
             Phase::Bytes {
@@ -490,15 +535,16 @@ impl EscReader {
 
     /// Takes bytes of data that give nothing, all but the last, and tells how many; none anywhere else.
     pub fn take_skipped(&mut self, input: &[u8]) -> usize
-        ensures count { (bytes : List ℕ) → Stands self.old bytes →
-            result ≡ min (length input.now) (skipped_left bytes) }
+        ensures count { (reading : Reading) (bytes : List ℕ) → Stands reading self.old bytes →
+            result ≡ min (length input.now) (skipped_left reading bytes) }
         ensures fits { result ≤ length input.now }
-        ensures gives { (bytes : List ℕ) (n : ℕ) → Stands self.old bytes → n ≤ result →
-            items (bytes ++ take n input.now) ≡ items bytes }
-        ensures known { (bytes : List ℕ) (n : ℕ) → Stands self.old bytes → 0 < n → n ≤ result →
-            fault_of (bytes ++ take n input.now) ≡ None }
-        ensures stands { (bytes : List ℕ) → Stands self.old bytes →
-            Stands self.new (bytes ++ take result input.now) }
+        ensures gives { (reading : Reading) (bytes : List ℕ) (n : ℕ) → Stands reading self.old bytes →
+            n ≤ result →
+            items reading (bytes ++ take n input.now) ≡ items reading bytes }
+        ensures known { (reading : Reading) (bytes : List ℕ) (n : ℕ) → Stands reading self.old bytes →
+            0 < n → n ≤ result → fault_of reading (bytes ++ take n input.now) ≡ None }
+        ensures stands { (reading : Reading) (bytes : List ℕ) → Stands reading self.old bytes →
+            Stands reading self.new (bytes ++ take result input.now) }
     {
         match self.phase {
             Phase::Bytes {
@@ -511,15 +557,17 @@ impl EscReader {
 
     /// Takes bytes that are stored for a QR symbol, all but the last, and tells how many; none anywhere else.
     pub fn take_stored(&mut self, input: &[u8]) -> usize
-        ensures count { (bytes : List ℕ) → Stands self.old bytes →
-            result ≡ min (length input.now) (stored_left bytes) }
+        ensures count { (reading : Reading) (bytes : List ℕ) → Stands reading self.old bytes →
+            result ≡ min (length input.now) (stored_left reading bytes) }
         ensures fits { result ≤ length input.now }
-        ensures gives { (bytes : List ℕ) (n : ℕ) → Stands self.old bytes → n ≤ result →
-            items (bytes ++ take n input.now) ≡ items bytes ++ stored_items (take n input.now) }
-        ensures known { (bytes : List ℕ) (n : ℕ) → Stands self.old bytes → 0 < n → n ≤ result →
-            fault_of (bytes ++ take n input.now) ≡ None }
-        ensures stands { (bytes : List ℕ) → Stands self.old bytes →
-            Stands self.new (bytes ++ take result input.now) }
+        ensures gives { (reading : Reading) (bytes : List ℕ) (n : ℕ) → Stands reading self.old bytes →
+            n ≤ result →
+            items reading (bytes ++ take n input.now) ≡
+            items reading bytes ++ stored_items (take n input.now) }
+        ensures known { (reading : Reading) (bytes : List ℕ) (n : ℕ) → Stands reading self.old bytes →
+            0 < n → n ≤ result → fault_of reading (bytes ++ take n input.now) ≡ None }
+        ensures stands { (reading : Reading) (bytes : List ℕ) → Stands reading self.old bytes →
+            Stands reading self.new (bytes ++ take result input.now) }
     {
         match self.phase {
             Phase::Bytes {
@@ -533,15 +581,17 @@ impl EscReader {
     /// Takes the text at the front, characters and controls that do nothing, and tells how many bytes it has;
     /// none inside a command.
     pub fn take_text(&mut self, input: &[u8]) -> usize
-        ensures count { (bytes : List ℕ) → Stands self.old bytes → result ≡ text_front bytes input.now }
+        ensures count { (reading : Reading) (bytes : List ℕ) → Stands reading self.old bytes →
+            result ≡ text_front reading bytes input.now }
         ensures fits { result ≤ length input.now }
         ensures text { AllByRecursion (λ b. is_text b ≡ true) (take result input.now) }
-        ensures gives { (bytes : List ℕ) (n : ℕ) → Stands self.old bytes → n ≤ result →
-            items (bytes ++ take n input.now) ≡ items bytes ++ text_items (take n input.now) }
-        ensures known { (bytes : List ℕ) (n : ℕ) → Stands self.old bytes → 0 < n → n ≤ result →
-            fault_of (bytes ++ take n input.now) ≡ None }
-        ensures stands { (bytes : List ℕ) → Stands self.old bytes →
-            Stands self.new (bytes ++ take result input.now) }
+        ensures gives { (reading : Reading) (bytes : List ℕ) (n : ℕ) → Stands reading self.old bytes →
+            n ≤ result →
+            items reading (bytes ++ take n input.now) ≡ items reading bytes ++ text_items (take n input.now) }
+        ensures known { (reading : Reading) (bytes : List ℕ) (n : ℕ) → Stands reading self.old bytes →
+            0 < n → n ≤ result → fault_of reading (bytes ++ take n input.now) ≡ None }
+        ensures stands { (reading : Reading) (bytes : List ℕ) → Stands reading self.old bytes →
+            Stands reading self.new (bytes ++ take result input.now) }
     {
         if let Phase::Ground = self.phase {
             text_len(input)
@@ -552,8 +602,8 @@ impl EscReader {
 
     /// Whether the bytes so far end with a whole unit.
     pub fn at_rest(&self) -> bool
-        ensures { (bytes : List ℕ) → Stands self.now bytes →
-            IsTrue result ↔ (((split bytes).rest ≡ []) × (fault_of bytes ≡ None)) }
+        ensures { (reading : Reading) (bytes : List ℕ) → Stands reading self.now bytes →
+            IsTrue result ↔ (((split reading bytes).rest ≡ []) × (fault_of reading bytes ≡ None)) }
     {
         match self.phase {
             Phase::Ground => true,

@@ -124,6 +124,12 @@ pub fn is_feed_cut(m: u8) -> bool
     m == 65 || m == 66
 }
 
+pub fn is_other_cut(m: u8) -> bool
+    ensures { result ≡ spec.is_other_cut m }
+{
+    m == 97 || m == 98 || m == 103 || m == 104
+}
+
 pub fn cut_of(m: u8) -> Cut
     ensures { result ≡ spec.cut_of m }
 {
@@ -172,6 +178,12 @@ pub fn is_kind_counted(m: u8) -> bool
     ensures { result ≡ spec.is_kind_counted m }
 {
     65 <= m && m <= 73
+}
+
+pub fn is_added_kind(m: u8) -> bool
+    ensures { result ≡ spec.is_added_kind m }
+{
+    74 <= m && m <= 79
 }
 
 pub fn bar_code_of(m: u8) -> Option<BarCode>

@@ -5,6 +5,7 @@ use Rattle.std.specs.List.{flat_map, AllByRecursion}
 use Rattle.std.proofs.Math.Nat.{suc-mul}
 use Rattle.std.proofs.lemmas.Bool.{eqb-true, eqb-false}
 use Rattle.std.proofs.lemmas.List.{append-nil}
+use Rattle.vp_esc.specs.declared.reading.Reading.{Reading}
 use Rattle.vp_esc.specs.declared.item.EscItem.{EscItem}
 use Rattle.vp_esc.specs.declared.item.EscItem.TheVariants.{Raster, RasterByte}
 use Rattle.vp_esc.specs.declared.item.RasterScale.{RasterScale}
@@ -95,20 +96,23 @@ rest_next : (given before : List EscItem) (part : Bool) → Kind given part → 
 rest_next given before part (inl o) b = (others_next given before o.each b).0
 rest_next given before part (inr r) b = raster_orderly given part r before b
 
-units_next : (units : List (List ℕ)) (before : List EscItem) → AllByRecursion IsUnit units → IsBetween before → IsBetween (onto (flat_map given units) before)
-units_next [] before each b = b
-units_next (unit ∷ units) before each b = grind (arith, units_next units (onto (given unit) before) each.1 (unit_next (given unit) before (is_unfinished unit) (kinds unit) each.0.whole b), onto_more, unit_next, kinds)
+units_next : (reading : Reading) (units : List (List ℕ)) (before : List EscItem) → AllByRecursion (IsUnit reading) units → IsBetween before → IsBetween (onto (flat_map (given reading) units) before)
+units_next reading [] before each b = b
+units_next reading (unit ∷ units) before each b = grind (arith, units_next reading units (onto (given reading unit) before) each.1 (unit_next (given reading unit) before (is_unfinished reading unit) (kinds reading unit) each.0.whole b), onto_more, unit_next, kinds)
 
-module _ (bytes : List ℕ) (s : Splits bytes (split bytes).units (split bytes).rest) where
-  history_is : reverse (items bytes) ≡ onto (given (split bytes).rest) (onto (flat_map given (split bytes).units) [])
+module _ (reading : Reading) (bytes : List ℕ) (s : Splits reading bytes (split reading bytes).units (split reading bytes).rest) where
+  history_is : reverse (items reading bytes) ≡ onto (given reading (split reading bytes).rest) (onto (flat_map (given reading) (split reading bytes).units) [])
   unfolding items
   history_is = grind (arith, append-nil, onto_is, onto_more)
 
   -- in the items of bytes
-  pub items_orderly : IsOrderly (reverse (items bytes))
+  pub items_orderly : IsOrderly (reverse (items reading bytes))
   items_orderly = grind (arith, IsOrderly, history_is, rest_next, kinds, units_next)
 
   -- and where they end with a whole command, all rows have come
-  pub items_whole : (split bytes).rest ≡ [] → rows_to_come (reverse (items bytes)) ≡ 0
+  pub items_whole : (split reading bytes).rest ≡ [] → rows_to_come (reverse (items reading bytes)) ≡ 0
   unfolding given
-  items_whole e = grind (arith, history_is, units_next)
+  items_whole e =
+      let between : IsBetween (onto (flat_map (given reading) (split reading bytes).units) []) = units_next reading (split reading bytes).units [] s.each (tt, refl) in
+      let none : given reading (split reading bytes).rest ≡ [] = rw e refl in
+      rw (history_is, none) between.1

@@ -1,17 +1,20 @@
 -- What a unit, or a front of one, has given: a raster, or no item of one.
-use Rattle.std.proofs.Common.{◌≡◌, ℕ, ◌*◌, ◌≤◌, Bool, false, nat_lt, nat_le, List, [], ◌∷◌, length, map, Option, ◌⊎◌, slice_index, refl, arith, length-drop}
+use Rattle.std.proofs.Common.{◌≡◌, ℕ, ◌*◌, ◌≤◌, Bool, true, false, cond, nat_lt, nat_le, List, [], ◌∷◌, length, map, Option, Some, None, ◌⊎◌, inl, slice_index, refl, arith, length-drop}
 use Rattle.std.specs.List.{AllByRecursion}
 use Rattle.std.proofs.lemmas.Bool.{ltb-false}
+use Rattle.vp_esc.specs.declared.reading.Reading.{Reading}
+use Rattle.vp_esc.specs.declared.reading.Reading.TheVariants.{Profile, Whole}
 use Rattle.vp_esc.specs.declared.command.Command.{Command}
+use Rattle.vp_esc.specs.declared.command.Command.TheVariants.{ReadPast}
 use Rattle.vp_esc.specs.declared.item.ColumnMode.TheVariants.{Single8}
 use Rattle.vp_esc.specs.declared.item.EscItem.{EscItem}
 use Rattle.vp_esc.specs.declared.item.EscItem.TheVariants as items
 use Rattle.vp_esc.specs.declared.item.Lead.{Lead}
 use Rattle.vp_esc.specs.declared.item.RasterScale.{RasterScale}
 use Rattle.vp_esc.specs.declared.item.Spelled.{Spelled}
-use Rattle.vp_esc.specs.Command.{head_len}
+use Rattle.vp_esc.specs.Command.{lead_of, command_of, head_len, is_listed}
 use Rattle.vp_esc.specs.Qr.{qr_items, value_items}
-use Rattle.vp_esc.specs.Units.{is_unfinished, given, needs_more, given_by, given_behind, raster_bytes, columns, tall_columns}
+use Rattle.vp_esc.specs.Units.{is_unfinished, is_unfinished_named, is_unfinished_after, given, given_named, given_after, needs_more, given_by, given_behind, raster_bytes, columns, tall_columns, single_item, stays_open, passed_over}
 use Rattle.vp_receipt.proofs.Images.{is_raster}
 
 -- an item of none
@@ -62,8 +65,39 @@ qr_other count bytes = grind (arith, other, none, nat_le, more, stored_other)
 behind : (lead : Lead) (name : ℕ) (command : Command) (args : List ℕ) → nat_lt (length args) (head_len command args) ≡ false →
     Kind (given_behind lead name command args) (needs_more command args)
 unfolding given_behind needs_more
+behind lead name (ReadPast past) args h = inl (more (other refl) none)
 behind lead name command args h = grind (arith, other, slice_index, none, more, columns8, columns24, ltb-false, length-drop, qr_other)
 
-pub kinds : (bytes : List ℕ) → Kind (given bytes) (is_unfinished bytes)
-unfolding given is_unfinished given_by
-kinds bytes = grind (arith, none, other, nat_lt, behind)
+of_command : (lead : Lead) (name : ℕ) (command : Command) (args : List ℕ) → Kind (given_by lead name command args) (needs_more command args)
+unfolding given_by
+of_command lead name command args = by_head (nat_lt (length args) (head_len command args)) refl
+  where
+    by_head : (b : Bool) → nat_lt (length args) (head_len command args) ≡ b → Kind (cond b [] (given_behind lead name command args)) (needs_more command args)
+    by_head true e = inl none
+    by_head false e = behind lead name command args e
+
+-- a command, or what the table hasn't
+of_listed : (listed : Bool) (reading : Reading) (lead : Lead) (name : ℕ) (command : Command) (args : List ℕ)
+    → Kind (cond listed (given_by lead name command args) (passed_over reading lead name args)) (cond listed (needs_more command args) (stays_open reading))
+of_listed true reading lead name command args = of_command lead name command args
+of_listed false Profile lead name command args = inl none
+of_listed false Whole lead name command args = inl (more (other refl) none)
+
+of_name : (reading : Reading) (lead : Lead) (name : ℕ) (command : Option Command) (args : List ℕ)
+    → Kind (given_named reading lead name command args) (is_unfinished_named reading command args)
+of_name reading lead name (Some command) args = of_listed (is_listed reading command args) reading lead name command args
+of_name Profile lead name None args = inl none
+of_name Whole lead name None args = inl (more (other refl) none)
+
+single_other : (b : ℕ) → is_raster (single_item b) ≡ false
+single_other b = grind arith
+
+after : (reading : Reading) (lead : Option Lead) (b : ℕ) (bytes : List ℕ) → Kind (given_after reading lead b bytes) (is_unfinished_after reading lead bytes)
+after reading None b bytes = inl (more (other (single_other b)) none)
+after reading (Some lead) b [] = inl none
+after reading (Some lead) b (name ∷ args) = of_name reading lead name (command_of reading lead name) args
+
+pub kinds : (reading : Reading) (bytes : List ℕ) → Kind (given reading bytes) (is_unfinished reading bytes)
+unfolding given is_unfinished
+kinds reading [] = inl none
+kinds reading (b ∷ bytes) = after reading (lead_of b) b bytes

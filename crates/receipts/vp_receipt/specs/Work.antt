@@ -1,6 +1,7 @@
 -- What an item costs a page, in rows of dots: those that it lays on it, and the rows and columns that it
 -- makes white.
 use Rattle.std.specs.Prelude.{◌≡◌, ◌≤◌, ◌⊎◌, ℕ, ◌+◌, ◌*◌, Bool, true, ◌&&◌, if◌then◌else◌, List, [], ◌∷◌, ◌++◌, length, reverse, Option, Some, None}
+use Rattle.vp_esc.specs.declared.reading.Reading.{Reading}
 use Rattle.vp_esc.specs.declared.item.EscItem.{EscItem}
 use Rattle.vp_esc.specs.declared.item.EscItem.TheVariants.{RasterByte, PageMode}
 use Rattle.vp_esc.specs.Split.{items}
@@ -86,8 +87,9 @@ ended_counts setup (item ∷ before) =
 -- of a page for each of them; and all that was ever counted is no more than that, beside the page that is
 -- white from the start
 pub record BytesCostAtMost : Type 0 where
-  pub bytes : (setup : Setup) (bytes more : List ℕ) → most_in_all setup (reverse (items (bytes ++ more)))
-      ≤ most_in_all setup (reverse (items bytes)) + (LINE_ROWS + PAGE_ROWS + PAPER_DOTS) * length more
+  pub bytes : (reading : Reading) (setup : Setup) (bytes more : List ℕ)
+      → most_in_all setup (reverse (items reading (bytes ++ more)))
+      ≤ most_in_all setup (reverse (items reading bytes)) + (LINE_ROWS + PAGE_ROWS + PAPER_DOTS) * length more
   pub counted : (setup : Setup) (before : List EscItem) → ended_counts setup before + most_work setup before
       ≤ PAGE_ROWS + PAPER_DOTS + most_in_all setup before
 

@@ -3,6 +3,7 @@ ghost use Rattle.std.specs.Prelude.{◌≡◌, ◌<◌, ◌+◌, ◌∷◌, ◌+
 ghost use Rattle.vp_dots.specs.Images.{pbm};
 ghost use Rattle.vp_esc.specs.Split.{items, split};
 ghost use Rattle.vp_esc.specs.declared.item.EscItem.{EscItem};
+ghost use Rattle.vp_esc.specs.declared.reading.Reading.{Reading};
 ghost use Rattle.vp_receipt_settings.specs.Setup.{Setup, across};
 ghost use Rattle.vp_receipt_settings.specs.Rasters.{raster_bytes, rows_to_come, row_so_far, bytes_after};
 ghost use Rattle.vp_receipt.specs.Images.{images, begun, AreAcross};
@@ -60,10 +61,12 @@ pub fn an_item_draws_at_most()
 /// row or more, and then what has come of a raster of which rows are to come: nothing where the bytes end
 /// with a whole command.
 pub fn what_is_printed_is_images()
-    ensures images { (setup : Setup) (bytes : List ℕ) → printed setup (reverse (items bytes)) ≡
-        flat_map pbm (images setup (reverse (items bytes))) ++ begun setup (reverse (items bytes)) }
-    ensures whole { (setup : Setup) (bytes : List ℕ) → (split bytes).rest ≡ [] →
-        begun setup (reverse (items bytes)) ≡ [] }
+    ensures images { (reading : Reading) (setup : Setup) (bytes : List ℕ) →
+        printed setup (reverse (items reading bytes)) ≡
+        flat_map pbm (images setup (reverse (items reading bytes)))
+        ++ begun setup (reverse (items reading bytes)) }
+    ensures whole { (reading : Reading) (setup : Setup) (bytes : List ℕ) → (split reading bytes).rest ≡ [] →
+        begun setup (reverse (items reading bytes)) ≡ [] }
     ensures across { (setup : Setup) (before : List EscItem) →
         AreAcross (across setup.width) (images setup before) }
 {

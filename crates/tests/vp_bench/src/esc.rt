@@ -5,7 +5,7 @@ use crate::measure::{copying, least, some_bytes};
 use anyhow::Result;
 use std::io;
 use std::rt::Clock;
-use vp_esc::{EscItem, EscReader};
+use vp_esc::{EscItem, EscReader, Reading};
 
 const ROUNDS: u32 = 200;
 
@@ -68,7 +68,7 @@ fn hand_on(reader: &mut EscReader, bytes: &[u8]) -> u64 {
 
 /// A reader behind the head of a raster of 65,535 by 65,535 bytes.
 fn in_raster() -> EscReader {
-    let mut reader = EscReader::new();
+    let mut reader = EscReader::new(Reading::Profile);
     for byte in b"\x1D\x76\x30\x00\xFF\xFF\xFF\xFF" {
         let _ = reader.take(*byte);
     }

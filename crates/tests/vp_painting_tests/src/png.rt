@@ -28,13 +28,13 @@ fn gives(width: u32, height: u32, row: &[u8], piece: usize, wanted: &[u8]) -> bo
     let Ok(mut png) = Png::new(width, height) else {
         return false;
     };
-    let mut room = [0; 64];
     let mut rest = wanted;
     for _ in 0..1000 {
-        let n = png.put(&mut room[..piece.min(64)]);
-        if n > rest.len() || room[..n] != rest[..n] {
+        let n = png.waiting().len().min(piece);
+        if n > rest.len() || png.waiting()[..n] != rest[..n] {
             return false;
         }
+        png.hand_out(n);
         rest = &rest[n..];
         if png.is_done() {
             return rest.is_empty();
@@ -92,8 +92,8 @@ fn refusals(rt: HostRuntime) {
     };
     assert!(rt; refuses_row(&mut png, &[0], PngError::RowLength));
     assert!(rt; refuses_row(&mut png, &[0, 0], PngError::Waiting));
-    let mut room = [0; 64];
-    assert!(rt; png.put(&mut room) == 54);
+    assert!(rt; png.waiting().len() == 54);
+    png.hand_out(54);
     assert!(rt; png.row(&[0, 0]).is_ok());
     assert!(rt; refuses_row(&mut png, &[0, 0], PngError::TooManyRows));
     assert!(rt; !png.is_done());

@@ -22,6 +22,8 @@ mod looks;
 #[cfg(test)]
 mod pages;
 #[cfg(test)]
+mod pictures;
+#[cfg(test)]
 mod pieces;
 #[cfg(test)]
 mod sessions;

@@ -1,12 +1,13 @@
 //! What bytes say: their items and lines, faults, and where text ends.
 mod rows;
 mod values;
+mod whole;
 
 use crate::checks::{all_hold, same};
 use std::alloc::{AllocError, Global};
 use std::test::Fail;
 use vp_dots::Fault;
-use vp_esc::{EscItem, EscReader};
+use vp_esc::{EscItem, EscReader, Reading};
 
 /// Appends the line of an item.
 fn push_line(item: &EscItem, lines: &mut Vec<u8>) -> Result<(), AllocError> {
@@ -32,11 +33,12 @@ fn push_lines(
 /// Whether the bytes give these lines and this fault, and the reader is at rest where there is none.
 fn lists(
     alloc: Global,
+    reading: Reading,
     bytes: &[u8],
     want: &[u8],
     fault: Option<Fault>,
 ) -> Result<bool, AllocError> {
-    let mut reader = EscReader::new();
+    let mut reader = EscReader::new(reading);
     let mut lines = Vec::new(alloc);
     let found = push_lines(&mut reader, bytes, &mut lines)?;
     Ok(lines.as_slice() == want && found == fault && reader.at_rest() == fault.is_none())
@@ -72,7 +74,7 @@ static FAULTS: [Faulty; 11] = [
 fn wrong_fault(alloc: Global, rows: &[Faulty]) -> Result<Option<usize>, AllocError> {
     for i in 0..rows.len() {
         let (bytes, lines, fault) = rows[i];
-        if !lists(alloc, bytes, lines, Some(fault))? {
+        if !lists(alloc, Reading::Profile, bytes, lines, Some(fault))? {
             return Ok(Some(i));
         }
     }
@@ -99,10 +101,12 @@ fn push_symbol(bytes: &mut Vec<u8>, count: usize) -> Result<(), AllocError> {
 fn long_symbol(alloc: Global, count: usize) -> Result<(usize, bool), AllocError> {
     let mut bytes = Vec::new(alloc);
     push_symbol(&mut bytes, count)?;
-    Ok(match last_item(&mut EscReader::new(), bytes.as_slice()) {
-        Some(EscItem::Symbol { data, more, .. }) => (data.len(), *more),
-        _ => (0, false),
-    })
+    Ok(
+        match last_item(&mut EscReader::new(Reading::Profile), bytes.as_slice()) {
+            Some(EscItem::Symbol { data, more, .. }) => (data.len(), *more),
+            _ => (0, false),
+        },
+    )
 }
 
 /// How many bytes are sent, how many are kept, and whether there are more.
@@ -138,7 +142,7 @@ static STOPS: &[u8] = b"\x1BD\
 
 #[test]
 fn stop_32_ends_the_stops(rt: HostRuntime) {
-    let mut reader = EscReader::new();
+    let mut reader = EscReader::new(Reading::Profile);
     let found = [
         gives_nothing(&mut reader, STOPS),
         matches!(
@@ -152,7 +156,7 @@ fn stop_32_ends_the_stops(rt: HostRuntime) {
 
 #[test]
 fn faults_stay(rt: HostRuntime) {
-    let mut reader = EscReader::new();
+    let mut reader = EscReader::new(Reading::Profile);
     all_hold(&rt, &[gives_nothing(&mut reader, b"\x1B")]);
     for byte in b"\x7F\x0A\x1B\x40" {
         let fault = reader.take(*byte).err();
@@ -166,7 +170,7 @@ fn faults_stay(rt: HostRuntime) {
 
 #[test]
 fn text_in_runs(rt: HostRuntime) {
-    let mut reader = EscReader::new();
+    let mut reader = EscReader::new(Reading::Profile);
     let found = [
         reader.take_text(b"7\x0D\x00~\xFF\x0Aa") == 5,
         matches!(reader.take(0x1B), Ok(None)),

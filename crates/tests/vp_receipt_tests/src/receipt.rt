@@ -13,7 +13,7 @@ use std::alloc::{AllocError, Global};
 use std::process::Abort;
 use std::test::Fail;
 use vp_dots::Fault;
-use vp_esc::{EscItem, EscReader};
+use vp_esc::{EscItem, EscReader, Reading};
 use vp_glyph::{Sheet, Sheets};
 use vp_receipt::{Receipt, Width};
 
@@ -76,7 +76,7 @@ fn print_on(
     room: usize,
     paper: &mut Vec<u8>,
 ) -> Result<Option<Fault>, AllocError> {
-    let mut reader = EscReader::new();
+    let mut reader = EscReader::new(Reading::Profile);
     let mut fault = None;
     for byte in sent {
         let refused = match reader.take(*byte) {

@@ -3,24 +3,32 @@ use super::lists;
 use std::alloc::{AllocError, Global};
 use std::process::Abort;
 use std::test::Fail;
+use vp_esc::Reading;
 
 /// The bytes of whole units, and their lines.
-type Row = (&'static [u8], &'static [u8]);
+pub type Row = (&'static [u8], &'static [u8]);
 
 /// The first row whose bytes aren't whole units with these lines.
-fn wrong_row(alloc: Global, rows: &[Row]) -> Result<Option<usize>, AllocError> {
+pub fn wrong_row(
+    alloc: Global,
+    reading: Reading,
+    rows: &[Row],
+) -> Result<Option<usize>, AllocError> {
     for i in 0..rows.len() {
         let (bytes, lines) = rows[i];
-        if !lists(alloc, bytes, lines, None)? {
+        if !lists(alloc, reading, bytes, lines, None)? {
             return Ok(Some(i));
         }
     }
     Ok(None)
 }
 
-/// Each row's bytes are whole units with its lines, or the number of the first for which that fails is told.
+/// Each row's bytes are whole units with its lines, in the profile and in the whole language, or the number of
+/// the first for which that fails is told.
 fn right(rt: &impl Abort, alloc: Global, rows: &[Row]) -> Result<(), Fail> {
-    let wrong = wrong_row(alloc, rows)?;
+    let wrong = wrong_row(alloc, Reading::Profile, rows)?;
+    assert_eq!(rt; wrong, None);
+    let wrong = wrong_row(alloc, Reading::Whole, rows)?;
     assert_eq!(rt; wrong, None);
     Ok(())
 }

@@ -7,12 +7,12 @@ use vp_esc::item::{
     ColumnMode, Cut, Magnification, PrintDirection, QrLevel, QrModel, RasterScale, Spelled,
     Underline,
 };
-use vp_esc::{EscItem, EscReader};
+use vp_esc::{EscItem, EscReader, Reading};
 use vp_glyph::{Alignment, Font};
 
 /// What ESC ! sets: whether font B, emphasized, of double height, of double width, and underlined.
 fn print_mode(bytes: &[u8]) -> Option<[bool; 5]> {
-    match last_item(&mut EscReader::new(), bytes) {
+    match last_item(&mut EscReader::new(Reading::Profile), bytes) {
         Some(EscItem::PrintMode(n)) => Some([
             matches!(n.value.font, Font::B),
             n.value.emphasized,
@@ -39,7 +39,7 @@ fn print_modes(rt: HostRuntime) {
 
 /// By how much ESC \ moves the position.
 fn moved(bytes: &[u8]) -> Option<i16> {
-    match last_item(&mut EscReader::new(), bytes) {
+    match last_item(&mut EscReader::new(Reading::Profile), bytes) {
         Some(EscItem::MovePosition(dots)) => Some(*dots),
         _ => None,
     }
@@ -64,7 +64,7 @@ type Row = (&'static [u8], &'static str);
 /// Each row's bytes give the item of its words.
 fn right(rt: &impl Abort, rows: &[Row]) {
     for (bytes, words) in rows {
-        let found = match last_item(&mut EscReader::new(), bytes) {
+        let found = match last_item(&mut EscReader::new(Reading::Profile), bytes) {
             Some(item) => in_words(item),
             None => "nothing",
         };
@@ -266,7 +266,7 @@ fn directions(rt: HostRuntime) {
 
 /// What GS ! sets, if anything: how often a dot is drawn across and down.
 fn magnified(bytes: &[u8]) -> Option<Option<(u8, u8)>> {
-    match last_item(&mut EscReader::new(), bytes) {
+    match last_item(&mut EscReader::new(Reading::Profile), bytes) {
         Some(EscItem::Magnify(n)) => Some(match n.value {
             Some(Magnification { width, height }) => Some((width, height)),
             None => None,

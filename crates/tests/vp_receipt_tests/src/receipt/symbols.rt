@@ -5,7 +5,7 @@ use std::alloc::{AllocError, Global};
 use std::process::Abort;
 use std::test::Fail;
 use vp_dots::{Fault, Why};
-use vp_esc::EscReader;
+use vp_esc::{EscReader, Reading};
 use vp_receipt::{Receipt, Width};
 
 /// The fault of the last item, and how many bytes all of them print.
@@ -78,7 +78,7 @@ fn print_in_runs(
     run: usize,
     paper: &mut Vec<u8>,
 ) -> Result<usize, AllocError> {
-    let mut reader = EscReader::new();
+    let mut reader = EscReader::new(Reading::Profile);
     let mut rest = sent;
     let mut in_runs = 0usize;
     for _ in 0..sent.len() {

@@ -1,3 +1,4 @@
+use Rattle.vp_esc.specs.declared.reading.Reading.{Reading as EscReading}
 use Rattle.vp_engine.specs.Paper.{Reads}
 use Rattle.vp_engine.specs.Setups.{esc_reading, zpl_reading}
 use Rattle.vp_engine.specs.Setups.{EscPos, Zpl}
@@ -8,12 +9,12 @@ use Rattle.vp_engine.proofs.Labels.{items_none as labels_none}
 use Rattle.vp_engine.proofs.Offsets.{listed_reads}
 use Rattle.vp_engine.proofs.laws.items_grow.Goals as goal
 
-escs : (c : goal.After-only_more-2) → Reads esc_reading
-escs c = record {
-  nothing = items_none;
-  no_fault = fault_none;
-  grows = λ bytes more. let p = c.only_more.ensures bytes more in (p.0, sym p.1);
-  stays = c.fault_stays.ensures;
+escs : (c : goal.After-only_more-2) (by : EscReading) → Reads (esc_reading by)
+escs c by = record {
+  nothing = items_none by;
+  no_fault = fault_none by;
+  grows = λ bytes more. let p = c.only_more.ensures by bytes more in (p.0, sym p.1);
+  stays = c.fault_stays.ensures by;
 }
 
 zpls : (c : goal.After-only_more-2) → Reads zpl_reading
@@ -25,7 +26,7 @@ zpls c = record {
 }
 
 pub returns : goal.returns
-returns c (Receipts receipt) = escs c
+returns c (Receipts by receipt) = escs c by
 returns c (Labels sheets) = zpls c
-returns c (ListingIn w EscPos) = listed_reads esc_reading w (escs c)
+returns c (ListingIn w (EscPos by)) = listed_reads (esc_reading by) w (escs c by)
 returns c (ListingIn w Zpl) = listed_reads zpl_reading w (zpls c)

@@ -1,5 +1,6 @@
 use Rattle.std.proofs.Common.{◌≡◌, ◌≤◌, ℕ, ◌+◌, ◌*◌, List, [], ◌∷◌, ◌++◌, length, reverse, is_some, ap, arith}
 use Rattle.std.proofs.lemmas.List.{length_push}
+use Rattle.vp_esc.specs.declared.reading.Reading.{Reading as EscReading}
 use Rattle.vp_esc.specs.declared.item.EscItem.{EscItem}
 use Rattle.vp_esc.specs.Split.{items}
 use Rattle.vp_page.specs.declared.page.TheConstants.{PAGE_ROWS, PAPER_DOTS}
@@ -22,17 +23,17 @@ module _ {Item : Type 0} (rules : Rules Item) where
   before_few bytes = let few = sound_few [] bytes in omega (arith, few)
 
 -- from the first byte on
-from_first : (law : BytesCostAtMost) (setup : ReceiptSetup) (bytes : List ℕ) (n : ℕ) → items [] ≡ [] → length bytes ≤ n
-    → most_work setup (reverse (items bytes)) ≤ PAGE_ROWS + PAPER_DOTS + (LINE_ROWS + PAGE_ROWS + PAPER_DOTS) * n
-from_first law setup bytes n none few =
-    let start : most_in_all setup (reverse (items [])) ≡ 0 = ap (λ (xs : List EscItem). most_in_all setup (reverse xs)) none in
-    let all = law.bytes setup [] bytes in let told = law.counted setup (reverse (items bytes)) in
+from_first : (law : BytesCostAtMost) (by : EscReading) (setup : ReceiptSetup) (bytes : List ℕ) (n : ℕ) → items by [] ≡ [] → length bytes ≤ n
+    → most_work setup (reverse (items by bytes)) ≤ PAGE_ROWS + PAPER_DOTS + (LINE_ROWS + PAGE_ROWS + PAPER_DOTS) * n
+from_first law by setup bytes n none few =
+    let start : most_in_all setup (reverse (items by [])) ≡ 0 = ap (λ (xs : List EscItem). most_in_all setup (reverse xs)) none in
+    let all = law.bytes by setup [] bytes in let told = law.counted setup (reverse (items by bytes)) in
     omega (arith, start, all, told, few)
 
 pub returns-clause-receipts : goal.returns-clause-receipts
-returns-clause-receipts c = λ setup bytes.
-    from_first c.bytes_cost_at_most.ensures setup (before_fault (receipts setup) bytes) (length bytes) (c.items_grow.ensures (Receipts setup)).nothing
-    (before_few (receipts setup) bytes)
+returns-clause-receipts c = λ by setup bytes.
+    from_first c.bytes_cost_at_most.ensures by setup (before_fault (receipts by setup) bytes) (length bytes) (c.items_grow.ensures (Receipts by setup)).nothing
+    (before_few (receipts by setup) bytes)
 
 pub returns-clause-labels : goal.returns-clause-labels
 returns-clause-labels c = λ sheets bytes.

@@ -2,4 +2,4 @@ use Rattle.vp_esc.proofs.Rows.{row_is_unit}
 use Rattle.vp_esc.proofs.laws.rows.Goals as goal
 
 pub returns : goal.returns
-returns c bytes r = row_is_unit bytes r
+returns c reading bytes r = row_is_unit reading bytes r

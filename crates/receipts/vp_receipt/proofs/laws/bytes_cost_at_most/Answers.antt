@@ -16,7 +16,7 @@ added_few setup old new added n e few = rw (e, reverse-append old added) (grind 
 
 pub returns : goal.returns
 returns c = record {
-  bytes = λ setup bytes more. let grown = c.only_more.ensures bytes more in
-      added_few setup (items bytes) (items (bytes ++ more)) grown.0 (length more) grown.1 (c.a_byte_gives_at_most_one.ensures.bytes bytes more);
+  bytes = λ reading setup bytes more. let grown = c.only_more.ensures reading bytes more in
+      added_few setup (items reading bytes) (items reading (bytes ++ more)) grown.0 (length more) grown.1 (c.a_byte_gives_at_most_one.ensures.bytes reading bytes more);
   counted = counts;
 }

@@ -8,7 +8,7 @@ use Rattle.vp_engine.proofs.Arms.{at_receipt, at_lines, at_label, at_label_lines
 use Rattle.vp_engine.proofs.machine.Machine.held.Goals as goal
 
 pub returns-in-Receipt-clause-value : goal.returns-in-Receipt-clause-value
-returns-in-Receipt-clause-value g c = at_receipt _ _ _ _ c.in-Receipt.is (λ s t before at.
+returns-in-Receipt-clause-value g c = at_receipt _ _ _ _ c.in-Receipt.is (λ by s t before at.
     ap (λ n. record nothing_held { line_rows = n; page_rows = c.page_rows.result }) (c.line_rows.ensures.value s before at.1 ∙ ap (λ m. line_rows_after s before (pending_of (machine_of m))) (sym c.in-Receipt.is))
     ∙ ap (λ n. record nothing_held { line_rows = line_rows_after s before (pending_of (machine_of c.args.self.now)); page_rows = n }) (c.page_rows.ensures.value s before at.1 ∙ ap (λ m. page_rows_after s before (pending_of (machine_of m))) (sym c.in-Receipt.is)))
 
@@ -21,7 +21,7 @@ returns-in-Label-clause-value g c = at_label _ _ _ _ c.in-Label.is (λ s t befor
     ∙ ap (λ m. (rules_of (Labels s)).held before (pending_of (machine_of m))) (sym c.in-Label.is))
 
 pub returns-in-ReceiptLines-clause-value : goal.returns-in-ReceiptLines-clause-value
-returns-in-ReceiptLines-clause-value g c = at_lines _ _ _ _ c.in-ReceiptLines.is (λ w t before at. refl)
+returns-in-ReceiptLines-clause-value g c = at_lines _ _ _ _ c.in-ReceiptLines.is (λ by w t before at. refl)
 
 pub returns-in-LabelLines-clause-value : goal.returns-in-LabelLines-clause-value
 returns-in-LabelLines-clause-value g c = at_label_lines _ _ _ _ c.in-LabelLines.is (λ w t before at. refl)

@@ -4,11 +4,11 @@ use Rattle.vp_engine.proofs.Plain.{to_plain}
 use Rattle.vp_engine.proofs.machine.Machine.put.Goals as goal
 
 pub returns-in-Receipt-clause-stands : goal.returns-in-Receipt-clause-stands
-returns-in-Receipt-clause-stands g c = at_receipt _ _ _ _ c.in-Receipt.is (λ s t before at. (at.0, c.put.ensures.stands s before at.1))
+returns-in-Receipt-clause-stands g c = at_receipt _ _ _ _ c.in-Receipt.is (λ by s t before at. (at.0, c.put.ensures.stands s before at.1))
 
 pub returns-in-ReceiptLines-clause-stands : goal.returns-in-ReceiptLines-clause-stands
 returns-in-ReceiptLines-clause-stands g c =
-    at_lines _ _ _ _ c.in-ReceiptLines.is (λ w t before at. (at.0, record { count = c.put-in-ReceiptLines.ensures.count ∙ at.1.count; taken = c.put-in-ReceiptLines.ensures.taken ∙ at.1.taken }))
+    at_lines _ _ _ _ c.in-ReceiptLines.is (λ by w t before at. (at.0, record { count = c.put-in-ReceiptLines.ensures.count ∙ at.1.count; taken = c.put-in-ReceiptLines.ensures.taken ∙ at.1.taken }))
 
 pub returns-in-Label-clause-stands : goal.returns-in-Label-clause-stands
 returns-in-Label-clause-stands g c = at_label _ _ _ _ c.in-Label.is (λ s t before at. (at.0, to_plain s _ before (c.put-in-Label.ensures.stands s before at.1)))

@@ -18,52 +18,52 @@ use Rattle.vp_engine.proofs.Plain.{to_plain}
 use Rattle.vp_engine.proofs.machine.Machine.take.Goals as goal
 
 pub returns-in-Ok-Some : goal.returns-in-Ok-Some
-returns-in-Ok-Some g c = at_receipt _ _ _ _ c.in-Receipt.is (λ s t before at. record {
+returns-in-Ok-Some g c = at_receipt _ _ _ _ c.in-Receipt.is (λ by s t before at. record {
   given = Ok (c.in-Ok-Some.item.now ∷ []);
-  gives = (rw c.in-Ok-Some.field-0-is at c.in-Ok-Some.ensures).gives t at.0;
+  gives = (rw c.in-Ok-Some.field-0-is at c.in-Ok-Some.ensures).gives by t at.0;
   comes =
       let a = c.apply.ensures in
       let idle = sym (ap (λ m. pending_of (machine_of m)) c.in-Receipt.is) ∙ c.requires in
-      comes (rules_of (Receipts s)) (EscStands c.take.follows.lender-at-none) (ReceiptStands s c.apply.new.self) _ _ before c.in-Ok-Some.item.now c.apply.result
-      (c.take.follows.holds-at-none t at.0) (a.refusal s before at.1) (on_ok c.apply.result a.stands (λ f. f s before at.1)) (on_ok c.apply.result a.pending (λ f. f s before at.1))
+      comes (rules_of (Receipts by s)) (EscStands by c.take.follows.lender-at-none) (ReceiptStands s c.apply.new.self) _ _ before c.in-Ok-Some.item.now c.apply.result
+      (c.take.follows.holds-at-none by t at.0) (a.refusal s before at.1) (on_ok c.apply.result a.stands (λ f. f s before at.1)) (on_ok c.apply.result a.pending (λ f. f s before at.1))
       (on_err c.apply.result a.err (λ e. (subst (λ (p : Printing). ReceiptStands s p before) (sym e) at.1, ap (λ (p : Printing). p.pending) e ∙ idle)));
 })
 
 pub returns-in-Ok-None : goal.returns-in-Ok-None
-returns-in-Ok-None g c = at_receipt _ _ _ _ c.in-Receipt.is (λ s t before at. record {
+returns-in-Ok-None g c = at_receipt _ _ _ _ c.in-Receipt.is (λ by s t before at. record {
   given = Ok [];
-  gives = (rw c.in-Ok-None.field-0-is at c.in-Ok-None.ensures).gives t at.0;
-  comes = (tt, (c.take.follows.holds-at-none t at.0, at.1), none_printed (rules_of (Receipts s)) _ before (sym (ap (λ m. pending_of (machine_of m)) c.in-Receipt.is) ∙ c.requires));
+  gives = (rw c.in-Ok-None.field-0-is at c.in-Ok-None.ensures).gives by t at.0;
+  comes = (tt, (c.take.follows.holds-at-none by t at.0, at.1), none_printed (rules_of (Receipts by s)) _ before (sym (ap (λ m. pending_of (machine_of m)) c.in-Receipt.is) ∙ c.requires));
 })
 
 pub returns-in-Err : goal.returns-in-Err
-returns-in-Err g c = at_receipt _ _ _ _ c.in-Receipt.is (λ s t before at. record {
+returns-in-Err g c = at_receipt _ _ _ _ c.in-Receipt.is (λ by s t before at. record {
   given = Err c.in-Err.fault;
-  gives = c.in-Err.ensures.gives t at.0;
-  comes = (refl, (c.take.follows.holds-at-none t at.0, at.1), sym (ap (λ m. pending_of (machine_of m)) c.in-Receipt.is) ∙ c.requires);
+  gives = c.in-Err.ensures.gives by t at.0;
+  comes = (refl, (c.take.follows.holds-at-none by t at.0, at.1), sym (ap (λ m. pending_of (machine_of m)) c.in-Receipt.is) ∙ c.requires);
 })
 
 pub returns-in-Ok-Some-take : goal.returns-in-Ok-Some-take
-returns-in-Ok-Some-take g c = at_lines _ _ _ _ c.in-ReceiptLines.is (λ w t before at.
-    let gives = (rw c.in-Ok-Some-take.field-0-is at c.in-Ok-Some-take.ensures).gives t at.0 in
+returns-in-Ok-Some-take g c = at_lines _ _ _ _ c.in-ReceiptLines.is (λ by w t before at.
+    let gives = (rw c.in-Ok-Some-take.field-0-is at c.in-Ok-Some-take.ensures).gives by t at.0 in
     let b = c.begin_line.ensures in let counted_one = c.advance.ensures in
-    lists esc_reading line_of (c.items_grow.ensures (ListingIn false EscPos)).grows w (EscStands c.take-in-ReceiptLines.follows.lender-at-none) c.in-ReceiptLines.lines c.begin_line.new.lines
-    t c.args.byte (c.in-Ok-Some-take.item.now ∷ []) before at.1 gives.0 gives.1 (c.take-in-ReceiptLines.follows.holds-at-none t at.0)
+    lists (esc_reading by) line_of (c.items_grow.ensures (ListingIn false (EscPos by))).grows w (EscStands by c.take-in-ReceiptLines.follows.lender-at-none) c.in-ReceiptLines.lines c.begin_line.new.lines
+    t c.args.byte (c.in-Ok-Some-take.item.now ∷ []) before at.1 gives.0 gives.1 (c.take-in-ReceiptLines.follows.holds-at-none by t at.0)
     (b.pending ∙ sym (append-nil _) ∙ ap (λ o. listed_line o (line_of c.in-Ok-Some-take.item.now) ++ []) (sym b.taken))
     (b.count ∙ ap (λ (l : Listed). grown l.count 1) counted_one) (b.taken ∙ ap (λ (l : Listed). l.taken) counted_one))
 
 pub returns-in-Ok-None-take : goal.returns-in-Ok-None-take
-returns-in-Ok-None-take g c = at_lines _ _ _ _ c.in-ReceiptLines.is (λ w t before at.
-    let gives = (rw c.in-Ok-None-take.field-0-is at c.in-Ok-None-take.ensures).gives t at.0 in
-    lists_none esc_reading line_of (c.items_grow.ensures (ListingIn false EscPos)).grows w (EscStands c.take-in-ReceiptLines.follows.lender-at-none) c.in-ReceiptLines.lines c.advance.new.self
-    t c.args.byte before at.1 gives.0 gives.1 (c.take-in-ReceiptLines.follows.holds-at-none t at.0)
+returns-in-Ok-None-take g c = at_lines _ _ _ _ c.in-ReceiptLines.is (λ by w t before at.
+    let gives = (rw c.in-Ok-None-take.field-0-is at c.in-Ok-None-take.ensures).gives by t at.0 in
+    lists_none (esc_reading by) line_of (c.items_grow.ensures (ListingIn false (EscPos by))).grows w (EscStands by c.take-in-ReceiptLines.follows.lender-at-none) c.in-ReceiptLines.lines c.advance.new.self
+    t c.args.byte before at.1 gives.0 gives.1 (c.take-in-ReceiptLines.follows.holds-at-none by t at.0)
     (ap (λ (l : Listed). l.pending) c.advance.ensures ∙ sym (ap (λ m. pending_of (machine_of m)) c.in-ReceiptLines.is) ∙ c.requires)
     (ap (λ (l : Listed). l.count) c.advance.ensures) (ap (λ (l : Listed). l.taken) c.advance.ensures))
 
 pub returns-in-Err-take : goal.returns-in-Err-take
-returns-in-Err-take g c = at_lines _ _ _ _ c.in-ReceiptLines.is (λ w t before at.
-    lists_fault esc_reading line_of (c.items_grow.ensures (ListingIn false EscPos)).grows w (EscStands c.take-in-ReceiptLines.follows.lender-at-none) c.in-ReceiptLines.lines c.advance.new.self
-    t c.args.byte before c.in-Err-take.fault at.1 (c.in-Err-take.ensures.gives t at.0) (c.take-in-ReceiptLines.follows.holds-at-none t at.0)
+returns-in-Err-take g c = at_lines _ _ _ _ c.in-ReceiptLines.is (λ by w t before at.
+    lists_fault (esc_reading by) line_of (c.items_grow.ensures (ListingIn false (EscPos by))).grows w (EscStands by c.take-in-ReceiptLines.follows.lender-at-none) c.in-ReceiptLines.lines c.advance.new.self
+    t c.args.byte before c.in-Err-take.fault at.1 (c.in-Err-take.ensures.gives by t at.0) (c.take-in-ReceiptLines.follows.holds-at-none by t at.0)
     (ap (λ (l : Listed). l.pending) c.advance.ensures ∙ sym (ap (λ m. pending_of (machine_of m)) c.in-ReceiptLines.is) ∙ c.requires)
     (ap (λ (l : Listed). l.count) c.advance.ensures) (ap (λ (l : Listed). l.taken) c.advance.ensures))
 

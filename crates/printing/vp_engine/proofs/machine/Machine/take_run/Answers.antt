@@ -20,19 +20,19 @@ use Rattle.vp_engine.proofs.Rasters.{known_run}
 use Rattle.vp_engine.proofs.machine.Machine.take_run.Goals as goal
 
 pub returns-in-Receipt-clause-takes : goal.returns-in-Receipt-clause-takes
-returns-in-Receipt-clause-takes g c = at_receipt _ _ _ _ c.in-Receipt.is (λ s t before at known. c.receipt_run.ensures.takes s t before at.0 at.1 known)
+returns-in-Receipt-clause-takes g c = at_receipt _ _ _ _ c.in-Receipt.is (λ by s t before at known. c.receipt_run.ensures.takes by s t before at.0 at.1 known)
 
 pub returns-in-ReceiptLines-clause-rest : goal.returns-in-ReceiptLines-clause-rest
 returns-in-ReceiptLines-clause-rest g c = drop_written _ _ _ _ c.put_bytes-put.ensures.put c.put_bytes-put.ensures.bytes
 
 pub returns-in-ReceiptLines-clause-takes : goal.returns-in-ReceiptLines-clause-takes
-returns-in-ReceiptLines-clause-takes g c = at_lines _ _ _ _ c.in-ReceiptLines.is (λ w t before at known.
+returns-in-ReceiptLines-clause-takes g c = at_lines _ _ _ _ c.in-ReceiptLines.is (λ by w t before at known.
     let e = c.take_raster-n.ensures in let p = c.put_bytes-put.ensures in
     let run = take c.min-room.result c.args.input.now in
-    lists_run esc_reading line_of (c.items_grow.ensures (ListingIn false EscPos)).grows RasterByte (λ b. refl) w (EscStands c.take_raster-n.new.self)
+    lists_run (esc_reading by) line_of (c.items_grow.ensures (ListingIn false (EscPos by))).grows RasterByte (λ b. refl) w (EscStands by c.take_raster-n.new.self)
     c.in-ReceiptLines.lines c.put_bytes-put.new.self t c.args.input.now c.min-room.result c.take_raster-n.result (take c.put_bytes-put.result c.put_bytes-put.new.output) before at.1
-    (omega (arith, c.min-room.ensures)) e.fits (λ k l. e.gives t k at.0 l)
-    (known_run t run (take c.take_raster-n.result run) c.take_raster-n.result refl known (λ some. e.known t c.take_raster-n.result at.0 some (omega arith))) (e.stands t at.0)
+    (omega (arith, c.min-room.ensures)) e.fits (λ k l. e.gives by t k at.0 l)
+    (known_run by t run (take c.take_raster-n.result run) c.take_raster-n.result refl known (λ some. e.known by t c.take_raster-n.result at.0 some (omega arith))) (e.stands by t at.0)
     (take_written _ _ _ _ p.put p.bytes) p.count p.taken)
 
 pub returns-in-Label-clause-takes : goal.returns-in-Label-clause-takes

@@ -23,3 +23,21 @@ returns-in-Plain c rest begun few =
 pub returns-in-TabStops : goal.returns-in-TabStops
 returns-in-TabStops c rest begun few =
     land_stops c.args.self.now rest (rw c.in-TabStops.is at begun) (rw c.in-TabStops.is at few)
+
+pub returns-in-Columns : goal.returns-in-Columns
+returns-in-Columns c rest begun few = c.columns_head.ensures rest (rw c.in-Columns.is at begun)
+
+pub returns-in-Raster : goal.returns-in-Raster
+returns-in-Raster c rest begun few = c.raster_head.ensures rest (rw c.in-Raster.is at begun)
+
+pub returns-in-Symbol : goal.returns-in-Symbol
+returns-in-Symbol c rest begun few = c.symbol_head.ensures rest (rw c.in-Symbol.is at begun)
+
+pub returns-in-Function : goal.returns-in-Function
+returns-in-Function c rest begun few = c.function_head.ensures rest (rw c.in-Function.is at begun)
+
+pub returns-in-Graphics : goal.returns-in-Graphics
+returns-in-Graphics c rest begun few = c.graphics_head.ensures rest (rw c.in-Graphics.is at begun)
+
+pub returns-in-ReadPast : goal.returns-in-ReadPast
+returns-in-ReadPast c rest begun few = c.past_head.ensures rest (rw c.in-ReadPast.is at begun)

@@ -6,7 +6,7 @@ use Rattle.vp_esc.proofs.reader.EscReader.new.Goals as goal
 
 pub returns-clause-stands : goal.returns-clause-stands
 unfolding split split_on Stands
-returns-clause-stands c = refl
+returns-clause-stands c = (refl, refl)
 
 pub returns-clause-nothing : goal.returns-clause-nothing
 unfolding items split split_on given

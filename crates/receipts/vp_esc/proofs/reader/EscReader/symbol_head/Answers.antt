@@ -14,4 +14,4 @@ returns-then-is_kind_to_zero c rest begun =
 pub returns : goal.returns
 returns c rest begun =
     let z : is_kind_to_zero (get_or c.args.self.now.kept.items 0 0) ≡ false = rw c.as_slice-args.ensures.value at (sym c.is_kind_to_zero.ensures ∙ c.if-is_kind_to_zero.false) in
-    (rw c.as_slice-args.ensures.value at c.symbol_count.ensures) rest (subst (λ xs. Begun c.args.self.now.lead c.args.self.now.name Symbol xs rest) (two_given _ c.requires z) begun) z
+    (rw c.as_slice-args.ensures.value at c.symbol_count.ensures) rest (subst (λ xs. Begun c.args.self.now.reading c.args.self.now.lead c.args.self.now.name Symbol xs rest) (two_given _ c.requires z) begun) z

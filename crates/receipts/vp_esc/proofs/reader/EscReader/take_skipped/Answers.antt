@@ -5,12 +5,12 @@ use Rattle.vp_esc.proofs.Lefts.{skipped_count}
 use Rattle.vp_esc.proofs.reader.EscReader.take_skipped.Goals as goal
 
 pub returns-in-Bytes-Skipped-default-clause-count : goal.returns-in-Bytes-Skipped-default-clause-count
-returns-in-Bytes-Skipped-default-clause-count c bytes s =
+returns-in-Bytes-Skipped-default-clause-count c reading bytes s =
     let phase : c.args.self.now.phase ≡ phases.Bytes kinds.Skipped c.in-Bytes-Skipped-default.left = search rules in
-    skipped_count c.args.self.now bytes _ _ s (rw phase c.take_bytes.ensures.count)
+    skipped_count reading c.args.self.now bytes _ _ s (rw phase c.take_bytes.ensures.count)
 
 pub returns-in_default-clause-count : goal.returns-in_default-clause-count
-returns-in_default-clause-count c bytes s = skipped_count c.args.self.now bytes (length c.args.input.now) 0 s (search rules)
+returns-in_default-clause-count c reading bytes s = skipped_count reading c.args.self.now bytes (length c.args.input.now) 0 s (search rules)
 
 pub returns-in_default-2-clause-count : goal.returns-in_default-2-clause-count
-returns-in_default-2-clause-count c bytes s = skipped_count c.args.self.now bytes (length c.args.input.now) 0 s (search rules)
+returns-in_default-2-clause-count c reading bytes s = skipped_count reading c.args.self.now bytes (length c.args.input.now) 0 s (search rules)

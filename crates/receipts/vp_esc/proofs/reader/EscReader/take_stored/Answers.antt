@@ -5,12 +5,12 @@ use Rattle.vp_esc.proofs.Lefts.{stored_count}
 use Rattle.vp_esc.proofs.reader.EscReader.take_stored.Goals as goal
 
 pub returns-in-Bytes-Stored-default-clause-count : goal.returns-in-Bytes-Stored-default-clause-count
-returns-in-Bytes-Stored-default-clause-count c bytes s =
+returns-in-Bytes-Stored-default-clause-count c reading bytes s =
     let phase : c.args.self.now.phase ≡ phases.Bytes kinds.Stored c.in-Bytes-Stored-default.left = search rules in
-    stored_count c.args.self.now bytes _ _ s (rw phase c.take_bytes.ensures.count)
+    stored_count reading c.args.self.now bytes _ _ s (rw phase c.take_bytes.ensures.count)
 
 pub returns-in_default-clause-count : goal.returns-in_default-clause-count
-returns-in_default-clause-count c bytes s = stored_count c.args.self.now bytes (length c.args.input.now) 0 s (search rules)
+returns-in_default-clause-count c reading bytes s = stored_count reading c.args.self.now bytes (length c.args.input.now) 0 s (search rules)
 
 pub returns-in_default-2-clause-count : goal.returns-in_default-2-clause-count
-returns-in_default-2-clause-count c bytes s = stored_count c.args.self.now bytes (length c.args.input.now) 0 s (search rules)
+returns-in_default-2-clause-count c reading bytes s = stored_count reading c.args.self.now bytes (length c.args.input.now) 0 s (search rules)

@@ -5,7 +5,7 @@ use Rattle.std.proofs.lemmas.Bool.{ne_eqb}
 use Rattle.std.proofs.KnownBytes.{Appends-kept}
 use Rattle.vp_join.proofs.Cuts.{part_is}
 use Rattle.vp_join.proofs.Streams.{took_none, took_more}
-use Rattle.vp_join.proofs.passes.write_all.Goals as goal
+use Rattle.vp_join.proofs.writing.write_all.Goals as goal
 
 pub returns-in_default-clause-writes : goal.returns-in_default-clause-writes
 returns-in_default-clause-writes g c = grind (arith, take-append-drop c.writes.from c.args.bytes.now, Appends-kept)
