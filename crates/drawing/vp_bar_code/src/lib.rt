@@ -12,6 +12,8 @@ pub enum BarCode {
     Ean13 { padded: bool },
     /// Code 128 (ISO/IEC 15417).
     Code128 { data: Code128Data },
+    /// Interleaved 2 of 5 (ISO/IEC 16390), with its check digit or without.
+    Interleaved { check: bool },
 }
 
 /// How data name the code sets of Code 128.

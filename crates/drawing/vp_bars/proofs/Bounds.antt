@@ -5,16 +5,17 @@ use Rattle.std.proofs.Math.Nat.{mul-le-mul_left}
 use Rattle.std.proofs.lemmas.Bool.{leb-true, eqb-true, lt-ltb}
 use Rattle.std.proofs.lemmas.List.{length-append, length-take, length-drop, get_or-take}
 use Rattle.vp_bars.specs.declared.symbology.Symbology.{Symbology}
-use Rattle.vp_bars.specs.declared.symbology.Symbology.TheVariants.{Code39, Ean13, Code128}
+use Rattle.vp_bars.specs.declared.symbology.Symbology.TheVariants.{Code39, Ean13, Code128, Interleaved}
 use Rattle.vp_dots.specs.declared.fault.Fault.{Fault}
 use Rattle.vp_dots.specs.declared.fault.Fault.TheVariants.{Symbol, SymbolTooLong}
 use Rattle.vp_dots.specs.declared.fault.Why.TheVariants.{Empty}
 use Rattle.vp_bar_code.specs.declared.BarCode.{BarCode}
 use Rattle.vp_bars.specs.Symbols.{Linear, within_length}
 use Rattle.vp_bars.specs.Patterns.{code39_table, code128_table}
+use Rattle.vp_bars.specs.Interleaved.{pairs_table}
 use Rattle.vp_bars.specs.Elements.{set_a_widths, set_a_elements, set_b_elements, left_elements, ean13_elements}
-use Rattle.vp_bars.specs.Symbologies.{symbol_of, size_of, pattern_of}
-use Rattle.vp_bars.specs.Widths.{sized, next_widths, widths_of, bar_widths, width_of, black_of, in_bar, total}
+use Rattle.vp_bars.specs.Symbologies.{symbol_of, size_of, pattern_of, start_of, stop_of}
+use Rattle.vp_bars.specs.Widths.{sized, next_widths, widths_of, framed_widths, bar_widths, width_of, black_of, in_bar, total}
 use Rattle.vp_bars.proofs.Draws.{total-append}
 use Rattle.vp_bars.proofs.Tables.{each_row}
 use Rattle.vp_bars.proofs.Lists.{list_all_get}
@@ -65,6 +66,14 @@ module _ (n w : ℕ) (n_fits : n ≤ 65535) (w_fits : w ≤ 65535) where
   pattern_light Ean13 v = light _ Ean13 (each_row (λ es. leb (total es + length es) 20) set_a_widths v refl refl)
   pattern_light Code128 v = light _ Code128 (each_row (λ es. leb (total es + length es) 20) code128_table v refl refl)
 
+  pattern_light Interleaved v = light _ Interleaved (each_row (λ es. leb (total es + length es) 20) pairs_table v refl refl)
+
+  start_light : (s : Symbology) → total (sized s n w (start_of s)) ≤ 20 * 65535
+  start_light s = grind (arith, light)
+
+  stop_light : (s : Symbology) → total (sized s n w (stop_of s)) ≤ 20 * 65535
+  stop_light s = grind (arith, light)
+
   next_light : (s : Symbology) (v : ℕ) → total (next_widths s n w v) ≤ 21 * 65535
   next_light s v = grind (arith, total-append, pattern_light)
 
@@ -75,6 +84,10 @@ module _ (n w : ℕ) (n_fits : n ≤ 65535) (w_fits : w ≤ 65535) where
   characters_light : (s : Symbology) (vs : List ℕ) → total (widths_of s n w vs) ≤ length vs * (21 * 65535)
   characters_light s vs = grind (arith, total-append, pattern_light, flat_light, next_light)
 
+  framed_light : (s : Symbology) (vs : List ℕ) → total (framed_widths s n w vs) ≤ length vs * (21 * 65535) + 40 * 65535
+  framed_light s vs = omega (arith, start_light s, stop_light s, flat_light (next_widths s n w) (next_light s) vs,
+      total-append (sized s n w (start_of s)) (flat_map (next_widths s n w) vs ++ sized s n w (stop_of s)), total-append (flat_map (next_widths s n w) vs) (sized s n w (stop_of s)))
+
   digits_light : (vs : List ℕ) → length vs ≤ 258 → total (sized Ean13 n w (ean13_elements vs)) < 2 ^ 30
   digits_light vs h = omega (arith, weigh Ean13 (ean13_elements vs), mass_digits vs h)
 
@@ -82,6 +95,7 @@ pub narrow_bars : (s : Symbology) (n w : ℕ) (vs : List ℕ) → n < 65536 → 
 narrow_bars Code39 n w vs h k l = omega (arith, characters_light n w (omega arith) (omega arith) Code39 vs)
 narrow_bars Ean13 n w vs h k l = digits_light n w (omega arith) (omega arith) vs l
 narrow_bars Code128 n w vs h k l = omega (arith, characters_light n w (omega arith) (omega arith) Code128 vs)
+narrow_bars Interleaved n w vs h k l = omega (arith, framed_light n w (omega arith) (omega arith) Interleaved vs)
 
 -- the modules of a character of Code 128 other than the stop
 eleven : (v : ℕ) → v < 106 → total (pattern_of Code128 v) ≡ 11

@@ -17,5 +17,8 @@ pub mod Modules
 pub mod Bounds
 pub mod Regular
 pub mod Shown
+pub mod SignValues
+pub mod Sums
+pub mod PairsOfDigits
 pub mod BoxRows
 pub mod TextLines

@@ -8,6 +8,9 @@ pub mod Invocations
 pub mod Packing
 pub mod Texts
 pub mod Patterns
+pub mod Signs
+pub mod Checks
+pub mod Interleaved
 pub mod Elements
 pub mod Symbologies
 pub mod Widths

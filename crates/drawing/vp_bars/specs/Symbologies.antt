@@ -2,7 +2,7 @@
 use Rattle.std.specs.Prelude.{ℕ, ◌*◌, ◌==◌, true, false, List, [], ◌∷◌, Result, if◌then◌else◌}
 use Rattle.vp_dots.specs.declared.fault.Fault.{Fault}
 use Rattle.vp_bars.specs.declared.symbology.Symbology.{Symbology}
-use Rattle.vp_bars.specs.declared.symbology.Symbology.TheVariants.{Code39, Ean13, Code128}
+use Rattle.vp_bars.specs.declared.symbology.Symbology.TheVariants.{Code39, Ean13, Code128, Interleaved}
 use Rattle.vp_bar_code.specs.declared.BarCode.{BarCode}
 use Rattle.vp_bar_code.specs.declared.BarCode.TheVariants as codes
 use Rattle.vp_bar_code.specs.declared.Code128Data.TheVariants.{Escapes, Invocations, Packed}
@@ -14,6 +14,7 @@ use Rattle.vp_bars.specs.Packing.{code128_zpl_of}
 use Rattle.vp_bars.specs.Texts.{characters, shown_by}
 use Rattle.vp_bars.specs.Patterns.{code39_pattern, code128_pattern}
 use Rattle.vp_bars.specs.Elements.{set_a_elements}
+use Rattle.vp_bars.specs.Interleaved.{interleaved_of, pair_pattern, pairs_shown}
 
 -- the symbol of the data of a bar code, or why there is none
 abbrev pub symbol_of : BarCode → List ℕ → Result Linear Fault
@@ -22,30 +23,54 @@ symbol_of (codes.Ean13 padded) bytes = ean13_of bytes padded
 symbol_of (codes.Code128 Escapes) bytes = code128_esc_of bytes
 symbol_of (codes.Code128 Invocations) bytes = code128_zpl_of bytes false
 symbol_of (codes.Code128 Packed) bytes = code128_zpl_of bytes true
+symbol_of (codes.Interleaved check) bytes = interleaved_of bytes check
 
 -- the elements of a character
 abbrev pub pattern_of : Symbology → ℕ → List ℕ
 pattern_of Code39 v = code39_pattern v
 pattern_of Ean13 v = set_a_elements v
 pattern_of Code128 v = code128_pattern v
+pattern_of Interleaved v = pair_pattern v
 
 -- the elements between two characters: a narrow gap in Code 39
 abbrev pub gap_of : Symbology → List ℕ
 gap_of Code39 = 0 ∷ []
 gap_of Ean13 = []
 gap_of Code128 = []
+gap_of Interleaved = []
 
--- how wide an element is in dots: Code 39 has narrow and wide ones, Code 128 and EAN-13 have them of one to
--- four modules
+-- the elements before the first character and behind the last one, where they are no value's
+abbrev pub start_of : Symbology → List ℕ
+start_of Code39 = []
+start_of Ean13 = []
+start_of Code128 = []
+start_of Interleaved = 0 ∷ 0 ∷ 0 ∷ 0 ∷ []
+
+abbrev pub stop_of : Symbology → List ℕ
+stop_of Code39 = []
+stop_of Ean13 = []
+stop_of Code128 = []
+stop_of Interleaved = 1 ∷ 0 ∷ 0 ∷ []
+
+-- how wide an element is in dots: narrow or wide, or of one to four modules
 abbrev pub size_of : Symbology → ℕ → ℕ → ℕ → ℕ
 size_of Code39 narrow wide e = if e == 1 then wide else narrow
 size_of Ean13 narrow wide e = e * narrow
 size_of Code128 narrow wide e = e * narrow
+size_of Interleaved narrow wide e = if e == 1 then wide else narrow
 
 abbrev pub text_of_values : Symbology → List ℕ → List ℕ
 text_of_values Code39 vs = characters vs
 text_of_values Ean13 vs = characters vs
 text_of_values Code128 vs = shown_by vs
+text_of_values Interleaved vs = pairs_shown vs
+
+-- the most values of a symbol
+abbrev pub most_values : Symbology → ℕ
+most_values Code39 = 258
+most_values Ean13 = 258
+most_values Code128 = 258
+most_values Interleaved = 256
 
 -- the text of a symbol: data and check of Code 39, thirteen digits, or what the data of Code 128 show
 unfoldable pub text_of : Linear → List ℕ

@@ -38,11 +38,12 @@ impl Model for Bars {
 }
 
 impl Bars {
-    ghost use Rattle.vp_bars.specs.Symbologies.{text_of};
+    ghost use Rattle.vp_bars.specs.Symbologies.{text_of, most_values};
     ghost use Rattle.vp_bars.specs.Widths.{bars_width};
 
     /// The symbol of these values.
     pub(crate) fn new(symbology: Symbology, values: ArrayVec<u8, 258>) -> Self
+        requires { length values.items ≤ most_values symbology }
         ensures { result ≡ record { symbology = symbology; values = values.items } }
     {
         let regular = regular(symbology, values.as_slice());
@@ -95,7 +96,7 @@ impl Bars {
     {
         let strokes = self.strokes(narrow, wide);
         match self.symbology {
-            Symbology::Ean13 => {
+            Symbology::Ean13 | Symbology::Interleaved => {
                 let pen = Pen { x: 0, bar: true };
                 let (end, _) = strokes.draw_bars(pen, Op::Black, 0, &mut []);
                 end.x

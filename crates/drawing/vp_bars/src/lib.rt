@@ -17,15 +17,18 @@
 
 mod bar_box;
 mod bars;
+mod checks;
 mod code_128;
 mod code_39;
 mod ean_13;
 mod escapes;
+mod interleaved;
 mod invocations;
 mod laws;
 mod packing;
 mod patterns;
 mod pen;
+mod signs;
 mod strokes;
 mod symbology;
 mod text;
@@ -35,6 +38,7 @@ pub use bars::{Bars, DATA_BYTES};
 pub use code_39::code39;
 pub use ean_13::ean13;
 pub use escapes::code128_esc;
+pub use interleaved::interleaved_symbol;
 pub use laws::{
     code39_patterns_law, code39_text_law, code128_patterns_law, data_are_counted,
     ean13_patterns_law, ean13_text_law, packed_text_law, set_b_text_law,

@@ -2,12 +2,13 @@
 
 ghost use Rattle.std.specs.Prelude.{◌≡◌, ◌≤◌, ◌^◌, ◌<◌, length};
 ghost use Rattle.vp_bars.specs.Regular.{is_regular as is_regular_in, regular_width as width_of_regular, AreRegular};
-ghost use Rattle.vp_bars.specs.Symbologies.{symbol_of, pattern_of as pattern_for, gap_of as gap_for, size_of as size_for, text_of_values};
+ghost use Rattle.vp_bars.specs.Symbologies.{symbol_of, pattern_of as pattern_for, gap_of as gap_for, start_of as start_for, stop_of as stop_for, size_of as size_for, text_of_values, most_values};
 
 use crate::bars::Bars;
 use crate::code_39::code39;
 use crate::ean_13::ean13;
 use crate::escapes::code128_esc;
+use crate::interleaved::{interleaved_symbol, pair_elements, shown_pairs};
 use crate::packing::code128_zpl;
 use crate::patterns::{code39_pattern, code128_pattern, set_a};
 use crate::text::{characters, shown_data};
@@ -24,10 +25,12 @@ pub enum Symbology {
     Ean13,
     /// ISO/IEC 15417.
     Code128,
+    /// ISO/IEC 16390.
+    Interleaved,
 }
 
-/// The symbol of the data of a bar code, or why there is none, as `code39`, `ean13`, `code128_esc` and
-/// `code128_zpl` say.
+/// The symbol of the data of a bar code, or why there is none, as `code39`, `ean13`, `code128_esc`,
+/// `code128_zpl` and `interleaved_symbol` say.
 pub fn linear(code: BarCode, bytes: &[u8]) -> Result<Bars, Fault>
     ensures { result ≡ symbol_of code bytes.now }
 {
@@ -43,6 +46,7 @@ pub fn linear(code: BarCode, bytes: &[u8]) -> Result<Bars, Fault>
         BarCode::Code128 {
             data: Code128Data::Packed,
         } => code128_zpl(bytes, true),
+        BarCode::Interleaved { check } => interleaved_symbol(bytes, check),
     }
 }
 
@@ -54,6 +58,7 @@ pub(crate) fn pattern_of(symbology: Symbology, v: u8) -> &'static [u8]
         Symbology::Code39 => code39_pattern(v),
         Symbology::Ean13 => set_a(v),
         Symbology::Code128 => code128_pattern(v),
+        Symbology::Interleaved => pair_elements(v),
     }
 }
 
@@ -63,7 +68,27 @@ pub(crate) fn gap_of(symbology: Symbology) -> &'static [u8]
 {
     match symbology {
         Symbology::Code39 => &[0],
-        Symbology::Ean13 | Symbology::Code128 => &[],
+        Symbology::Ean13 | Symbology::Code128 | Symbology::Interleaved => &[],
+    }
+}
+
+/// The elements before the first character, where they are no value's.
+pub(crate) fn start_of(symbology: Symbology) -> &'static [u8]
+    ensures { result.now ≡ start_for symbology }
+{
+    match symbology {
+        Symbology::Code39 | Symbology::Ean13 | Symbology::Code128 => &[],
+        Symbology::Interleaved => &[0, 0, 0, 0],
+    }
+}
+
+/// The elements behind the last character, where they are no value's.
+pub(crate) fn stop_of(symbology: Symbology) -> &'static [u8]
+    ensures { result.now ≡ stop_for symbology }
+{
+    match symbology {
+        Symbology::Code39 | Symbology::Ean13 | Symbology::Code128 => &[],
+        Symbology::Interleaved => &[1, 0, 0],
     }
 }
 
@@ -73,8 +98,8 @@ pub(crate) fn size_of(symbology: Symbology, narrow: u16, wide: u16, element: u8)
     ensures { result ≡ size_for symbology narrow wide element }
 {
     match symbology {
-        Symbology::Code39 if element == 1 => u32::from(wide),
-        Symbology::Code39 => u32::from(narrow),
+        Symbology::Code39 | Symbology::Interleaved if element == 1 => u32::from(wide),
+        Symbology::Code39 | Symbology::Interleaved => u32::from(narrow),
         Symbology::Ean13 | Symbology::Code128 => u32::from(element) * u32::from(narrow),
     }
 }
@@ -87,6 +112,7 @@ pub(crate) fn is_regular(symbology: Symbology, v: u8) -> bool
         Symbology::Code39 => v < 44,
         Symbology::Ean13 => v < 10,
         Symbology::Code128 => v < 106,
+        Symbology::Interleaved => v < 100,
     }
 }
 
@@ -112,16 +138,18 @@ pub(crate) fn regular_width(symbology: Symbology, narrow: u16, wide: u16) -> u32
         Symbology::Code39 => 6 * narrow + 3 * wide,
         Symbology::Ean13 => 7 * narrow,
         Symbology::Code128 => 11 * narrow,
+        Symbology::Interleaved => 6 * narrow + 4 * wide,
     }
 }
 
 /// What values show.
 pub(crate) fn text_of(symbology: Symbology, values: &[u8]) -> ArrayVec<u8, 512>
-    requires { length values.now ≤ 258 }
+    requires { length values.now ≤ most_values symbology }
     ensures { result.items ≡ text_of_values symbology values.now }
 {
     match symbology {
         Symbology::Code39 | Symbology::Ean13 => characters(values),
         Symbology::Code128 => shown_data(values),
+        Symbology::Interleaved => shown_pairs(values),
     }
 }
