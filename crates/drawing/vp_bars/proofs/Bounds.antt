@@ -5,7 +5,7 @@ use Rattle.std.proofs.Math.Nat.{mul-le-mul_left}
 use Rattle.std.proofs.lemmas.Bool.{leb-true, eqb-true, lt-ltb}
 use Rattle.std.proofs.lemmas.List.{length-append, length-take, length-drop, get_or-take}
 use Rattle.vp_bars.specs.declared.symbology.Symbology.{Symbology}
-use Rattle.vp_bars.specs.declared.symbology.Symbology.TheVariants.{Code39, Ean13, Code128, Interleaved}
+use Rattle.vp_bars.specs.declared.symbology.Symbology.TheVariants.{Code39, Ean13, Code128, Interleaved, Codabar, Code11, Msi}
 use Rattle.vp_dots.specs.declared.fault.Fault.{Fault}
 use Rattle.vp_dots.specs.declared.fault.Fault.TheVariants.{Symbol, SymbolTooLong}
 use Rattle.vp_dots.specs.declared.fault.Why.TheVariants.{Empty}
@@ -13,6 +13,9 @@ use Rattle.vp_bar_code.specs.declared.BarCode.{BarCode}
 use Rattle.vp_bars.specs.Symbols.{Linear, within_length}
 use Rattle.vp_bars.specs.Patterns.{code39_table, code128_table}
 use Rattle.vp_bars.specs.Interleaved.{pairs_table}
+use Rattle.vp_bars.specs.Codabar.{codabar_table}
+use Rattle.vp_bars.specs.Code11.{code11_table}
+use Rattle.vp_bars.specs.Msi.{msi_table}
 use Rattle.vp_bars.specs.Elements.{set_a_widths, set_a_elements, set_b_elements, left_elements, ean13_elements}
 use Rattle.vp_bars.specs.Symbologies.{symbol_of, size_of, pattern_of, start_of, stop_of}
 use Rattle.vp_bars.specs.Widths.{sized, next_widths, widths_of, framed_widths, bar_widths, width_of, black_of, in_bar, total}
@@ -67,6 +70,9 @@ module _ (n w : ℕ) (n_fits : n ≤ 65535) (w_fits : w ≤ 65535) where
   pattern_light Code128 v = light _ Code128 (each_row (λ es. leb (total es + length es) 20) code128_table v refl refl)
 
   pattern_light Interleaved v = light _ Interleaved (each_row (λ es. leb (total es + length es) 20) pairs_table v refl refl)
+  pattern_light Codabar v = light _ Codabar (each_row (λ es. leb (total es + length es) 20) codabar_table v refl refl)
+  pattern_light Code11 v = light _ Code11 (each_row (λ es. leb (total es + length es) 20) code11_table v refl refl)
+  pattern_light Msi v = light _ Msi (each_row (λ es. leb (total es + length es) 20) msi_table v refl refl)
 
   start_light : (s : Symbology) → total (sized s n w (start_of s)) ≤ 20 * 65535
   start_light s = grind (arith, light)
@@ -96,6 +102,9 @@ narrow_bars Code39 n w vs h k l = omega (arith, characters_light n w (omega arit
 narrow_bars Ean13 n w vs h k l = digits_light n w (omega arith) (omega arith) vs l
 narrow_bars Code128 n w vs h k l = omega (arith, characters_light n w (omega arith) (omega arith) Code128 vs)
 narrow_bars Interleaved n w vs h k l = omega (arith, framed_light n w (omega arith) (omega arith) Interleaved vs)
+narrow_bars Codabar n w vs h k l = omega (arith, characters_light n w (omega arith) (omega arith) Codabar vs)
+narrow_bars Code11 n w vs h k l = omega (arith, framed_light n w (omega arith) (omega arith) Code11 vs)
+narrow_bars Msi n w vs h k l = omega (arith, framed_light n w (omega arith) (omega arith) Msi vs)
 
 -- the modules of a character of Code 128 other than the stop
 eleven : (v : ℕ) → v < 106 → total (pattern_of Code128 v) ≡ 11
@@ -117,7 +126,7 @@ pub black_is : (s : Symbology) (n w : ℕ) (vs : List ℕ) (x : ℕ) → black_o
 black_is s n w vs x = grind (arith, ean13_bars)
 
 -- the bars of the symbologies of characters
-pub characters_are : (s : Symbology) (n w : ℕ) (vs : List ℕ) → (s ≡ Code39) ⊎ (s ≡ Code128) → bar_widths s n w vs ≡ widths_of s n w vs
+pub characters_are : (s : Symbology) (n w : ℕ) (vs : List ℕ) → (s ≡ Code39) ⊎ (s ≡ Code128) ⊎ (s ≡ Codabar) → bar_widths s n w vs ≡ widths_of s n w vs
 characters_are s n w vs h1 = grind arith
 
 none-within : (symbol : Result Linear Fault) (bytes : List ℕ) → length bytes ≡ 0 → within_length bytes symbol ≡ Err (Symbol Empty)

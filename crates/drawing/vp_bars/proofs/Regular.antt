@@ -12,10 +12,11 @@ use Rattle.vp_dots.proofs.Paints.{painted_same}
 use Rattle.vp_dots.proofs.Shifts.{shifted_same}
 use Rattle.vp_bars.specs.declared.pen.Pen.{Pen}
 use Rattle.vp_bars.specs.declared.symbology.Symbology.{Symbology}
-use Rattle.vp_bars.specs.declared.symbology.Symbology.TheVariants.{Code39, Ean13, Code128, Interleaved}
+use Rattle.vp_bars.specs.declared.symbology.Symbology.TheVariants.{Code39, Ean13, Code128, Interleaved, Codabar, Code11, Msi}
 use Rattle.vp_bars.specs.Patterns.{code39_table, code128_table}
 use Rattle.vp_bars.specs.Elements.{set_a_widths}
 use Rattle.vp_bars.specs.Interleaved.{pairs_table}
+use Rattle.vp_bars.specs.Msi.{msi_table}
 use Rattle.vp_bars.specs.Symbologies.{size_of, gap_of, start_of, stop_of, pattern_of}
 use Rattle.vp_bars.specs.Widths.{sized, next_widths, widths_of, framed_widths, in_bar, total}
 use Rattle.vp_bars.specs.Regular.{IsRegular, AreRegular, regular_width, step_of}
@@ -50,6 +51,12 @@ of_pair es = eqb (wides es) 4 && eqb (narrows es) 6
 pair_row : (v : ℕ) → v < 100 → of_pair (pattern_of Interleaved v) ≡ true
 pair_row v h = list_all_get of_pair pairs_table v [] h refl
 
+abbrev of_msi : List ℕ → Bool
+of_msi es = eqb (wides es) 4 && eqb (narrows es) 4
+
+msi_row : (v : ℕ) → v < 10 → of_msi (pattern_of Msi v) ≡ true
+msi_row v h = list_all_get of_msi msi_table v [] h refl
+
 seven : (v : ℕ) → v < 10 → total (pattern_of Ean13 v) ≡ 7
 seven v h = eqb-true _ _ (list_all_get (λ es. eqb (total es) 7) set_a_widths v [] h refl)
 
@@ -59,6 +66,9 @@ regular_one Code39 n w v h = grind (arith, nat_tests, by_wides (size_of Code39 n
 regular_one Ean13 n w v h = by_modules n (pattern_of Ean13 v) ∙ ap (λ k. k * n) (seven v (ltb-true v 10 h))
 regular_one Code128 n w v h = eleven_modules n w v (ltb-true v 106 h)
 regular_one Interleaved n w v h = grind (arith, nat_tests, by_wides (size_of Interleaved n w) n w (λ e. refl) (pattern_of Interleaved v), pair_row v)
+regular_one Codabar n w v h = cc
+regular_one Code11 n w v h = cc
+regular_one Msi n w v h = grind (arith, nat_tests, by_wides (size_of Msi n w) n w (λ e. refl) (pattern_of Msi v), msi_row v)
 
 regular_next : (s : Symbology) (n w v : ℕ) → IsRegular s v → total (next_widths s n w v) ≡ step_of s n w
 regular_next s n w v h = total-append (sized s n w (gap_of s)) (sized s n w (pattern_of s v)) ∙ ap (λ k. total (sized s n w (gap_of s)) + k) (regular_one s n w v h)
@@ -89,6 +99,10 @@ turned_next Code128 n w v bar h = turned_odd (size_of Code128 n w) bar (pattern_
     ∙ list_all_get (λ es. not (eqb (length es % 2) 1)) (take 106 code128_table) v [] (ltb-true v 106 h) refl))
 turned_next Interleaved n w v bar h = turned_odd (size_of Interleaved n w) bar (pattern_of Interleaved v)
     ∙ ap (λ b. cond b (not bar) bar) (even _ (list_all_get (λ es. not (eqb (length es % 2) 1)) pairs_table v [] (ltb-true v 100 h) refl))
+turned_next Codabar n w v bar h = cc
+turned_next Code11 n w v bar h = cc
+turned_next Msi n w v bar h = turned_odd (size_of Msi n w) bar (pattern_of Msi v)
+    ∙ ap (λ b. cond b (not bar) bar) (even _ (list_all_get (λ es. not (eqb (length es % 2) 1)) msi_table v [] (ltb-true v 10 h) refl))
 
 regular_turned : (s : Symbology) (n w : ℕ) (bar : Bool) (vs : List ℕ) → All (IsRegular s) vs → turned bar (flat_map (next_widths s n w) vs) ≡ bar
 regular_turned s n w bar [] h = refl

@@ -11,6 +11,9 @@ pub mod Patterns
 pub mod Signs
 pub mod Checks
 pub mod Interleaved
+pub mod Codabar
+pub mod Code11
+pub mod Msi
 pub mod Elements
 pub mod Symbologies
 pub mod Widths

@@ -2,7 +2,7 @@
 use Rattle.std.specs.Prelude.{ℕ, ◌*◌, ◌==◌, true, false, List, [], ◌∷◌, Result, if◌then◌else◌}
 use Rattle.vp_dots.specs.declared.fault.Fault.{Fault}
 use Rattle.vp_bars.specs.declared.symbology.Symbology.{Symbology}
-use Rattle.vp_bars.specs.declared.symbology.Symbology.TheVariants.{Code39, Ean13, Code128, Interleaved}
+use Rattle.vp_bars.specs.declared.symbology.Symbology.TheVariants.{Code39, Ean13, Code128, Interleaved, Codabar, Code11, Msi}
 use Rattle.vp_bar_code.specs.declared.BarCode.{BarCode}
 use Rattle.vp_bar_code.specs.declared.BarCode.TheVariants as codes
 use Rattle.vp_bar_code.specs.declared.Code128Data.TheVariants.{Escapes, Invocations, Packed}
@@ -14,6 +14,10 @@ use Rattle.vp_bars.specs.Packing.{code128_zpl_of}
 use Rattle.vp_bars.specs.Texts.{characters, shown_by}
 use Rattle.vp_bars.specs.Patterns.{code39_pattern, code128_pattern}
 use Rattle.vp_bars.specs.Elements.{set_a_elements}
+use Rattle.vp_bars.specs.Signs.{digits, signs_of}
+use Rattle.vp_bars.specs.Codabar.{codabar_signs, codabar_of, codabar_pattern}
+use Rattle.vp_bars.specs.Code11.{code11_signs, code11_of, code11_pattern, code11_end}
+use Rattle.vp_bars.specs.Msi.{msi_of, msi_pattern}
 use Rattle.vp_bars.specs.Interleaved.{interleaved_of, pair_pattern, pairs_shown}
 
 -- the symbol of the data of a bar code, or why there is none
@@ -24,6 +28,9 @@ symbol_of (codes.Code128 Escapes) bytes = code128_esc_of bytes
 symbol_of (codes.Code128 Invocations) bytes = code128_zpl_of bytes false
 symbol_of (codes.Code128 Packed) bytes = code128_zpl_of bytes true
 symbol_of (codes.Interleaved check) bytes = interleaved_of bytes check
+symbol_of codes.Codabar bytes = codabar_of bytes
+symbol_of (codes.Code11 checks) bytes = code11_of bytes checks
+symbol_of (codes.Msi checks) bytes = msi_of bytes checks
 
 -- the elements of a character
 abbrev pub pattern_of : Symbology → ℕ → List ℕ
@@ -31,39 +38,61 @@ pattern_of Code39 v = code39_pattern v
 pattern_of Ean13 v = set_a_elements v
 pattern_of Code128 v = code128_pattern v
 pattern_of Interleaved v = pair_pattern v
+pattern_of Codabar v = codabar_pattern v
+pattern_of Code11 v = code11_pattern v
+pattern_of Msi v = msi_pattern v
 
--- the elements between two characters: a narrow gap in Code 39
+-- the elements between two characters: a narrow gap, or none
 abbrev pub gap_of : Symbology → List ℕ
 gap_of Code39 = 0 ∷ []
 gap_of Ean13 = []
 gap_of Code128 = []
 gap_of Interleaved = []
+gap_of Codabar = 0 ∷ []
+gap_of Code11 = 0 ∷ []
+gap_of Msi = []
 
--- the elements before the first character and behind the last one, where they are no value's
+-- the elements before the first character and behind the last one, where they are no value's; a gap before the
+-- stop of Code 11
 abbrev pub start_of : Symbology → List ℕ
 start_of Code39 = []
 start_of Ean13 = []
 start_of Code128 = []
 start_of Interleaved = 0 ∷ 0 ∷ 0 ∷ 0 ∷ []
+start_of Codabar = []
+start_of Code11 = code11_end
+start_of Msi = 1 ∷ 0 ∷ []
 
 abbrev pub stop_of : Symbology → List ℕ
 stop_of Code39 = []
 stop_of Ean13 = []
 stop_of Code128 = []
 stop_of Interleaved = 1 ∷ 0 ∷ 0 ∷ []
+stop_of Codabar = []
+stop_of Code11 = 0 ∷ code11_end
+stop_of Msi = 0 ∷ 1 ∷ 0 ∷ []
 
 -- how wide an element is in dots: narrow or wide, or of one to four modules
+abbrev pub two_sizes : ℕ → ℕ → ℕ → ℕ
+two_sizes narrow wide e = if e == 1 then wide else narrow
+
 abbrev pub size_of : Symbology → ℕ → ℕ → ℕ → ℕ
-size_of Code39 narrow wide e = if e == 1 then wide else narrow
+size_of Code39 narrow wide e = two_sizes narrow wide e
 size_of Ean13 narrow wide e = e * narrow
 size_of Code128 narrow wide e = e * narrow
-size_of Interleaved narrow wide e = if e == 1 then wide else narrow
+size_of Interleaved narrow wide e = two_sizes narrow wide e
+size_of Codabar narrow wide e = two_sizes narrow wide e
+size_of Code11 narrow wide e = two_sizes narrow wide e
+size_of Msi narrow wide e = two_sizes narrow wide e
 
 abbrev pub text_of_values : Symbology → List ℕ → List ℕ
 text_of_values Code39 vs = characters vs
 text_of_values Ean13 vs = characters vs
 text_of_values Code128 vs = shown_by vs
 text_of_values Interleaved vs = pairs_shown vs
+text_of_values Codabar vs = signs_of codabar_signs vs
+text_of_values Code11 vs = signs_of code11_signs vs
+text_of_values Msi vs = signs_of digits vs
 
 -- the most values of a symbol
 abbrev pub most_values : Symbology → ℕ
@@ -71,7 +100,10 @@ most_values Code39 = 258
 most_values Ean13 = 258
 most_values Code128 = 258
 most_values Interleaved = 256
+most_values Codabar = 258
+most_values Code11 = 258
+most_values Msi = 258
 
--- the text of a symbol: data and check of Code 39, thirteen digits, or what the data of Code 128 show
+-- the text of a symbol: data and checks, or what the data of Code 128 show
 unfoldable pub text_of : Linear → List ℕ
 text_of bars = text_of_values bars.symbology bars.values

@@ -2,7 +2,7 @@
 use Rattle.std.specs.Prelude.{ℕ, ◌+◌, ◌-◌, ◌*◌, ◌==◌, Bool, true, false, not, List, [], ◌∷◌, ◌++◌, map, length, take, drop, nat_lt, if◌then◌else◌}
 use Rattle.std.specs.List.{flat_map}
 use Rattle.vp_bars.specs.declared.symbology.Symbology.{Symbology}
-use Rattle.vp_bars.specs.declared.symbology.Symbology.TheVariants.{Code39, Ean13, Code128, Interleaved}
+use Rattle.vp_bars.specs.declared.symbology.Symbology.TheVariants.{Code39, Ean13, Code128, Interleaved, Codabar, Code11, Msi}
 use Rattle.vp_bars.specs.Symbols.{Linear}
 use Rattle.vp_bars.specs.Elements.{ean13_elements}
 use Rattle.vp_bars.specs.Patterns.{set_a, set_b, set_c, parity}
@@ -62,6 +62,9 @@ bar_widths Code39 narrow wide vs = widths_of Code39 narrow wide vs
 bar_widths Ean13 narrow wide vs = sized Ean13 narrow wide (ean13_elements vs)
 bar_widths Code128 narrow wide vs = widths_of Code128 narrow wide vs
 bar_widths Interleaved narrow wide vs = framed_widths Interleaved narrow wide vs
+bar_widths Codabar narrow wide vs = widths_of Codabar narrow wide vs
+bar_widths Code11 narrow wide vs = framed_widths Code11 narrow wide vs
+bar_widths Msi narrow wide vs = framed_widths Msi narrow wide vs
 
 -- widths together
 abbrev pub total : List ℕ → ℕ
@@ -74,6 +77,9 @@ width_of Code39 narrow wide vs = total (widths_of Code39 narrow wide vs)
 width_of Ean13 narrow wide vs = length (ean13_modules vs) * narrow
 width_of Code128 narrow wide vs = total (widths_of Code128 narrow wide vs)
 width_of Interleaved narrow wide vs = total (framed_widths Interleaved narrow wide vs)
+width_of Codabar narrow wide vs = total (widths_of Codabar narrow wide vs)
+width_of Code11 narrow wide vs = total (framed_widths Code11 narrow wide vs)
+width_of Msi narrow wide vs = total (framed_widths Msi narrow wide vs)
 
 -- whether place x of a symbol is black
 abbrev pub black_of : Symbology → ℕ → ℕ → List ℕ → ℕ → Bool
@@ -81,6 +87,9 @@ black_of Code39 narrow wide vs x = in_bar true (widths_of Code39 narrow wide vs)
 black_of Ean13 narrow wide vs x = in_module narrow (ean13_modules vs) x
 black_of Code128 narrow wide vs x = in_bar true (widths_of Code128 narrow wide vs) x
 black_of Interleaved narrow wide vs x = in_bar true (framed_widths Interleaved narrow wide vs) x
+black_of Codabar narrow wide vs x = in_bar true (widths_of Codabar narrow wide vs) x
+black_of Code11 narrow wide vs x = in_bar true (framed_widths Code11 narrow wide vs) x
+black_of Msi narrow wide vs x = in_bar true (framed_widths Msi narrow wide vs) x
 
 abbrev pub bars_width : Linear → ℕ → ℕ → ℕ
 bars_width bars narrow wide = width_of bars.symbology narrow wide bars.values

@@ -96,12 +96,14 @@ impl Bars {
     {
         let strokes = self.strokes(narrow, wide);
         match self.symbology {
-            Symbology::Ean13 | Symbology::Interleaved => {
+            Symbology::Ean13 | Symbology::Interleaved | Symbology::Code11 | Symbology::Msi => {
                 let pen = Pen { x: 0, bar: true };
                 let (end, _) = strokes.draw_bars(pen, Op::Black, 0, &mut []);
                 end.x
             }
-            Symbology::Code39 | Symbology::Code128 => strokes.characters_width(),
+            Symbology::Code39 | Symbology::Code128 | Symbology::Codabar => {
+                strokes.characters_width()
+            }
         }
     }
 

@@ -18,6 +18,8 @@
 mod bar_box;
 mod bars;
 mod checks;
+mod codabar;
+mod code_11;
 mod code_128;
 mod code_39;
 mod ean_13;
@@ -25,6 +27,7 @@ mod escapes;
 mod interleaved;
 mod invocations;
 mod laws;
+mod msi;
 mod packing;
 mod patterns;
 mod pen;
@@ -35,6 +38,8 @@ mod text;
 
 pub use bar_box::{BarBox, alike_rows};
 pub use bars::{Bars, DATA_BYTES};
+pub use codabar::codabar_symbol;
+pub use code_11::code11;
 pub use code_39::code39;
 pub use ean_13::ean13;
 pub use escapes::code128_esc;
@@ -43,6 +48,7 @@ pub use laws::{
     code39_patterns_law, code39_text_law, code128_patterns_law, data_are_counted,
     ean13_patterns_law, ean13_text_law, packed_text_law, set_b_text_law,
 };
+pub use msi::msi_symbol;
 pub use packing::code128_zpl;
 pub use symbology::{Symbology, linear};
-pub use vp_bar_code::{BarCode, Code128Data, HriPosition};
+pub use vp_bar_code::{BarCode, Code11Checks, Code128Data, HriPosition, MsiChecks};

@@ -84,8 +84,8 @@ impl Strokes<'_> {
         ensures small { result < 2 ^ 21 }
     {
         let gap = match self.symbology {
-            Symbology::Code39 => u32::from(self.narrow),
-            Symbology::Ean13 | Symbology::Code128 | Symbology::Interleaved => 0,
+            Symbology::Code39 | Symbology::Codabar | Symbology::Code11 => u32::from(self.narrow),
+            Symbology::Ean13 | Symbology::Code128 | Symbology::Interleaved | Symbology::Msi => 0,
         };
         gap + regular_width(self.symbology, self.narrow, self.wide)
     }
@@ -381,8 +381,12 @@ impl Strokes<'_> {
     {
         match self.symbology {
             Symbology::Ean13 => self.draw_digits(pen, op, at, row),
-            Symbology::Interleaved => self.draw_framed(pen, op, at, row),
-            Symbology::Code39 | Symbology::Code128 => self.draw_characters(pen, op, at, row),
+            Symbology::Interleaved | Symbology::Code11 | Symbology::Msi => {
+                self.draw_framed(pen, op, at, row)
+            }
+            Symbology::Code39 | Symbology::Code128 | Symbology::Codabar => {
+                self.draw_characters(pen, op, at, row)
+            }
         }
     }
 }
