@@ -18,6 +18,14 @@ pub enum BarCode {
     Codabar,
     /// Code 11, with so many check characters.
     Code11 { checks: Code11Checks },
+    /// EAN-8 (ISO/IEC 15420), of 7 or 8 digits.
+    Ean8,
+    /// UPC-A (ISO/IEC 15420), of 11 or 12 digits.
+    UpcA,
+    /// UPC-E (ISO/IEC 15420), of 6 digits, or of a UPC-A that has a short form.
+    UpcE,
+    /// An add-on (ISO/IEC 15420), of 2 or 5 digits.
+    AddOn,
     /// MSI, with these check digits.
     Msi { checks: MsiChecks },
 }

@@ -20,5 +20,6 @@ pub mod Shown
 pub mod SignValues
 pub mod Sums
 pub mod PairsOfDigits
+pub mod InSets
 pub mod BoxRows
 pub mod TextLines

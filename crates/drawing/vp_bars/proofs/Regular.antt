@@ -12,7 +12,7 @@ use Rattle.vp_dots.proofs.Paints.{painted_same}
 use Rattle.vp_dots.proofs.Shifts.{shifted_same}
 use Rattle.vp_bars.specs.declared.pen.Pen.{Pen}
 use Rattle.vp_bars.specs.declared.symbology.Symbology.{Symbology}
-use Rattle.vp_bars.specs.declared.symbology.Symbology.TheVariants.{Code39, Ean13, Code128, Interleaved, Codabar, Code11, Msi}
+use Rattle.vp_bars.specs.declared.symbology.Symbology.TheVariants.{Code39, Ean13, Code128, Interleaved, Codabar, Code11, Msi, Ean8, UpcA, UpcE, AddOn}
 use Rattle.vp_bars.specs.Patterns.{code39_table, code128_table}
 use Rattle.vp_bars.specs.Elements.{set_a_widths}
 use Rattle.vp_bars.specs.Interleaved.{pairs_table}
@@ -68,6 +68,10 @@ regular_one Code128 n w v h = eleven_modules n w v (ltb-true v 106 h)
 regular_one Interleaved n w v h = grind (arith, nat_tests, by_wides (size_of Interleaved n w) n w (λ e. refl) (pattern_of Interleaved v), pair_row v)
 regular_one Codabar n w v h = cc
 regular_one Code11 n w v h = cc
+regular_one Ean8 n w v h = cc
+regular_one UpcA n w v h = cc
+regular_one UpcE n w v h = cc
+regular_one AddOn n w v h = cc
 regular_one Msi n w v h = grind (arith, nat_tests, by_wides (size_of Msi n w) n w (λ e. refl) (pattern_of Msi v), msi_row v)
 
 regular_next : (s : Symbology) (n w v : ℕ) → IsRegular s v → total (next_widths s n w v) ≡ step_of s n w
@@ -101,6 +105,10 @@ turned_next Interleaved n w v bar h = turned_odd (size_of Interleaved n w) bar (
     ∙ ap (λ b. cond b (not bar) bar) (even _ (list_all_get (λ es. not (eqb (length es % 2) 1)) pairs_table v [] (ltb-true v 100 h) refl))
 turned_next Codabar n w v bar h = cc
 turned_next Code11 n w v bar h = cc
+turned_next Ean8 n w v bar h = cc
+turned_next UpcA n w v bar h = cc
+turned_next UpcE n w v bar h = cc
+turned_next AddOn n w v bar h = cc
 turned_next Msi n w v bar h = turned_odd (size_of Msi n w) bar (pattern_of Msi v)
     ∙ ap (λ b. cond b (not bar) bar) (even _ (list_all_get (λ es. not (eqb (length es % 2) 1)) msi_table v [] (ltb-true v 10 h) refl))
 

@@ -1,9 +1,9 @@
--- Characters that are alike wide: all that a symbology has, but for the stop of Code 128, and none of Codabar
--- and Code 11.
+-- Characters that are alike wide: all that a symbology has, but for the stop of Code 128, or none, where they
+-- differ.
 use Rattle.std.specs.Prelude.{◌≡◌, ℕ, ◌+◌, ◌*◌, ◌≤◌, Bool, true, false, nat_lt, List, length, take}
 use Rattle.std.specs.List.{All}
 use Rattle.vp_bars.specs.declared.symbology.Symbology.{Symbology}
-use Rattle.vp_bars.specs.declared.symbology.Symbology.TheVariants.{Code39, Ean13, Code128, Interleaved, Codabar, Code11, Msi}
+use Rattle.vp_bars.specs.declared.symbology.Symbology.TheVariants.{Code39, Ean13, Code128, Interleaved, Codabar, Code11, Msi, Ean8, UpcA, UpcE, AddOn}
 use Rattle.vp_bars.specs.Symbologies.{gap_of}
 use Rattle.vp_bars.specs.Widths.{sized, total}
 
@@ -13,9 +13,8 @@ is_regular Code39 v = nat_lt v 44
 is_regular Ean13 v = nat_lt v 10
 is_regular Code128 v = nat_lt v 106
 is_regular Interleaved v = nat_lt v 100
-is_regular Codabar v = false
-is_regular Code11 v = false
 is_regular Msi v = nat_lt v 10
+is_regular _ v = false
 
 abbrev pub IsRegular : Symbology → ℕ → Type 0
 IsRegular symbology v = is_regular symbology v ≡ true
@@ -31,9 +30,8 @@ regular_width Code39 narrow wide = 6 * narrow + 3 * wide
 regular_width Ean13 narrow wide = 7 * narrow
 regular_width Code128 narrow wide = 11 * narrow
 regular_width Interleaved narrow wide = 6 * narrow + 4 * wide
-regular_width Codabar narrow wide = 0
-regular_width Code11 narrow wide = 0
 regular_width Msi narrow wide = 4 * narrow + 4 * wide
+regular_width _ narrow wide = 0
 
 -- and with the gap before it
 abbrev pub step_of : Symbology → ℕ → ℕ → ℕ

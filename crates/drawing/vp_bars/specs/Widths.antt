@@ -2,7 +2,7 @@
 use Rattle.std.specs.Prelude.{ℕ, ◌+◌, ◌-◌, ◌*◌, ◌==◌, Bool, true, false, not, List, [], ◌∷◌, ◌++◌, map, length, take, drop, nat_lt, if◌then◌else◌}
 use Rattle.std.specs.List.{flat_map}
 use Rattle.vp_bars.specs.declared.symbology.Symbology.{Symbology}
-use Rattle.vp_bars.specs.declared.symbology.Symbology.TheVariants.{Code39, Ean13, Code128, Interleaved, Codabar, Code11, Msi}
+use Rattle.vp_bars.specs.declared.symbology.Symbology.TheVariants.{Code39, Ean13, Code128, Interleaved, Codabar, Code11, Msi, Ean8, UpcA, UpcE, AddOn}
 use Rattle.vp_bars.specs.Symbols.{Linear}
 use Rattle.vp_bars.specs.Elements.{ean13_elements}
 use Rattle.vp_bars.specs.Patterns.{set_a, set_b, set_c, parity}
@@ -65,6 +65,10 @@ bar_widths Interleaved narrow wide vs = framed_widths Interleaved narrow wide vs
 bar_widths Codabar narrow wide vs = widths_of Codabar narrow wide vs
 bar_widths Code11 narrow wide vs = framed_widths Code11 narrow wide vs
 bar_widths Msi narrow wide vs = framed_widths Msi narrow wide vs
+bar_widths Ean8 narrow wide vs = framed_widths Ean8 narrow wide vs
+bar_widths UpcA narrow wide vs = framed_widths UpcA narrow wide vs
+bar_widths UpcE narrow wide vs = framed_widths UpcE narrow wide vs
+bar_widths AddOn narrow wide vs = framed_widths AddOn narrow wide vs
 
 -- widths together
 abbrev pub total : List ℕ → ℕ
@@ -80,6 +84,10 @@ width_of Interleaved narrow wide vs = total (framed_widths Interleaved narrow wi
 width_of Codabar narrow wide vs = total (widths_of Codabar narrow wide vs)
 width_of Code11 narrow wide vs = total (framed_widths Code11 narrow wide vs)
 width_of Msi narrow wide vs = total (framed_widths Msi narrow wide vs)
+width_of Ean8 narrow wide vs = total (framed_widths Ean8 narrow wide vs)
+width_of UpcA narrow wide vs = total (framed_widths UpcA narrow wide vs)
+width_of UpcE narrow wide vs = total (framed_widths UpcE narrow wide vs)
+width_of AddOn narrow wide vs = total (framed_widths AddOn narrow wide vs)
 
 -- whether place x of a symbol is black
 abbrev pub black_of : Symbology → ℕ → ℕ → List ℕ → ℕ → Bool
@@ -90,6 +98,10 @@ black_of Interleaved narrow wide vs x = in_bar true (framed_widths Interleaved n
 black_of Codabar narrow wide vs x = in_bar true (widths_of Codabar narrow wide vs) x
 black_of Code11 narrow wide vs x = in_bar true (framed_widths Code11 narrow wide vs) x
 black_of Msi narrow wide vs x = in_bar true (framed_widths Msi narrow wide vs) x
+black_of Ean8 narrow wide vs x = in_bar true (framed_widths Ean8 narrow wide vs) x
+black_of UpcA narrow wide vs x = in_bar true (framed_widths UpcA narrow wide vs) x
+black_of UpcE narrow wide vs x = in_bar true (framed_widths UpcE narrow wide vs) x
+black_of AddOn narrow wide vs x = in_bar true (framed_widths AddOn narrow wide vs) x
 
 abbrev pub bars_width : Linear → ℕ → ℕ → ℕ
 bars_width bars narrow wide = width_of bars.symbology narrow wide bars.values

@@ -96,13 +96,13 @@ impl Bars {
     {
         let strokes = self.strokes(narrow, wide);
         match self.symbology {
-            Symbology::Ean13 | Symbology::Interleaved | Symbology::Code11 | Symbology::Msi => {
+            Symbology::Code39 | Symbology::Code128 | Symbology::Codabar => {
+                strokes.characters_width()
+            }
+            _ => {
                 let pen = Pen { x: 0, bar: true };
                 let (end, _) = strokes.draw_bars(pen, Op::Black, 0, &mut []);
                 end.x
-            }
-            Symbology::Code39 | Symbology::Code128 | Symbology::Codabar => {
-                strokes.characters_width()
             }
         }
     }

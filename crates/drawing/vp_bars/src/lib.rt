@@ -15,6 +15,7 @@
 //! - `bar_box`: bars and text together.
 #![tactic(auto)]
 
+mod add_on;
 mod bar_box;
 mod bars;
 mod checks;
@@ -22,6 +23,7 @@ mod codabar;
 mod code_11;
 mod code_128;
 mod code_39;
+mod ean_8;
 mod ean_13;
 mod escapes;
 mod interleaved;
@@ -35,12 +37,17 @@ mod signs;
 mod strokes;
 mod symbology;
 mod text;
+mod upc;
+mod upc_a;
+mod upc_e;
 
+pub use add_on::addon;
 pub use bar_box::{BarBox, alike_rows};
 pub use bars::{Bars, DATA_BYTES};
 pub use codabar::codabar_symbol;
 pub use code_11::code11;
 pub use code_39::code39;
+pub use ean_8::ean8;
 pub use ean_13::ean13;
 pub use escapes::code128_esc;
 pub use interleaved::interleaved_symbol;
@@ -51,4 +58,6 @@ pub use laws::{
 pub use msi::msi_symbol;
 pub use packing::code128_zpl;
 pub use symbology::{Symbology, linear};
+pub use upc_a::upca;
+pub use upc_e::upce;
 pub use vp_bar_code::{BarCode, Code11Checks, Code128Data, HriPosition, MsiChecks};

@@ -85,7 +85,7 @@ impl Strokes<'_> {
     {
         let gap = match self.symbology {
             Symbology::Code39 | Symbology::Codabar | Symbology::Code11 => u32::from(self.narrow),
-            Symbology::Ean13 | Symbology::Code128 | Symbology::Interleaved | Symbology::Msi => 0,
+            _ => 0,
         };
         gap + regular_width(self.symbology, self.narrow, self.wide)
     }
@@ -381,12 +381,10 @@ impl Strokes<'_> {
     {
         match self.symbology {
             Symbology::Ean13 => self.draw_digits(pen, op, at, row),
-            Symbology::Interleaved | Symbology::Code11 | Symbology::Msi => {
-                self.draw_framed(pen, op, at, row)
-            }
             Symbology::Code39 | Symbology::Code128 | Symbology::Codabar => {
                 self.draw_characters(pen, op, at, row)
             }
+            _ => self.draw_framed(pen, op, at, row),
         }
     }
 }

@@ -4,10 +4,12 @@ ghost use Rattle.std.specs.Prelude.{◌≡◌, ◌≤◌, ◌^◌, ◌<◌, leng
 ghost use Rattle.vp_bars.specs.Regular.{is_regular as is_regular_in, regular_width as width_of_regular, AreRegular};
 ghost use Rattle.vp_bars.specs.Symbologies.{symbol_of, pattern_of as pattern_for, gap_of as gap_for, start_of as start_for, stop_of as stop_for, two_sizes, size_of as size_for, text_of_values, most_values};
 
+use crate::add_on::addon;
 use crate::bars::Bars;
 use crate::codabar::{CODABAR_SIGNS, codabar_pattern, codabar_symbol};
 use crate::code_11::{CODE11_SIGNS, code11, code11_pattern};
 use crate::code_39::code39;
+use crate::ean_8::ean8;
 use crate::ean_13::ean13;
 use crate::escapes::code128_esc;
 use crate::interleaved::{interleaved_symbol, pair_elements, shown_pairs};
@@ -16,6 +18,9 @@ use crate::msi::{msi_pattern, msi_symbol};
 use crate::patterns::{code39_pattern, code128_pattern, set_a};
 use crate::signs::{DIGITS, signs_of};
 use crate::text::{characters, shown_data};
+use crate::upc::{shown_digits, upc_pattern};
+use crate::upc_a::upca;
+use crate::upc_e::upce;
 use arrayvec::ArrayVec;
 use vp_bar_code::{BarCode, Code128Data};
 use vp_dots::Fault;
@@ -35,6 +40,11 @@ pub enum Symbology {
     Codabar,
     Code11,
     Msi,
+    /// ISO/IEC 15420, as the three that follow.
+    Ean8,
+    UpcA,
+    UpcE,
+    AddOn,
 }
 
 /// The symbol of the data of a bar code, or why there is none, as the function of its kind says.
@@ -57,6 +67,10 @@ pub fn linear(code: BarCode, bytes: &[u8]) -> Result<Bars, Fault>
         BarCode::Codabar => codabar_symbol(bytes),
         BarCode::Code11 { checks } => code11(bytes, checks),
         BarCode::Msi { checks } => msi_symbol(bytes, checks),
+        BarCode::Ean8 => ean8(bytes),
+        BarCode::UpcA => upca(bytes),
+        BarCode::UpcE => upce(bytes),
+        BarCode::AddOn => addon(bytes),
     }
 }
 
@@ -72,6 +86,7 @@ pub(crate) fn pattern_of(symbology: Symbology, v: u8) -> &'static [u8]
         Symbology::Codabar => codabar_pattern(v),
         Symbology::Code11 => code11_pattern(v),
         Symbology::Msi => msi_pattern(v),
+        Symbology::Ean8 | Symbology::UpcA | Symbology::UpcE | Symbology::AddOn => upc_pattern(v),
     }
 }
 
@@ -81,7 +96,7 @@ pub(crate) fn gap_of(symbology: Symbology) -> &'static [u8]
 {
     match symbology {
         Symbology::Code39 | Symbology::Codabar | Symbology::Code11 => &[0],
-        Symbology::Ean13 | Symbology::Code128 | Symbology::Interleaved | Symbology::Msi => &[],
+        _ => &[],
     }
 }
 
@@ -90,10 +105,10 @@ pub(crate) fn start_of(symbology: Symbology) -> &'static [u8]
     ensures { result.now ≡ start_for symbology }
 {
     match symbology {
-        Symbology::Code39 | Symbology::Ean13 | Symbology::Code128 | Symbology::Codabar => &[],
         Symbology::Interleaved => &[0, 0, 0, 0],
         Symbology::Code11 => &[0, 0, 1, 1, 0],
         Symbology::Msi => &[1, 0],
+        _ => &[],
     }
 }
 
@@ -102,10 +117,10 @@ pub(crate) fn stop_of(symbology: Symbology) -> &'static [u8]
     ensures { result.now ≡ stop_for symbology }
 {
     match symbology {
-        Symbology::Code39 | Symbology::Ean13 | Symbology::Code128 | Symbology::Codabar => &[],
         Symbology::Interleaved => &[1, 0, 0],
         Symbology::Code11 => &[0, 0, 0, 1, 1, 0],
         Symbology::Msi => &[0, 1, 0],
+        _ => &[],
     }
 }
 
@@ -126,7 +141,12 @@ pub(crate) fn size_of(symbology: Symbology, narrow: u16, wide: u16, element: u8)
     ensures { result ≡ size_for symbology narrow wide element }
 {
     match symbology {
-        Symbology::Ean13 | Symbology::Code128 => u32::from(element) * u32::from(narrow),
+        Symbology::Ean13
+        | Symbology::Code128
+        | Symbology::Ean8
+        | Symbology::UpcA
+        | Symbology::UpcE
+        | Symbology::AddOn => u32::from(element) * u32::from(narrow),
         Symbology::Code39
         | Symbology::Interleaved
         | Symbology::Codabar
@@ -145,7 +165,7 @@ pub(crate) fn is_regular(symbology: Symbology, v: u8) -> bool
         Symbology::Code128 => v < 106,
         Symbology::Interleaved => v < 100,
         Symbology::Msi => v < 10,
-        Symbology::Codabar | Symbology::Code11 => false,
+        _ => false,
     }
 }
 
@@ -173,7 +193,7 @@ pub(crate) fn regular_width(symbology: Symbology, narrow: u16, wide: u16) -> u32
         Symbology::Code128 => 11 * narrow,
         Symbology::Interleaved => 6 * narrow + 4 * wide,
         Symbology::Msi => 4 * narrow + 4 * wide,
-        Symbology::Codabar | Symbology::Code11 => 0,
+        _ => 0,
     }
 }
 
@@ -189,5 +209,6 @@ pub(crate) fn text_of(symbology: Symbology, values: &[u8]) -> ArrayVec<u8, 512>
         Symbology::Codabar => signs_of(CODABAR_SIGNS, values),
         Symbology::Code11 => signs_of(CODE11_SIGNS, values),
         Symbology::Msi => signs_of(DIGITS, values),
+        Symbology::Ean8 | Symbology::UpcA | Symbology::UpcE | Symbology::AddOn => shown_digits(values),
     }
 }
