@@ -26,6 +26,8 @@ pub enum BarCode {
     UpcE,
     /// An add-on (ISO/IEC 15420), of 2 or 5 digits.
     AddOn,
+    /// Code 93 (AIM BC5), with its two check characters.
+    Code93,
     /// MSI, with these check digits.
     Msi { checks: MsiChecks },
 }

@@ -12,11 +12,12 @@ use Rattle.vp_dots.proofs.Paints.{painted_same}
 use Rattle.vp_dots.proofs.Shifts.{shifted_same}
 use Rattle.vp_bars.specs.declared.pen.Pen.{Pen}
 use Rattle.vp_bars.specs.declared.symbology.Symbology.{Symbology}
-use Rattle.vp_bars.specs.declared.symbology.Symbology.TheVariants.{Code39, Ean13, Code128, Interleaved, Codabar, Code11, Msi, Ean8, UpcA, UpcE, AddOn}
+use Rattle.vp_bars.specs.declared.symbology.Symbology.TheVariants.{Code39, Ean13, Code128, Interleaved, Codabar, Code11, Msi, Ean8, UpcA, UpcE, AddOn, Code93}
 use Rattle.vp_bars.specs.Patterns.{code39_table, code128_table}
 use Rattle.vp_bars.specs.Elements.{set_a_widths}
 use Rattle.vp_bars.specs.Interleaved.{pairs_table}
 use Rattle.vp_bars.specs.Msi.{msi_table}
+use Rattle.vp_bars.specs.Code93.{code93_table}
 use Rattle.vp_bars.specs.Symbologies.{size_of, gap_of, start_of, stop_of, pattern_of}
 use Rattle.vp_bars.specs.Widths.{sized, next_widths, widths_of, framed_widths, in_bar, total}
 use Rattle.vp_bars.specs.Regular.{IsRegular, AreRegular, regular_width, step_of}
@@ -57,6 +58,9 @@ of_msi es = eqb (wides es) 4 && eqb (narrows es) 4
 msi_row : (v : ℕ) → v < 10 → of_msi (pattern_of Msi v) ≡ true
 msi_row v h = list_all_get of_msi msi_table v [] h refl
 
+nine : (v : ℕ) → v < 47 → total (pattern_of Code93 v) ≡ 9
+nine v h = eqb-true _ _ (list_all_get (λ es. eqb (total es) 9) code93_table v [] h refl)
+
 seven : (v : ℕ) → v < 10 → total (pattern_of Ean13 v) ≡ 7
 seven v h = eqb-true _ _ (list_all_get (λ es. eqb (total es) 7) set_a_widths v [] h refl)
 
@@ -72,6 +76,7 @@ regular_one Ean8 n w v h = cc
 regular_one UpcA n w v h = cc
 regular_one UpcE n w v h = cc
 regular_one AddOn n w v h = cc
+regular_one Code93 n w v h = by_modules n (pattern_of Code93 v) ∙ ap (λ k. k * n) (nine v (ltb-true v 47 h))
 regular_one Msi n w v h = grind (arith, nat_tests, by_wides (size_of Msi n w) n w (λ e. refl) (pattern_of Msi v), msi_row v)
 
 regular_next : (s : Symbology) (n w v : ℕ) → IsRegular s v → total (next_widths s n w v) ≡ step_of s n w
@@ -109,6 +114,8 @@ turned_next Ean8 n w v bar h = cc
 turned_next UpcA n w v bar h = cc
 turned_next UpcE n w v bar h = cc
 turned_next AddOn n w v bar h = cc
+turned_next Code93 n w v bar h = turned_odd (size_of Code93 n w) bar (pattern_of Code93 v)
+    ∙ ap (λ b. cond b (not bar) bar) (even _ (list_all_get (λ es. not (eqb (length es % 2) 1)) code93_table v [] (ltb-true v 47 h) refl))
 turned_next Msi n w v bar h = turned_odd (size_of Msi n w) bar (pattern_of Msi v)
     ∙ ap (λ b. cond b (not bar) bar) (even _ (list_all_get (λ es. not (eqb (length es % 2) 1)) msi_table v [] (ltb-true v 10 h) refl))
 

@@ -15,6 +15,7 @@ pub mod Interleaved
 pub mod Codabar
 pub mod Code11
 pub mod Msi
+pub mod Code93
 pub mod Upc
 pub mod Ean8
 pub mod UpcA

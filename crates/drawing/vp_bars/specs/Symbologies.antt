@@ -2,7 +2,7 @@
 use Rattle.std.specs.Prelude.{ℕ, ◌*◌, ◌==◌, true, false, List, [], ◌∷◌, Result, if◌then◌else◌}
 use Rattle.vp_dots.specs.declared.fault.Fault.{Fault}
 use Rattle.vp_bars.specs.declared.symbology.Symbology.{Symbology}
-use Rattle.vp_bars.specs.declared.symbology.Symbology.TheVariants.{Code39, Ean13, Code128, Interleaved, Codabar, Code11, Msi, Ean8, UpcA, UpcE, AddOn}
+use Rattle.vp_bars.specs.declared.symbology.Symbology.TheVariants.{Code39, Ean13, Code128, Interleaved, Codabar, Code11, Msi, Ean8, UpcA, UpcE, AddOn, Code93}
 use Rattle.vp_bar_code.specs.declared.BarCode.{BarCode}
 use Rattle.vp_bar_code.specs.declared.BarCode.TheVariants as codes
 use Rattle.vp_bar_code.specs.declared.Code128Data.TheVariants.{Escapes, Invocations, Packed}
@@ -18,6 +18,7 @@ use Rattle.vp_bars.specs.Signs.{digits, signs_of}
 use Rattle.vp_bars.specs.Codabar.{codabar_signs, codabar_of, codabar_pattern}
 use Rattle.vp_bars.specs.Code11.{code11_signs, code11_of, code11_pattern, code11_end}
 use Rattle.vp_bars.specs.Msi.{msi_of, msi_pattern}
+use Rattle.vp_bars.specs.Code93.{code93_of, code93_pattern, code93_start, code93_stop, code93_shown}
 use Rattle.vp_bars.specs.Upc.{upc_pattern, digits_shown}
 use Rattle.vp_bars.specs.Ean8.{ean8_of}
 use Rattle.vp_bars.specs.UpcA.{upca_of}
@@ -40,6 +41,7 @@ symbol_of codes.Ean8 bytes = ean8_of bytes
 symbol_of codes.UpcA bytes = upca_of bytes
 symbol_of codes.UpcE bytes = upce_of bytes
 symbol_of codes.AddOn bytes = add_on_of bytes
+symbol_of codes.Code93 bytes = code93_of bytes
 
 -- the elements of a character
 abbrev pub pattern_of : Symbology → ℕ → List ℕ
@@ -54,6 +56,7 @@ pattern_of Ean8 v = upc_pattern v
 pattern_of UpcA v = upc_pattern v
 pattern_of UpcE v = upc_pattern v
 pattern_of AddOn v = upc_pattern v
+pattern_of Code93 v = code93_pattern v
 
 -- the elements between two characters: a narrow gap, or none
 abbrev pub gap_of : Symbology → List ℕ
@@ -68,12 +71,14 @@ abbrev pub start_of : Symbology → List ℕ
 start_of Interleaved = 0 ∷ 0 ∷ 0 ∷ 0 ∷ []
 start_of Code11 = code11_end
 start_of Msi = 1 ∷ 0 ∷ []
+start_of Code93 = code93_start
 start_of _ = []
 
 abbrev pub stop_of : Symbology → List ℕ
 stop_of Interleaved = 1 ∷ 0 ∷ 0 ∷ []
 stop_of Code11 = 0 ∷ code11_end
 stop_of Msi = 0 ∷ 1 ∷ 0 ∷ []
+stop_of Code93 = code93_stop
 stop_of _ = []
 
 -- how wide an element is in dots: narrow or wide, or of one to four modules
@@ -92,6 +97,7 @@ size_of Ean8 narrow wide e = e * narrow
 size_of UpcA narrow wide e = e * narrow
 size_of UpcE narrow wide e = e * narrow
 size_of AddOn narrow wide e = e * narrow
+size_of Code93 narrow wide e = e * narrow
 
 abbrev pub text_of_values : Symbology → List ℕ → List ℕ
 text_of_values Code39 vs = characters vs
@@ -105,6 +111,7 @@ text_of_values Ean8 vs = digits_shown vs
 text_of_values UpcA vs = digits_shown vs
 text_of_values UpcE vs = digits_shown vs
 text_of_values AddOn vs = digits_shown vs
+text_of_values Code93 vs = code93_shown vs
 
 -- the most values of a symbol
 abbrev pub most_values : Symbology → ℕ

@@ -9,6 +9,7 @@ use crate::bars::Bars;
 use crate::codabar::{CODABAR_SIGNS, codabar_pattern, codabar_symbol};
 use crate::code_11::{CODE11_SIGNS, code11, code11_pattern};
 use crate::code_39::code39;
+use crate::code_93::{code93, code93_pattern, shown_signs};
 use crate::ean_8::ean8;
 use crate::ean_13::ean13;
 use crate::escapes::code128_esc;
@@ -40,6 +41,8 @@ pub enum Symbology {
     Codabar,
     Code11,
     Msi,
+    /// AIM BC5.
+    Code93,
     /// ISO/IEC 15420, as the three that follow.
     Ean8,
     UpcA,
@@ -71,6 +74,7 @@ pub fn linear(code: BarCode, bytes: &[u8]) -> Result<Bars, Fault>
         BarCode::UpcA => upca(bytes),
         BarCode::UpcE => upce(bytes),
         BarCode::AddOn => addon(bytes),
+        BarCode::Code93 => code93(bytes),
     }
 }
 
@@ -86,6 +90,7 @@ pub(crate) fn pattern_of(symbology: Symbology, v: u8) -> &'static [u8]
         Symbology::Codabar => codabar_pattern(v),
         Symbology::Code11 => code11_pattern(v),
         Symbology::Msi => msi_pattern(v),
+        Symbology::Code93 => code93_pattern(v),
         Symbology::Ean8 | Symbology::UpcA | Symbology::UpcE | Symbology::AddOn => upc_pattern(v),
     }
 }
@@ -108,6 +113,7 @@ pub(crate) fn start_of(symbology: Symbology) -> &'static [u8]
         Symbology::Interleaved => &[0, 0, 0, 0],
         Symbology::Code11 => &[0, 0, 1, 1, 0],
         Symbology::Msi => &[1, 0],
+        Symbology::Code93 => &[1, 1, 1, 1, 4, 1],
         _ => &[],
     }
 }
@@ -120,6 +126,7 @@ pub(crate) fn stop_of(symbology: Symbology) -> &'static [u8]
         Symbology::Interleaved => &[1, 0, 0],
         Symbology::Code11 => &[0, 0, 0, 1, 1, 0],
         Symbology::Msi => &[0, 1, 0],
+        Symbology::Code93 => &[1, 1, 1, 1, 4, 1, 1],
         _ => &[],
     }
 }
@@ -146,7 +153,8 @@ pub(crate) fn size_of(symbology: Symbology, narrow: u16, wide: u16, element: u8)
         | Symbology::Ean8
         | Symbology::UpcA
         | Symbology::UpcE
-        | Symbology::AddOn => u32::from(element) * u32::from(narrow),
+        | Symbology::AddOn
+        | Symbology::Code93 => u32::from(element) * u32::from(narrow),
         Symbology::Code39
         | Symbology::Interleaved
         | Symbology::Codabar
@@ -165,6 +173,7 @@ pub(crate) fn is_regular(symbology: Symbology, v: u8) -> bool
         Symbology::Code128 => v < 106,
         Symbology::Interleaved => v < 100,
         Symbology::Msi => v < 10,
+        Symbology::Code93 => v < 47,
         _ => false,
     }
 }
@@ -193,6 +202,7 @@ pub(crate) fn regular_width(symbology: Symbology, narrow: u16, wide: u16) -> u32
         Symbology::Code128 => 11 * narrow,
         Symbology::Interleaved => 6 * narrow + 4 * wide,
         Symbology::Msi => 4 * narrow + 4 * wide,
+        Symbology::Code93 => 9 * narrow,
         _ => 0,
     }
 }
@@ -209,6 +219,7 @@ pub(crate) fn text_of(symbology: Symbology, values: &[u8]) -> ArrayVec<u8, 512>
         Symbology::Codabar => signs_of(CODABAR_SIGNS, values),
         Symbology::Code11 => signs_of(CODE11_SIGNS, values),
         Symbology::Msi => signs_of(DIGITS, values),
+        Symbology::Code93 => shown_signs(values),
         Symbology::Ean8 | Symbology::UpcA | Symbology::UpcE | Symbology::AddOn => shown_digits(values),
     }
 }
