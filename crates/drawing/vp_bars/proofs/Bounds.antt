@@ -80,7 +80,6 @@ module _ (n w : ℕ) (n_fits : n ≤ 65535) (w_fits : w ≤ 65535) where
   pattern_light Code39 v = light _ Code39 (each_row (λ es. leb (total es + length es) 20) code39_table v refl refl)
   pattern_light Ean13 v = light _ Ean13 (each_row (λ es. leb (total es + length es) 20) set_a_widths v refl refl)
   pattern_light Code128 v = light _ Code128 (each_row (λ es. leb (total es + length es) 20) code128_table v refl refl)
-
   pattern_light Interleaved v = light _ Interleaved (each_row (λ es. leb (total es + length es) 20) pairs_table v refl refl)
   pattern_light Codabar v = light _ Codabar (each_row (λ es. leb (total es + length es) 20) codabar_table v refl refl)
   pattern_light Code11 v = light _ Code11 (each_row (λ es. leb (total es + length es) 20) code11_table v refl refl)
@@ -108,8 +107,14 @@ module _ (n w : ℕ) (n_fits : n ≤ 65535) (w_fits : w ≤ 65535) where
   characters_light s vs = grind (arith, total-append, pattern_light, flat_light, next_light)
 
   framed_light : (s : Symbology) (vs : List ℕ) → total (framed_widths s n w vs) ≤ length vs * (21 * 65535) + 40 * 65535
-  framed_light s vs = omega (arith, start_light s, stop_light s, flat_light (next_widths s n w) (next_light s) vs,
-      total-append (sized s n w (start_of s)) (flat_map (next_widths s n w) vs ++ sized s n w (stop_of s)), total-append (flat_map (next_widths s n w) vs) (sized s n w (stop_of s)))
+  framed_light s vs = omega (
+    arith,
+    start_light s,
+    stop_light s,
+    flat_light (next_widths s n w) (next_light s) vs,
+    total-append (sized s n w (start_of s)) (flat_map (next_widths s n w) vs ++ sized s n w (stop_of s)),
+    total-append (flat_map (next_widths s n w) vs) (sized s n w (stop_of s)),
+  )
 
   digits_light : (vs : List ℕ) → length vs ≤ 258 → total (sized Ean13 n w (ean13_elements vs)) < 2 ^ 30
   digits_light vs h = omega (arith, weigh Ean13 (ean13_elements vs), mass_digits vs h)

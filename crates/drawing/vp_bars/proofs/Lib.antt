@@ -21,5 +21,6 @@ pub mod SignValues
 pub mod Sums
 pub mod PairsOfDigits
 pub mod InSets
+pub mod SignTexts
 pub mod BoxRows
 pub mod TextLines

@@ -43,7 +43,10 @@ code11_checked Two vs = with_k (with_c vs)
 
 abbrev pub code11_symbol : Code11Checks → Option (List ℕ) → Result Linear Fault
 code11_symbol checks None = Err (Symbol Char)
-code11_symbol checks (Some vs) = Ok (record { symbology = symbologies.Code11; values = code11_checked checks vs })
+code11_symbol checks (Some vs) = Ok (record {
+  symbology = symbologies.Code11;
+  values = code11_checked checks vs;
+})
 
 -- the symbol for these bytes, or why there is none
 abbrev pub code11_of : List ℕ → Code11Checks → Result Linear Fault

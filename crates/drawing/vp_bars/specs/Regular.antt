@@ -3,7 +3,7 @@
 use Rattle.std.specs.Prelude.{◌≡◌, ℕ, ◌+◌, ◌*◌, ◌≤◌, Bool, true, false, nat_lt, List, length, take}
 use Rattle.std.specs.List.{All}
 use Rattle.vp_bars.specs.declared.symbology.Symbology.{Symbology}
-use Rattle.vp_bars.specs.declared.symbology.Symbology.TheVariants.{Code39, Ean13, Code128, Interleaved, Codabar, Code11, Msi, Ean8, UpcA, UpcE, AddOn, Code93}
+use Rattle.vp_bars.specs.declared.symbology.Symbology.TheVariants.{Code39, Ean13, Code128, Interleaved, Msi, Code93}
 use Rattle.vp_bars.specs.Symbologies.{gap_of}
 use Rattle.vp_bars.specs.Widths.{sized, total}
 
@@ -25,7 +25,8 @@ pub record AreRegular (symbology : Symbology) (count : ℕ) (values : List ℕ) 
   pub within : count ≤ length values
   pub each : All (IsRegular symbology) (take count values)
 
--- how wide each of them is: three of nine elements are wide, four of ten or of eight, or it has so many modules
+-- how wide each of them is: three of nine elements are wide, four of ten or of eight, or it has so many
+-- modules
 abbrev pub regular_width : Symbology → ℕ → ℕ → ℕ
 regular_width Code39 narrow wide = 6 * narrow + 3 * wide
 regular_width Ean13 narrow wide = 7 * narrow

@@ -65,8 +65,8 @@ gap_of Codabar = 0 ∷ []
 gap_of Code11 = 0 ∷ []
 gap_of _ = []
 
--- the elements before the first character and behind the last one, where they are no value's; a gap before the
--- stop of Code 11
+-- the elements before the first character and behind the last one, where they are no value's; a gap before
+-- the stop of Code 11
 abbrev pub start_of : Symbology → List ℕ
 start_of Interleaved = 0 ∷ 0 ∷ 0 ∷ 0 ∷ []
 start_of Code11 = code11_end

@@ -25,8 +25,8 @@ long_form system ds =
 abbrev pub are_zeros : ℕ → ℕ → List ℕ → Bool
 are_zeros from count ds = list_all (λ d. d == 0) (take count (drop from ds))
 
--- the six digits that stand for eleven of number system 0 or 1, if they have four zeros or more where these are
--- left out
+-- the six digits that stand for eleven of number system 0 or 1, if they have four zeros or more where these
+-- are left out
 abbrev pub short_form : List ℕ → Option (List ℕ)
 short_form ds =
     let d1 = slice_index ds 1 in let d2 = slice_index ds 2 in let d3 = slice_index ds 3 in

@@ -89,8 +89,8 @@ fn values_of(sets: &[u8], digits: &[u8]) -> ArrayVec<u8, 258>
 
 /// The add-on of these digits.
 ///
-/// Refused are, in this order: no bytes; more than 255 bytes (`SymbolTooLong`); a byte that isn't a digit; any
-/// count but 2 and 5.
+/// Refused are, in this order: no bytes; more than 255 bytes (`SymbolTooLong`); a byte that isn't a digit;
+/// any count but 2 and 5.
 pub fn addon(src: &[u8]) -> Result<Bars, Fault>
     ensures { result ≡ add_on_of src.now }
 {

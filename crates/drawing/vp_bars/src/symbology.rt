@@ -14,8 +14,8 @@ use crate::ean_8::ean8;
 use crate::ean_13::ean13;
 use crate::escapes::code128_esc;
 use crate::interleaved::{interleaved_symbol, pair_elements, shown_pairs};
-use crate::packing::code128_zpl;
 use crate::msi::{msi_pattern, msi_symbol};
+use crate::packing::code128_zpl;
 use crate::patterns::{code39_pattern, code128_pattern, set_a};
 use crate::signs::{DIGITS, signs_of};
 use crate::text::{characters, shown_data};
@@ -220,6 +220,8 @@ pub(crate) fn text_of(symbology: Symbology, values: &[u8]) -> ArrayVec<u8, 512>
         Symbology::Code11 => signs_of(CODE11_SIGNS, values),
         Symbology::Msi => signs_of(DIGITS, values),
         Symbology::Code93 => shown_signs(values),
-        Symbology::Ean8 | Symbology::UpcA | Symbology::UpcE | Symbology::AddOn => shown_digits(values),
+        Symbology::Ean8 | Symbology::UpcA | Symbology::UpcE | Symbology::AddOn => shown_digits(
+            values,
+        ),
     }
 }

@@ -1,4 +1,4 @@
-use Rattle.std.proofs.Common.{◌≡◌, ◌+◌, ◌*◌, ◌-◌, ◌≤◌, length, take, reverse}
+use Rattle.std.proofs.Common.{◌≡◌, ◌+◌, ◌*◌, ◌≤◌, length, take, reverse}
 use Rattle.vp_bars.specs.Ean13.{weighted}
 use Rattle.vp_bars.proofs.checks.mod10_check.Given as goal
 

@@ -1,4 +1,4 @@
-use Rattle.std.proofs.Common.{◌<◌, ◌∙◌, sym, length, arith}
+use Rattle.std.proofs.Common.{◌<◌, sym, length, arith}
 use Rattle.std.proofs.lemmas.List.Elements.{All-push}
 use Rattle.vp_bars.proofs.SignValues.{values_more, values_stop}
 use Rattle.vp_bars.proofs.signs.values_of_signs.Goals as goal

@@ -1,4 +1,4 @@
-use Rattle.std.proofs.Common.{◌≡◌, ◌+◌, ◌≤◌, ◌++◌, length, drop}
+use Rattle.std.proofs.Common.{◌≡◌, ◌+◌, ◌++◌, length, drop}
 use Rattle.vp_bars.specs.Upc.{in_sets}
 use Rattle.vp_bars.proofs.upc.push_in_sets.Given as goal
 
