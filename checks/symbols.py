@@ -44,8 +44,8 @@ LINEAR: Dict[str, Tuple[List[str], int, str, str]] = {
     "1": (["-b", "1", "--vers=1"], 2, "", ""), "2": (["-b", "1"], 2, "", ""),
     "M": (["-b", "47"], 2, "", ""), "m": (["-b", "47", "--vers=1"], 2, "", ""),
     "n": (["-b", "47", "--vers=2"], 2, "", ""), "o": (["-b", "47", "--vers=4"], 2, "", ""),
-    "8": (["-b", "13"], 1, "EAN-8", "ean8"), "A": (["-b", "34"], 1, "UPC-A", ""), "E": (["-b", "37"], 1, "UPC-E", "upce"),
-    "+": (["-b", "13"], 1, "EAN-13", "ean13")}
+    "8": (["-b", "13"], 1, "EAN-8", "ean8"), "A": (["-b", "34"], 1, "UPC-A", ""),
+    "E": (["-b", "37"], 1, "UPC-E", "upce"), "+": (["-b", "13"], 1, "EAN-13", "ean13")}
 ZBAR = ["zbarimg", "-q", "--raw", "-Sdisable", "-Si25.min-length=2", "-Si25.max-length=0", "-Scodabar.min-length=1",
         "-Sean2.enable", "-Sean5.enable"]
 # what an add-on stands behind
