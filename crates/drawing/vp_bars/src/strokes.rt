@@ -91,6 +91,7 @@ impl Strokes<'_> {
     }
 
     /// How wide a character is.
+    #[inline(always)]
     fn character_width(&self, v: u8) -> u32
         requires { total (sized self.now.symbology self.now.narrow self.now.wide
             (pattern_for self.now.symbology v)) < 2 ^ 32 }

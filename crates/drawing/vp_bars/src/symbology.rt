@@ -79,6 +79,7 @@ pub fn linear(code: BarCode, bytes: &[u8]) -> Result<Bars, Fault>
 }
 
 /// The elements of a character.
+#[inline(always)]
 pub(crate) fn pattern_of(symbology: Symbology, v: u8) -> &'static [u8]
     ensures { result.now ≡ pattern_for symbology v }
 {
@@ -164,6 +165,7 @@ pub(crate) fn size_of(symbology: Symbology, narrow: u16, wide: u16, element: u8)
 }
 
 /// Whether a character is one of those that are alike wide in its symbology.
+#[inline(always)]
 pub(crate) fn is_regular(symbology: Symbology, v: u8) -> bool
     ensures { result ≡ is_regular_in symbology v }
 {
