@@ -256,6 +256,7 @@ impl Strokes<'_> {
 
     /// Draws regular characters, each behind another: those that can be seen on the row. It gives the pen
     /// behind them all, and how many it handed out.
+    #[inline(always)]
     fn draw_regular(&self, values: &[u8], pen: Pen, op: Op, at: i64, row: &mut [u8]) -> (Pen, usize)
         requires regular { All (IsRegular self.now.symbology) values.now }
         requires room { pen.x + total (flat_map
@@ -303,6 +304,7 @@ impl Strokes<'_> {
     }
 
     /// Draws start, values and stop, and gives the pen behind them and how many of them all it handed out.
+    #[inline(never)]
     fn draw_framed(&self, pen: Pen, op: Op, at: i64, row: &mut [u8]) -> (Pen, usize)
         requires { pen.x + total (framed_widths self.now.symbology self.now.narrow self.now.wide
             self.now.values.now) < 2 ^ 32 }
