@@ -12,10 +12,7 @@ pub enum Order<'a> {
     /// A stream is printed or listed.
     Read(Stream<'a>),
     /// The images of this file are joined.
-    Join {
-        file: &'a str,
-        form: Form,
-    },
+    Join { file: &'a str, form: Form },
 }
 
 /// The form that a joined image is written in.
