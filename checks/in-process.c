@@ -188,7 +188,7 @@ static int bad(void) {
     expect(vp_held(&none, &held) == VP_NO_PRINTER && held.stored == 0 && held.band_rows == 0, "held of none");
     expect(vp_memory(&none, &bytes) == VP_NO_PRINTER && bytes == 0, "memory of none");
     vp_free(&none);
-    expect(vp_new(3, NULL, 0, NULL, 0, &printer) == VP_NO_LANGUAGE && printer.printer == NULL, "no such language");
+    expect(vp_new(5, NULL, 0, NULL, 0, &printer) == VP_NO_LANGUAGE && printer.printer == NULL, "no such language");
     expect(vp_new_listing(9, 0, &printer) == VP_NO_LANGUAGE && printer.printer == NULL, "a listing of none");
     const uint8_t p4[] = "P4\n192 384\n", p5[] = "P5\n";
     expect(vp_new(VP_RECEIPT, p5, 3, NULL, 0, &printer) == VP_SHEET_A_S1, "S1 of font A");
