@@ -25,7 +25,8 @@ while read -r line; do
 done <"$room/examples"
 "$vp" receipt --font-a examples/font-a.pbm examples/receipt.bin | cmp - "$room/at/order.pbm"
 "$vp" label --font-a examples/font-a.pbm examples/shipping.zpl | cmp - "$room/at/labels.pbm"
-if [ -e "$room/at/order.png" ]; then
+if [ -e "$room/at/order-0.png" ]; then
+    "$vp" join "$room/at/order.pbm" >"$room/at/whole.pbm"
     pngtopnm "$room/at/order.png" | cmp - "$room/at/whole.pbm"
     pngtopnm "$room/at/order-0.png" | cmp - "$room/at/labels.pbm"
     [ "$(find "$room/at" -name 'order-*.png' | wc -l)" -eq 1 ] || fail 'an example makes a PNG of its own input'
