@@ -70,9 +70,12 @@ class Asked(unittest.TestCase):
         """With the size of a symbol come the commands that it is drawn by, those before ESC @ no more."""
         ask, module, level = b'\x1d(k\x03\x001R0', b'\x1d(k\x03\x001C\5', b'\x1d(k\x03\x001E1'
         first, second = b'\x1d(k\x06\x001P0one', b'\x1d(k\x06\x001P0two'
-        stream = first + module + ask + second + level + ask + b'\x1b@' + ask
-        self.assertEqual([it.symbol for _, it in self.each('receipt', stream)],
+        stream = first + module + ask + RASTER + second + level + ask + b'\x1b@' + ask
+        # (a picture's data, whose head may come in two pieces, are none of the symbol's)
+        self.assertEqual([it.symbol for _, it in self.each('receipt', stream) if it.name == 'GS ( k'],
                          [module + first, module + level + second, b''])
+        picture = self.each('receipt', first + RASTER + ask)[-1][1]
+        self.assertEqual(picture.symbol, first)
 
     def test_as_they_come(self) -> None:
         """A request is given with its last byte, and nothing waits behind it."""

@@ -105,6 +105,8 @@ class _Symbol:
     def __init__(self) -> None:
         self._drawn: Deque[bytes] = deque(maxlen=self.MOST)
         self._stored = bytearray()
+        # how many bytes are still to be stored: those of a picture have the same lines
+        self._left = 0
 
     @staticmethod
     def _command(data: bytes) -> bytes:
@@ -112,7 +114,9 @@ class _Symbol:
 
     def take(self, words: List[str]) -> None:
         if words[0] == 'byte':
-            self._stored.append(int(words[1], 16))
+            if self._left:
+                self._left -= 1
+                self._stored.append(int(words[1], 16))
         elif words == ['esc', '40']:
             self._drawn.clear()
             self._stored.clear()
@@ -120,6 +124,7 @@ class _Symbol:
             data = bytes(int(it, 16) for it in words[5:])
             if words[6:8] == ['50', '30']:
                 self._stored = bytearray(data)
+                self._left = int(words[3], 16) + 256 * int(words[4], 16) - 3
             elif words[6] in self.SETTINGS:
                 self._drawn.append(self._command(data))
 

@@ -55,14 +55,19 @@ def handle_of(words: List[str]) -> Any:
     return printers(tuple(words), seen).start()._handle
 
 
-def side_of(request: Any, words: List[str]) -> int:
-    """How many dots the symbol is wide and high that a request asks about: what the printer prints of it. None is 0."""
-    package = package_of(words)
-    if not package or not request.symbol:
+@functools.lru_cache(64)
+def printed_side(symbol: bytes, words: Tuple[str, ...]) -> int:
+    """How many rows what prints a symbol makes of it; none where it can't be printed."""
+    package = package_of(list(words))
+    if not package:
         return 0
-    width = int((in_process.options(words[1:]) or {}).get('--width', '576'))
-    paper = package.Receipt(None, None, width).print(request.symbol + PRINT_SYMBOL)
-    return sum(it.height for it in paper)
+    width = int((in_process.options(list(words[1:])) or {}).get('--width', '576'))
+    return sum(it.height for it in package.Receipt(None, None, width).print(symbol + PRINT_SYMBOL))
+
+
+def side_of(request: Any, words: List[str]) -> int:
+    """How many dots the symbol is wide and high that a request asks about. None is 0."""
+    return printed_side(request.symbol, tuple(words)) if request.symbol else 0
 
 
 def part(package: Any, name: str) -> Any:
