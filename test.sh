@@ -121,6 +121,7 @@ if [ -z "$quick" ]; then
     run ./checks/gate.sh
     run ./checks/memory.sh
     run ./checks/symbols.py
+    run ./checks/fonts.py
     run ./checks/evidence.py out/gate.log
     run ./checks/trust.py out/gate.log
 fi

@@ -1,14 +1,16 @@
 #!/usr/bin/env python3
 """symbols.py [PROGRAM [NUMBER [SEED]]]: draws so many random payloads, 60 where none is said, as Data Matrix symbols
 of all sizes and leads, and as many as PDF417 symbols of all levels and shapes, and has ZXingReader, and of Data Matrix
-dmtxread too, read them back. PROGRAM is vp_draw_symbols as the gate builds it."""
+dmtxread too, read them back. As many are drawn of each linear code that no printer draws with: ZXingReader and zbarimg
+read those that they know, and each has the modules that zint draws. PROGRAM is vp_draw_symbols as the gate builds
+it."""
 import os
 import random
 import shutil
 import subprocess
 import sys
 import tempfile
-from typing import List, Tuple
+from typing import Dict, List, Optional, Tuple
 
 TOP = os.path.dirname(os.path.dirname(os.path.abspath(__file__)))
 BUILT = f"{TOP}/crates/tests/vp_draw_symbols/out/vp_draw_symbols"
@@ -33,6 +35,21 @@ KINDS = ["digits", "text", "bytes", "parts", *LETTERS]
 STACKED = {"digits": b"0123456789", "capitals": CAPITALS + b" ", "words": CAPITALS[:2] + CAPITALS.lower() + b"  ,.",
            "mixed": b"0123456789&#+%=^,:-.$/* \r\t", "marks": b";<>@[\\]_`~!\r\t,:\n-.$/\"|*()?{}' aB1",
            "text": bytes(range(32, 127)) + b"\t\n\r", "bytes": bytes(range(256)), "high": CAPITALS + b"\xe9\xff"}
+# the linear codes by the letters of vp_draw_symbols: zint's arguments, the dots of a wide element, and the words by
+# which ZXingReader and zbarimg know them
+DIGITS = "0123456789"
+LINEAR: Dict[str, Tuple[List[str], int, str, str]] = {
+    "I": (["-b", "3"], 3, "ITF", "i25"), "i": (["-b", "3", "--vers=1"], 3, "ITF", "i25"),
+    "B": (["-b", "18"], 2, "Codabar", "codabar"), "9": (["-b", "25"], 1, "Code93", "code93"),
+    "1": (["-b", "1", "--vers=1"], 2, "", ""), "2": (["-b", "1"], 2, "", ""),
+    "M": (["-b", "47"], 2, "", ""), "m": (["-b", "47", "--vers=1"], 2, "", ""),
+    "n": (["-b", "47", "--vers=2"], 2, "", ""), "o": (["-b", "47", "--vers=4"], 2, "", ""),
+    "8": (["-b", "13"], 1, "EAN-8", "ean8"), "A": (["-b", "34"], 1, "UPC-A", ""),
+    "E": (["-b", "37"], 1, "UPC-E", "upce"), "+": (["-b", "13"], 1, "EAN-13", "ean13")}
+ZBAR = ["zbarimg", "-q", "--raw", "-Sdisable", "-Si25.min-length=2", "-Si25.max-length=0", "-Scodabar.min-length=1",
+        "-Sean2.enable", "-Sean5.enable"]
+# what an add-on stands behind
+BOOK = b"400638133393"
 # the letter of a kind and what stands before the data or the level, rows, columns, data
 Case = Tuple[bytes, int, int, bytes]
 
@@ -93,6 +110,101 @@ def stacked(number: int) -> List[Case]:
         some.append((random.choice(b"FFC").to_bytes(1, "big") + (b"%d" % level if level < 9 else b"-"),
                      rows, columns, data))
     return some
+
+
+def check_digit(digits: str) -> str:
+    """Returns the check digit by the weights 3 and 1 from the right."""
+    return str(-sum(int(it) * (3, 1)[at % 2] for at, it in enumerate(reversed(digits))) % 10)
+
+
+def short(system: str) -> Tuple[str, str]:
+    """Returns the digits of a UPC-A that has a short form, and the six of it."""
+    some = "".join(random.choices(DIGITS, k=5))
+    last = random.randrange(10)
+    if last < 3:
+        return f"{system}{some[:2]}{last}0000{some[2:]}", f"{some}{last}"
+    if last == 3:
+        some = some[:2] + random.choice("3456789") + some[3:]
+        return f"{system}{some[:3]}00000{some[3:]}", f"{some}3"
+    if last == 4:
+        some = some[:3] + random.choice("123456789") + some[4:]
+        return f"{system}{some[:4]}00000{some[4]}", f"{some}4"
+    some = some[:4] + random.choice("123456789")
+    return f"{system}{some}0000{last}", f"{some}{last}"
+
+
+def linear(letter: str) -> Tuple[str, str, str]:
+    """Returns random data of a linear code, what they are for zint, and what a reader reads."""
+    def some(letters: str, least: int, most: int) -> str:
+        return "".join(random.choices(letters, k=random.randint(least, most)))
+    if letter in "Ii":
+        data = some(DIGITS, 6, 40)
+        whole = data + check_digit(data) if letter == "i" else data
+        return data, data, "0" * (len(whole) % 2) + whole
+    if letter == "B":
+        data = random.choice("ABCD") + some(DIGITS + "-$:/.+", 4, 30) + random.choice("ABCD")
+        return data, data, data
+    if letter == "9":
+        data = some(DIGITS + CAPITALS.decode() + "-. $/+%", 1, 30).strip() or "0"
+        return data, data, data
+    if letter == "E":
+        system = random.choice("001")
+        long, six = short(system)
+        data = six if system == "0" and random.randrange(2) else long + random.choice(["", "0"])
+        return data, system + six, system + six + check_digit(long)
+    if letter == "+":
+        data = some(DIGITS, 2, 2) if random.randrange(2) else some(DIGITS, 5, 5)
+        return data, data, data
+    if letter in "8A":
+        data = some(DIGITS, *((7, 7) if letter == "8" else (11, 11)))
+        return data, data, data + check_digit(data)
+    data = some(DIGITS + "-" if letter in "12" else DIGITS, 1, 40)
+    return data, data, data
+
+
+def modules_of_zint(words: List[str], data: str) -> str:
+    """Returns the modules that zint draws, without the spaces behind them."""
+    ran = subprocess.run(["zint", *words, "-d", data, "--dump"], stdout=subprocess.PIPE, stderr=subprocess.DEVNULL,
+                         check=False)
+    lines = [line for line in ran.stdout.decode().split("\n") if line and not line.startswith("Warning")]
+    return bin(int("1" + lines[0].replace(" ", ""), 16))[3:].rstrip("0") if lines else ""
+
+
+def read_linear(letter: str, tool: str, room: str, row: str, book: str) -> Optional[str]:
+    """Returns what a tool reads of a linear symbol, None where it doesn't know the kind."""
+    word = LINEAR[letter][2 if tool == "ZXingReader" else 3]
+    if not word:
+        return None
+    quiet = "0" * 10
+    rows = [quiet + (f"{book}{'0' * 9}{row}" if letter == "+" else row) + quiet] * 20
+    write(f"{room}/symbol.pbm", rows, 3)
+    with open(f"{room}/symbol.png", "wb") as image:
+        subprocess.run(["pnmtopng", "-quiet", f"{room}/symbol.pbm"], stdout=image, check=True)
+    words = ["ZXingReader", "-format", word, "-bytes"] if tool == "ZXingReader" else ZBAR + [f"-S{word}.enable"]
+    text = read(words + [f"{room}/symbol.png"]).decode("latin-1").split("\n")
+    if letter == "+":
+        return text[0].split(" ")[-1]
+    return text[0]
+
+
+def linear_offences(program: str, room: str, number: int, tools: List[str]) -> List[str]:
+    """Returns the linear symbols that have other modules than zint's, or are read otherwise."""
+    cases_of = [(letter, linear(letter)) for letter in LINEAR for _ in range(number)]
+    some = [(b"L" + letter.encode(), 1, LINEAR[letter][1], data.encode()) for letter, (data, _, _) in cases_of]
+    *symbols, book = drawn(program, some + [(b"Le", 1, 1, BOOK)])
+    wrong = []
+    for (letter, (data, for_zint, text)), (row,) in zip(cases_of, symbols):
+        if "zint" in tools and modules_of_zint(LINEAR[letter][0], for_zint) != row.rstrip("0"):
+            wrong.append(f"zint: {letter} {data}: {row}")
+        for tool in tools:
+            # zbarimg knows no UPC-E of number system 1
+            if tool == "zint" or tool == "zbarimg" and letter == "E" and text[0] == "1":
+                continue
+            said_text = read_linear(letter, tool, room, row, book[0])
+            bare = text[1:-1] if letter == "B" and tool == "ZXingReader" else text
+            if said_text is not None and said_text != bare:
+                wrong.append(f"{tool}: {letter} {data}: {said_text!r}")
+    return wrong
 
 
 def drawn(program: str, some: List[Case]) -> List[List[str]]:
@@ -172,7 +284,8 @@ def main() -> int:
     number = int(sys.argv[2]) if sys.argv[2:] else 60
     random.seed(int(sys.argv[3]) if sys.argv[3:] else 16022)
     tools = [tool for tool in COMMANDS if shutil.which(COMMANDS[tool][0]) and shutil.which("pnmtopng")]
-    for tool in COMMANDS.keys() - set(tools):
+    of_bars = [tool for tool in ("ZXingReader", "zbarimg", "zint") if shutil.which(tool) and shutil.which("pnmtopng")]
+    for tool in COMMANDS.keys() - set(tools) | {"zbarimg", "zint"} - set(of_bars):
         print(f"symbols: left out: no {tool}")
         if os.environ.get("VP_TOOLS_INSTALLED") == "1":
             return 1
@@ -185,12 +298,12 @@ def main() -> int:
         print(f"checks/symbols: {len(symbols)} symbols of {len(some)}")
         return 1
     with tempfile.TemporaryDirectory() as room:
-        wrong = offences(room, some, symbols, tools)
+        wrong = offences(room, some, symbols, tools) + linear_offences(program, room, number, of_bars)
     for it in wrong:
         print(f"checks/symbols: {it}")
     if not wrong:
-        print(f"{number} Data Matrix and {number} PDF417 symbols are read back by "
-              f"{', '.join(tools) or 'no reader: none is there'}: ok")
+        print(f"{number} Data Matrix and {number} PDF417 symbols, and {number} of each linear code, are read back by "
+              f"{', '.join(tools + of_bars[1:]) or 'no reader: none is there'}: ok")
     return 1 if wrong else 0
 
 

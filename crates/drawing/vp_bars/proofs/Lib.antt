@@ -17,5 +17,10 @@ pub mod Modules
 pub mod Bounds
 pub mod Regular
 pub mod Shown
+pub mod SignValues
+pub mod Sums
+pub mod PairsOfDigits
+pub mod InSets
+pub mod SignTexts
 pub mod BoxRows
 pub mod TextLines

@@ -1,6 +1,6 @@
 -- Regular characters: how wide they are together, and those that a row doesn't show.
 use Rattle.std.proofs.lemmas.Bool.Decides.{nat_tests}
-use Rattle.std.proofs.Common.{inl, inr, ◌≡◌, ℕ, zero, suc, ◌+◌, ◌-◌, ◌*◌, ◌%◌, ◌<◌, ◌≤◌, Bool, true, false, not, cond, eqb, ltb, ◌&&◌, List, [], ◌∷◌, ◌++◌, length, take, drop, map, refl, sym, ap, ◌∙◌, subst, arith, ℤ, pos, ◌+ℤ◌}
+use Rattle.std.proofs.Common.{inl, inr, ◌≡◌, ℕ, zero, suc, ◌+◌, ◌-◌, ◌*◌, ◌%◌, ◌<◌, ◌≤◌, Bool, true, false, not, cond, eqb, ltb, ◌&&◌, List, [], ◌∷◌, ◌++◌, length, take, drop, map, refl, sym, ap, ◌∙◌, append_assoc, subst, arith, ℤ, pos, ◌+ℤ◌}
 use Rattle.std.specs.List.{All, flat_map}
 use Rattle.std.proofs.lemmas.Bool.{cases_lt, eqb-true, ltb-true, lt-ltb, le-ltb}
 use Rattle.std.proofs.lemmas.List.{take-append-drop, get_or-take, length-take-le, length-drop, drop-drop}
@@ -12,11 +12,14 @@ use Rattle.vp_dots.proofs.Paints.{painted_same}
 use Rattle.vp_dots.proofs.Shifts.{shifted_same}
 use Rattle.vp_bars.specs.declared.pen.Pen.{Pen}
 use Rattle.vp_bars.specs.declared.symbology.Symbology.{Symbology}
-use Rattle.vp_bars.specs.declared.symbology.Symbology.TheVariants.{Code39, Ean13, Code128}
+use Rattle.vp_bars.specs.declared.symbology.Symbology.TheVariants.{Code39, Ean13, Code128, Interleaved, Codabar, Code11, Msi, Ean8, UpcA, UpcE, AddOn, Code93}
 use Rattle.vp_bars.specs.Patterns.{code39_table, code128_table}
 use Rattle.vp_bars.specs.Elements.{set_a_widths}
-use Rattle.vp_bars.specs.Symbologies.{size_of, gap_of, pattern_of}
-use Rattle.vp_bars.specs.Widths.{sized, next_widths, widths_of, in_bar, total}
+use Rattle.vp_bars.specs.Interleaved.{pairs_table}
+use Rattle.vp_bars.specs.Msi.{msi_table}
+use Rattle.vp_bars.specs.Code93.{code93_table}
+use Rattle.vp_bars.specs.Symbologies.{size_of, gap_of, start_of, stop_of, pattern_of}
+use Rattle.vp_bars.specs.Widths.{sized, next_widths, widths_of, framed_widths, in_bar, total}
 use Rattle.vp_bars.specs.Regular.{IsRegular, AreRegular, regular_width, step_of}
 use Rattle.vp_bars.specs.Drawing.{Draws, turned}
 use Rattle.vp_bars.proofs.Lists.{list_all_get}
@@ -33,9 +36,9 @@ abbrev narrows : List ℕ → ℕ
 narrows [] = 0
 narrows (e ∷ es) = cond (eqb e 1) 0 1 + narrows es
 
-by_wides : (n w : ℕ) (es : List ℕ) → total (map (size_of Code39 n w) es) ≡ wides es * w + narrows es * n
-by_wides n w [] = omega arith
-by_wides n w (e ∷ es) = grind (arith, by_wides n w es)
+by_wides : (f : ℕ → ℕ) (n w : ℕ) → ((e : ℕ) → f e ≡ cond (eqb e 1) w n) → (es : List ℕ) → total (map f es) ≡ wides es * w + narrows es * n
+by_wides f n w h [] = omega arith
+by_wides f n w h (e ∷ es) = grind (arith, by_wides f n w h es, h e)
 
 abbrev of_code39 : List ℕ → Bool
 of_code39 es = eqb (wides es) 3 && eqb (narrows es) 6
@@ -43,14 +46,38 @@ of_code39 es = eqb (wides es) 3 && eqb (narrows es) 6
 code39_row : (v : ℕ) → v < 44 → of_code39 (pattern_of Code39 v) ≡ true
 code39_row v h = list_all_get of_code39 code39_table v [] h refl
 
+abbrev of_pair : List ℕ → Bool
+of_pair es = eqb (wides es) 4 && eqb (narrows es) 6
+
+pair_row : (v : ℕ) → v < 100 → of_pair (pattern_of Interleaved v) ≡ true
+pair_row v h = list_all_get of_pair pairs_table v [] h refl
+
+abbrev of_msi : List ℕ → Bool
+of_msi es = eqb (wides es) 4 && eqb (narrows es) 4
+
+msi_row : (v : ℕ) → v < 10 → of_msi (pattern_of Msi v) ≡ true
+msi_row v h = list_all_get of_msi msi_table v [] h refl
+
+nine : (v : ℕ) → v < 47 → total (pattern_of Code93 v) ≡ 9
+nine v h = eqb-true _ _ (list_all_get (λ es. eqb (total es) 9) code93_table v [] h refl)
+
 seven : (v : ℕ) → v < 10 → total (pattern_of Ean13 v) ≡ 7
 seven v h = eqb-true _ _ (list_all_get (λ es. eqb (total es) 7) set_a_widths v [] h refl)
 
 -- how wide one is
 pub regular_one : (s : Symbology) (n w v : ℕ) → IsRegular s v → total (sized s n w (pattern_of s v)) ≡ regular_width s n w
-regular_one Code39 n w v h = grind (arith, nat_tests, by_wides n w (pattern_of Code39 v), code39_row v)
+regular_one Code39 n w v h = grind (arith, nat_tests, by_wides (size_of Code39 n w) n w (λ e. refl) (pattern_of Code39 v), code39_row v)
 regular_one Ean13 n w v h = by_modules n (pattern_of Ean13 v) ∙ ap (λ k. k * n) (seven v (ltb-true v 10 h))
 regular_one Code128 n w v h = eleven_modules n w v (ltb-true v 106 h)
+regular_one Interleaved n w v h = grind (arith, nat_tests, by_wides (size_of Interleaved n w) n w (λ e. refl) (pattern_of Interleaved v), pair_row v)
+regular_one Codabar n w v h = cc
+regular_one Code11 n w v h = cc
+regular_one Ean8 n w v h = cc
+regular_one UpcA n w v h = cc
+regular_one UpcE n w v h = cc
+regular_one AddOn n w v h = cc
+regular_one Code93 n w v h = by_modules n (pattern_of Code93 v) ∙ ap (λ k. k * n) (nine v (ltb-true v 47 h))
+regular_one Msi n w v h = grind (arith, nat_tests, by_wides (size_of Msi n w) n w (λ e. refl) (pattern_of Msi v), msi_row v)
 
 regular_next : (s : Symbology) (n w v : ℕ) → IsRegular s v → total (next_widths s n w v) ≡ step_of s n w
 regular_next s n w v h = total-append (sized s n w (gap_of s)) (sized s n w (pattern_of s v)) ∙ ap (λ k. total (sized s n w (gap_of s)) + k) (regular_one s n w v h)
@@ -79,6 +106,18 @@ turned_next Ean13 n w v bar h = turned_odd (size_of Ean13 n w) bar (pattern_of E
 turned_next Code128 n w v bar h = turned_odd (size_of Code128 n w) bar (pattern_of Code128 v) ∙ ap (λ b. cond b (not bar) bar) (even _ (
     ap (λ es. not (eqb (length es % 2) 1)) (sym (get_or-take 106 code128_table v [] (ltb-true v 106 h)))
     ∙ list_all_get (λ es. not (eqb (length es % 2) 1)) (take 106 code128_table) v [] (ltb-true v 106 h) refl))
+turned_next Interleaved n w v bar h = turned_odd (size_of Interleaved n w) bar (pattern_of Interleaved v)
+    ∙ ap (λ b. cond b (not bar) bar) (even _ (list_all_get (λ es. not (eqb (length es % 2) 1)) pairs_table v [] (ltb-true v 100 h) refl))
+turned_next Codabar n w v bar h = cc
+turned_next Code11 n w v bar h = cc
+turned_next Ean8 n w v bar h = cc
+turned_next UpcA n w v bar h = cc
+turned_next UpcE n w v bar h = cc
+turned_next AddOn n w v bar h = cc
+turned_next Code93 n w v bar h = turned_odd (size_of Code93 n w) bar (pattern_of Code93 v)
+    ∙ ap (λ b. cond b (not bar) bar) (even _ (list_all_get (λ es. not (eqb (length es % 2) 1)) code93_table v [] (ltb-true v 47 h) refl))
+turned_next Msi n w v bar h = turned_odd (size_of Msi n w) bar (pattern_of Msi v)
+    ∙ ap (λ b. cond b (not bar) bar) (even _ (list_all_get (λ es. not (eqb (length es % 2) 1)) msi_table v [] (ltb-true v 10 h) refl))
 
 regular_turned : (s : Symbology) (n w : ℕ) (bar : Bool) (vs : List ℕ) → All (IsRegular s) vs → turned bar (flat_map (next_widths s n w) vs) ≡ bar
 regular_turned s n w bar [] h = refl
@@ -177,6 +216,27 @@ parts_of s n w count k first values others us vs a e l u v =
       regular = regular;
       widths_are = widths;
       total_is = omega (arith, ap total widths, total-append (sized s n w (pattern_of s first)) (flat_map g us ++ flat_map g vs), total-append (flat_map g us) (flat_map g vs), regular_total s n w us regular);
+    }
+
+-- characters between start and stop: those that are regular from the first on, and the last ones
+pub record Framed (s : Symbology) (n w : ℕ) (values us vs : List ℕ) : Type 0 where
+  pub regular : All (IsRegular s) us
+  pub widths_are : sized s n w (start_of s) ++ (flat_map (next_widths s n w) us ++ (flat_map (next_widths s n w) vs ++ sized s n w (stop_of s))) ≡ framed_widths s n w values
+  pub total_is : total (sized s n w (start_of s)) + (step_of s n w * length us + (total (flat_map (next_widths s n w) vs) + total (sized s n w (stop_of s)))) ≡ total (framed_widths s n w values)
+
+pub framed_of : (s : Symbology) (n w k : ℕ) (values us vs : List ℕ) → AreRegular s k values → us ≡ take k values → vs ≡ drop k values → Framed s n w values us vs
+framed_of s n w k values us vs a u v =
+    let regular : All (IsRegular s) us = subst (All (IsRegular s)) (sym u) a.each in
+    let whole : us ++ vs ≡ values = ap (λ xs. xs ++ vs) u ∙ ap (λ xs. take k values ++ xs) v ∙ take-append-drop k values in
+    let g = next_widths s n w in
+    let start = sized s n w (start_of s) in
+    let stop = sized s n w (stop_of s) in
+    let widths : start ++ (flat_map g us ++ (flat_map g vs ++ stop)) ≡ framed_widths s n w values =
+    ap (λ ws. start ++ ws) (sym (append_assoc (flat_map g us) (flat_map g vs) stop) ∙ ap (λ ws. ws ++ stop) (sym (flat_append g us vs) ∙ ap (flat_map g) whole)) in
+    record {
+      regular = regular;
+      widths_are = widths;
+      total_is = omega (arith, ap total widths, total-append start (flat_map g us ++ (flat_map g vs ++ stop)), total-append (flat_map g us) (flat_map g vs ++ stop), total-append (flat_map g vs) stop, regular_total s n w us regular);
     }
 
 pub no_fewer : (k n : ℕ) → 0 < k → n ≤ k * n

@@ -2,9 +2,24 @@
 use Rattle.std.proofs.Common.{◌≡◌, ℕ, ◌+◌, ◌<◌, List, ◌++◌, length, get_or, drop, sym, ap, ◌∙◌, append_assoc, arith}
 use Rattle.std.proofs.lemmas.List.{drop_more}
 use Rattle.vp_bars.specs.declared.code_128.CodeSet.{CodeSet}
+use Rattle.vp_bars.specs.Interleaved.{pair_shown, pairs_shown}
+use Rattle.vp_bars.specs.Upc.{digit_shown, digits_shown}
+use Rattle.vp_bars.specs.Signs.{sign_of, signs_of}
 use Rattle.vp_bars.specs.Texts.{character_of, characters, text_in_set, set_behind, next_set, shown_from}
 
 -- one more value
+pub pairs_more : (vs text : List ℕ) (i : ℕ) → i < length vs → pairs_shown vs ≡ text ++ pairs_shown (drop i vs)
+    → pairs_shown vs ≡ (text ++ pair_shown (get_or vs i 0)) ++ pairs_shown (drop (i + 1) vs)
+pairs_more vs text i h e = e ∙ ap (λ us. text ++ pairs_shown us) (drop_more vs i 0 h) ∙ sym (append_assoc text (pair_shown (get_or vs i 0)) (pairs_shown (drop (i + 1) vs)))
+
+pub digits_more : (vs text : List ℕ) (i : ℕ) → i < length vs → digits_shown vs ≡ text ++ digits_shown (drop i vs)
+    → digits_shown vs ≡ (text ++ digit_shown (get_or vs i 0)) ++ digits_shown (drop (i + 1) vs)
+digits_more vs text i h e = e ∙ ap (λ us. text ++ digits_shown us) (drop_more vs i 0 h) ∙ sym (append_assoc text (digit_shown (get_or vs i 0)) (digits_shown (drop (i + 1) vs)))
+
+pub signs_more : (alphabet vs text : List ℕ) (i : ℕ) → i < length vs → signs_of alphabet vs ≡ text ++ signs_of alphabet (drop i vs)
+    → signs_of alphabet vs ≡ (text ++ sign_of alphabet (get_or vs i 0)) ++ signs_of alphabet (drop (i + 1) vs)
+signs_more alphabet vs text i h e = e ∙ ap (λ us. text ++ signs_of alphabet us) (drop_more vs i 0 h) ∙ sym (append_assoc text (sign_of alphabet (get_or vs i 0)) (signs_of alphabet (drop (i + 1) vs)))
+
 pub characters_more : (vs text : List ℕ) (i : ℕ) → i < length vs → characters vs ≡ text ++ characters (drop i vs)
     → characters vs ≡ (text ++ character_of (get_or vs i 0)) ++ characters (drop (i + 1) vs)
 characters_more vs text i h e = e ∙ ap (λ us. text ++ characters us) (drop_more vs i 0 h) ∙ sym (append_assoc text (character_of (get_or vs i 0)) (characters (drop (i + 1) vs)))

@@ -124,7 +124,7 @@ pub struct BarBox<'a, A: Small = Global> {
     pub bars: &'a Bars,
     /// The dots of a narrow element, or of a module.
     pub narrow: u16,
-    /// The dots of a wide element of Code 39.
+    /// The dots of a wide element, where there are such.
     pub wide: u16,
     /// The rows of the bars.
     pub height: u16,
@@ -157,8 +157,8 @@ impl Bars {
     /// The symbol as it is painted: its bars, and its text in unmagnified characters of a font, where that
     /// is asked for.
     ///
-    /// A narrow element of Code 39, and a module of the others, is `narrow` dots wide, a wide element
-    /// `wide`, which the others don't look at, and the bars are `height` dots high. The box is as wide as
+    /// A narrow element, or a module, is `narrow` dots wide, a wide element `wide`, which symbols of modules
+    /// don't look at, and the bars are `height` dots high. The box is as wide as
     /// the wider of bars and text, each in the middle of it (the odd dot on the right), and as high as the
     /// bars and the rows of the text above and below.
     pub fn boxed<'a, A: Small>(

@@ -38,11 +38,12 @@ impl Model for Bars {
 }
 
 impl Bars {
-    ghost use Rattle.vp_bars.specs.Symbologies.{text_of};
+    ghost use Rattle.vp_bars.specs.Symbologies.{text_of, most_values};
     ghost use Rattle.vp_bars.specs.Widths.{bars_width};
 
     /// The symbol of these values.
     pub(crate) fn new(symbology: Symbology, values: ArrayVec<u8, 258>) -> Self
+        requires { length values.items ≤ most_values symbology }
         ensures { result ≡ record { symbology = symbology; values = values.items } }
     {
         let regular = regular(symbology, values.as_slice());
@@ -62,8 +63,9 @@ impl Bars {
         self.symbology
     }
 
-    /// The values of its characters from the left, as the standard's tables have them: those of Code 39 and
-    /// Code 128 with start, check and stop, or the thirteen digits of EAN-13.
+    /// The values of its characters from the left, as the standard's tables have them: those of Code 39,
+    /// Code 128 and Codabar with start, check and stop, the thirteen digits of EAN-13, those of EAN-8, UPC
+    /// and add-ons with their guards, and of the others data and check, of Interleaved 2 of 5 two digits each.
     pub fn symbols(&self) -> &[u8]
         ensures values { result.now ≡ self.now.values }
         ensures most { length result.now ≤ 258 }
@@ -95,18 +97,21 @@ impl Bars {
     {
         let strokes = self.strokes(narrow, wide);
         match self.symbology {
-            Symbology::Ean13 => {
+            Symbology::Code39 | Symbology::Code128 | Symbology::Codabar => {
+                strokes.characters_width()
+            }
+            _ => {
                 let pen = Pen { x: 0, bar: true };
                 let (end, _) = strokes.draw_bars(pen, Op::Black, 0, &mut []);
                 end.x
             }
-            Symbology::Code39 | Symbology::Code128 => strokes.characters_width(),
         }
     }
 
     /// Its text, a byte a character: data and check of Code 39 without the stars, the thirteen digits of
     /// EAN-13, or what the data of Code 128 show, a byte for a value of set A or B, two digits for one of
-    /// set C, and nothing for a function character.
+    /// set C, and nothing for a function character. Of the others it is data and check, of Codabar with start
+    /// and stop, of Code 93 without the check.
     pub fn text(&self) -> ArrayVec<u8, 512>
         ensures { result.items ≡ text_of self.now }
     {

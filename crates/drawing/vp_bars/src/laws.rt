@@ -15,7 +15,13 @@ ghost use Rattle.vp_bar_code.specs.declared.BarCode.{BarCode};
 ghost use Rattle.vp_bars.specs.Symbologies.{symbol_of, text_of};
 ghost use Rattle.std.specs.List.{list_all, list_any};
 ghost use Rattle.vp_bars.specs.Patterns.{code39_table, code128_table};
-ghost use Rattle.vp_bars.specs.Laws.{distinct, three_of_nine, eleven_modules, thirteen_modules, digit_patterns, seven_modules};
+ghost use Rattle.vp_bars.specs.Laws.{distinct, three_of_nine, wide_of, codabar_elements, code11_elements, nine_modules, eleven_modules, thirteen_modules, digit_patterns, seven_modules, all_upce_sets};
+ghost use Rattle.vp_bars.specs.Interleaved.{two_of_five, pairs_table};
+ghost use Rattle.vp_bars.specs.Codabar.{codabar_table, codabar_of};
+ghost use Rattle.vp_bars.specs.Code11.{code11_table, code11_end};
+ghost use Rattle.vp_bars.specs.Msi.{msi_table};
+ghost use Rattle.vp_bars.specs.Code93.{code93_table, code93_start, code93_of};
+ghost use Rattle.vp_bars.specs.AddOn.{two_sets, five_sets};
 
 /// A law: each character of Code 39 has three wide elements of nine, and no two are alike.
 pub fn code39_patterns_law()
@@ -35,6 +41,48 @@ pub fn code128_patterns_law()
     ensures modules { IsTrue (list_all eleven_modules (take 106 code128_table)) }
     ensures stop { IsTrue (list_all thirteen_modules (drop 106 code128_table)) }
     ensures apart { IsTrue (distinct code128_table) }
+{}
+
+/// A law: two of the five elements of each digit of Interleaved 2 of 5 are wide, no two digits are alike, and
+/// no two of the hundred pairs.
+pub fn interleaved_patterns_law()
+    ensures elements { IsTrue (list_all (wide_of 2 5) two_of_five) }
+    ensures digits_apart { IsTrue (distinct two_of_five) }
+    ensures pairs_apart { IsTrue (distinct pairs_table) }
+{}
+
+/// A law: each character of Codabar has two or three wide elements of seven, each of Code 11 one or two of
+/// five, as start and stop have, and each digit of MSI four of eight; no two of one kind are alike.
+pub fn wide_patterns_law()
+    ensures codabar { IsTrue (list_all codabar_elements codabar_table) }
+    ensures codabar_apart { IsTrue (distinct codabar_table) }
+    ensures code11 { IsTrue (list_all code11_elements (code11_end ∷ code11_table)) }
+    ensures code11_apart { IsTrue (distinct (code11_end ∷ code11_table)) }
+    ensures msi { IsTrue (list_all (wide_of 4 8) msi_table) }
+    ensures msi_apart { IsTrue (distinct msi_table) }
+{}
+
+/// A law: each character of Code 93 has nine modules, as its start has, and no two are alike.
+pub fn code93_patterns_law()
+    ensures modules { IsTrue (list_all nine_modules (code93_start ∷ code93_table)) }
+    ensures apart { IsTrue (distinct (code93_start ∷ code93_table)) }
+{}
+
+/// A law: no two check digits have the same sets in UPC-E, nor two number systems; in either three digits
+/// are of set A and three of B. Nor have two remainders the same in an add-on, of five digits two in B.
+pub fn upc_sets_law()
+    ensures halves { IsTrue (list_all (wide_of 3 6) all_upce_sets) }
+    ensures apart { IsTrue (distinct all_upce_sets) }
+    ensures two_apart { IsTrue (distinct two_sets) }
+    ensures five { IsTrue (list_all (wide_of 2 5) five_sets) }
+    ensures five_apart { IsTrue (distinct five_sets) }
+{}
+
+/// A law: the text of a Codabar symbol is its data, with start and stop, and that of Code 93 its data,
+/// without the check characters.
+pub fn signs_text_law()
+    ensures codabar { (src : List ℕ) (bars : Linear) → codabar_of src ≡ Ok bars → text_of bars ≡ src }
+    ensures code93 { (src : List ℕ) (bars : Linear) → code93_of src ≡ Ok bars → text_of bars ≡ src }
 {}
 
 /// A law: the text of a Code 128 symbol whose data are packed by themselves is the data.

@@ -208,7 +208,7 @@ static PARITY: [[u8; 6]; 10] = [
 ];
 
 /// A row of a table, which is empty past its end.
-fn row<const N: usize>(table: &'static [[u8; N]], v: u8) -> &'static [u8]
+pub(crate) fn row<const N: usize>(table: &'static [[u8; N]], v: u8) -> &'static [u8]
     ensures { result.now ≡ slice_index_or table.now v [] }
 {
     match table.get(v as usize) {

@@ -2,7 +2,7 @@
 
 ghost use Rattle.std.specs.Prelude.{◌≡◌, ℕ, ◌+◌, ◌<◌, ◌≤◌, ◌^◌, ◌++◌, min, nat_lt, Bool, true, false, List, length, take, flat_map};
 ghost use Rattle.vp_bars.specs.Symbologies.{pattern_of as pattern_for, size_of as size_for};
-ghost use Rattle.vp_bars.specs.Widths.{sized, next_widths, widths_of, bar_widths, width_of, total, in_bar};
+ghost use Rattle.vp_bars.specs.Widths.{sized, next_widths, widths_of, framed_widths, bar_widths, width_of, total, in_bar};
 ghost use Rattle.std.specs.List.{All};
 ghost use Rattle.vp_bars.specs.Regular.{IsRegular, AreRegular, step_of};
 ghost use Rattle.vp_bars.specs.Elements.{left_elements, ean13_elements};
@@ -13,7 +13,9 @@ ghost use Rattle.vp_dots.specs.Words.{word_dot};
 
 use crate::patterns::{left_digit, parity};
 use crate::pen::Pen;
-use crate::symbology::{Symbology, gap_of, is_regular, pattern_of, regular_width, size_of};
+use crate::symbology::{
+    Symbology, gap_of, is_regular, pattern_of, regular_width, size_of, start_of, stop_of,
+};
 use vp_dots::{Op, paint_word};
 use vp_glyph::seen;
 
@@ -82,13 +84,14 @@ impl Strokes<'_> {
         ensures small { result < 2 ^ 21 }
     {
         let gap = match self.symbology {
-            Symbology::Code39 => u32::from(self.narrow),
-            Symbology::Ean13 | Symbology::Code128 => 0,
+            Symbology::Code39 | Symbology::Codabar | Symbology::Code11 => u32::from(self.narrow),
+            _ => 0,
         };
         gap + regular_width(self.symbology, self.narrow, self.wide)
     }
 
     /// How wide a character is.
+    #[inline(always)]
     fn character_width(&self, v: u8) -> u32
         requires { total (sized self.now.symbology self.now.narrow self.now.wide
             (pattern_for self.now.symbology v)) < 2 ^ 32 }
@@ -253,6 +256,7 @@ impl Strokes<'_> {
 
     /// Draws regular characters, each behind another: those that can be seen on the row. It gives the pen
     /// behind them all, and how many it handed out.
+    #[inline(always)]
     fn draw_regular(&self, values: &[u8], pen: Pen, op: Op, at: i64, row: &mut [u8]) -> (Pen, usize)
         requires regular { All (IsRegular self.now.symbology) values.now }
         requires room { pen.x + total (flat_map
@@ -297,6 +301,24 @@ impl Strokes<'_> {
         let (next, more) = self.draw_regular(regular, first, op, at, row);
         let (end, rest) = self.draw_next(last, next, op, at, row);
         (end, one + more + rest)
+    }
+
+    /// Draws start, values and stop, and gives the pen behind them and how many of them all it handed out.
+    #[inline(never)]
+    fn draw_framed(&self, pen: Pen, op: Op, at: i64, row: &mut [u8]) -> (Pen, usize)
+        requires { pen.x + total (framed_widths self.now.symbology self.now.narrow self.now.wide
+            self.now.values.now) < 2 ^ 32 }
+        ensures strokes { Draws op at row.old row.new pen result.0
+            (framed_widths self.now.symbology self.now.narrow self.now.wide self.now.values.now) }
+        ensures pieces { HandedOut at (dots row.old) pen.x result.0.x result.1 }
+        ensures few { result.1 ≤ length self.now.values.now + 2 }
+    {
+        let (regular, last) = self.values.split_at(self.regular);
+        let (first, one) = self.draw(start_of(self.symbology), pen, op, at, row);
+        let (next, more) = self.draw_regular(regular, first, op, at, row);
+        let (end, rest) = self.draw_next(last, next, op, at, row);
+        let (stop, two) = self.draw(stop_of(self.symbology), end, op, at, row);
+        (stop, one + more + rest + two)
     }
 
     /// Draws the left digits of EAN-13 in their sets, and gives the pen behind them and how many it handed
@@ -362,7 +384,10 @@ impl Strokes<'_> {
     {
         match self.symbology {
             Symbology::Ean13 => self.draw_digits(pen, op, at, row),
-            Symbology::Code39 | Symbology::Code128 => self.draw_characters(pen, op, at, row),
+            Symbology::Code39 | Symbology::Code128 | Symbology::Codabar => {
+                self.draw_characters(pen, op, at, row)
+            }
+            _ => self.draw_framed(pen, op, at, row),
         }
     }
 }

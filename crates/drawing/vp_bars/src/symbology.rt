@@ -2,15 +2,26 @@
 
 ghost use Rattle.std.specs.Prelude.{◌≡◌, ◌≤◌, ◌^◌, ◌<◌, length};
 ghost use Rattle.vp_bars.specs.Regular.{is_regular as is_regular_in, regular_width as width_of_regular, AreRegular};
-ghost use Rattle.vp_bars.specs.Symbologies.{symbol_of, pattern_of as pattern_for, gap_of as gap_for, size_of as size_for, text_of_values};
+ghost use Rattle.vp_bars.specs.Symbologies.{symbol_of, pattern_of as pattern_for, gap_of as gap_for, start_of as start_for, stop_of as stop_for, two_sizes, size_of as size_for, text_of_values, most_values};
 
+use crate::add_on::addon;
 use crate::bars::Bars;
+use crate::codabar::{CODABAR_SIGNS, codabar_pattern, codabar_symbol};
+use crate::code_11::{CODE11_SIGNS, code11, code11_pattern};
 use crate::code_39::code39;
+use crate::code_93::{code93, code93_pattern, shown_signs};
+use crate::ean_8::ean8;
 use crate::ean_13::ean13;
 use crate::escapes::code128_esc;
+use crate::interleaved::{interleaved_symbol, pair_elements, shown_pairs};
+use crate::msi::{msi_pattern, msi_symbol};
 use crate::packing::code128_zpl;
 use crate::patterns::{code39_pattern, code128_pattern, set_a};
+use crate::signs::{DIGITS, signs_of};
 use crate::text::{characters, shown_data};
+use crate::upc::{shown_digits, upc_pattern};
+use crate::upc_a::upca;
+use crate::upc_e::upce;
 use arrayvec::ArrayVec;
 use vp_bar_code::{BarCode, Code128Data};
 use vp_dots::Fault;
@@ -24,10 +35,22 @@ pub enum Symbology {
     Ean13,
     /// ISO/IEC 15417.
     Code128,
+    /// ISO/IEC 16390.
+    Interleaved,
+    /// EN 798.
+    Codabar,
+    Code11,
+    Msi,
+    /// AIM BC5.
+    Code93,
+    /// ISO/IEC 15420, as the three that follow.
+    Ean8,
+    UpcA,
+    UpcE,
+    AddOn,
 }
 
-/// The symbol of the data of a bar code, or why there is none, as `code39`, `ean13`, `code128_esc` and
-/// `code128_zpl` say.
+/// The symbol of the data of a bar code, or why there is none, as the function of its kind says.
 pub fn linear(code: BarCode, bytes: &[u8]) -> Result<Bars, Fault>
     ensures { result ≡ symbol_of code bytes.now }
 {
@@ -43,10 +66,20 @@ pub fn linear(code: BarCode, bytes: &[u8]) -> Result<Bars, Fault>
         BarCode::Code128 {
             data: Code128Data::Packed,
         } => code128_zpl(bytes, true),
+        BarCode::Interleaved { check } => interleaved_symbol(bytes, check),
+        BarCode::Codabar => codabar_symbol(bytes),
+        BarCode::Code11 { checks } => code11(bytes, checks),
+        BarCode::Msi { checks } => msi_symbol(bytes, checks),
+        BarCode::Ean8 => ean8(bytes),
+        BarCode::UpcA => upca(bytes),
+        BarCode::UpcE => upce(bytes),
+        BarCode::AddOn => addon(bytes),
+        BarCode::Code93 => code93(bytes),
     }
 }
 
 /// The elements of a character.
+#[inline(always)]
 pub(crate) fn pattern_of(symbology: Symbology, v: u8) -> &'static [u8]
     ensures { result.now ≡ pattern_for symbology v }
 {
@@ -54,6 +87,12 @@ pub(crate) fn pattern_of(symbology: Symbology, v: u8) -> &'static [u8]
         Symbology::Code39 => code39_pattern(v),
         Symbology::Ean13 => set_a(v),
         Symbology::Code128 => code128_pattern(v),
+        Symbology::Interleaved => pair_elements(v),
+        Symbology::Codabar => codabar_pattern(v),
+        Symbology::Code11 => code11_pattern(v),
+        Symbology::Msi => msi_pattern(v),
+        Symbology::Code93 => code93_pattern(v),
+        Symbology::Ean8 | Symbology::UpcA | Symbology::UpcE | Symbology::AddOn => upc_pattern(v),
     }
 }
 
@@ -62,9 +101,46 @@ pub(crate) fn gap_of(symbology: Symbology) -> &'static [u8]
     ensures { result.now ≡ gap_for symbology }
 {
     match symbology {
-        Symbology::Code39 => &[0],
-        Symbology::Ean13 | Symbology::Code128 => &[],
+        Symbology::Code39 | Symbology::Codabar | Symbology::Code11 => &[0],
+        _ => &[],
     }
+}
+
+/// The elements before the first character, where they are no value's.
+pub(crate) fn start_of(symbology: Symbology) -> &'static [u8]
+    ensures { result.now ≡ start_for symbology }
+{
+    match symbology {
+        Symbology::Interleaved => &[0, 0, 0, 0],
+        Symbology::Code11 => &[0, 0, 1, 1, 0],
+        Symbology::Msi => &[1, 0],
+        Symbology::Code93 => &[1, 1, 1, 1, 4, 1],
+        _ => &[],
+    }
+}
+
+/// The elements behind the last character, where they are no value's.
+pub(crate) fn stop_of(symbology: Symbology) -> &'static [u8]
+    ensures { result.now ≡ stop_for symbology }
+{
+    match symbology {
+        Symbology::Interleaved => &[1, 0, 0],
+        Symbology::Code11 => &[0, 0, 0, 1, 1, 0],
+        Symbology::Msi => &[0, 1, 0],
+        Symbology::Code93 => &[1, 1, 1, 1, 4, 1, 1],
+        _ => &[],
+    }
+}
+
+/// How wide an element is that is narrow or wide.
+#[inline(always)]
+fn narrow_or_wide(narrow: u16, wide: u16, element: u8) -> u32
+    ensures { result ≡ two_sizes narrow wide element }
+{
+    if element == 1 {
+        return u32::from(wide);
+    }
+    u32::from(narrow)
 }
 
 /// How wide an element is.
@@ -73,13 +149,23 @@ pub(crate) fn size_of(symbology: Symbology, narrow: u16, wide: u16, element: u8)
     ensures { result ≡ size_for symbology narrow wide element }
 {
     match symbology {
-        Symbology::Code39 if element == 1 => u32::from(wide),
-        Symbology::Code39 => u32::from(narrow),
-        Symbology::Ean13 | Symbology::Code128 => u32::from(element) * u32::from(narrow),
+        Symbology::Ean13
+        | Symbology::Code128
+        | Symbology::Ean8
+        | Symbology::UpcA
+        | Symbology::UpcE
+        | Symbology::AddOn
+        | Symbology::Code93 => u32::from(element) * u32::from(narrow),
+        Symbology::Code39
+        | Symbology::Interleaved
+        | Symbology::Codabar
+        | Symbology::Code11
+        | Symbology::Msi => narrow_or_wide(narrow, wide, element),
     }
 }
 
-/// Whether a character is as wide as all that its symbology has, but for the stop of Code 128.
+/// Whether a character is one of those that are alike wide in its symbology.
+#[inline(always)]
 pub(crate) fn is_regular(symbology: Symbology, v: u8) -> bool
     ensures { result ≡ is_regular_in symbology v }
 {
@@ -87,6 +173,10 @@ pub(crate) fn is_regular(symbology: Symbology, v: u8) -> bool
         Symbology::Code39 => v < 44,
         Symbology::Ean13 => v < 10,
         Symbology::Code128 => v < 106,
+        Symbology::Interleaved => v < 100,
+        Symbology::Msi => v < 10,
+        Symbology::Code93 => v < 47,
+        _ => false,
     }
 }
 
@@ -112,16 +202,28 @@ pub(crate) fn regular_width(symbology: Symbology, narrow: u16, wide: u16) -> u32
         Symbology::Code39 => 6 * narrow + 3 * wide,
         Symbology::Ean13 => 7 * narrow,
         Symbology::Code128 => 11 * narrow,
+        Symbology::Interleaved => 6 * narrow + 4 * wide,
+        Symbology::Msi => 4 * narrow + 4 * wide,
+        Symbology::Code93 => 9 * narrow,
+        _ => 0,
     }
 }
 
 /// What values show.
 pub(crate) fn text_of(symbology: Symbology, values: &[u8]) -> ArrayVec<u8, 512>
-    requires { length values.now ≤ 258 }
+    requires { length values.now ≤ most_values symbology }
     ensures { result.items ≡ text_of_values symbology values.now }
 {
     match symbology {
         Symbology::Code39 | Symbology::Ean13 => characters(values),
         Symbology::Code128 => shown_data(values),
+        Symbology::Interleaved => shown_pairs(values),
+        Symbology::Codabar => signs_of(CODABAR_SIGNS, values),
+        Symbology::Code11 => signs_of(CODE11_SIGNS, values),
+        Symbology::Msi => signs_of(DIGITS, values),
+        Symbology::Code93 => shown_signs(values),
+        Symbology::Ean8 | Symbology::UpcA | Symbology::UpcE | Symbology::AddOn => shown_digits(
+            values,
+        ),
     }
 }

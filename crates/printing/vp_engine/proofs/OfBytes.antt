@@ -6,7 +6,20 @@ use Rattle.vp_dots.specs.declared.fault.Fault.{Fault}
 use Rattle.vp_dots.specs.declared.fault.Why.{Why}
 use Rattle.vp_bar_code.specs.declared.BarCode.{BarCode}
 use Rattle.vp_bars.specs.declared.code_128.CodeSet.{CodeSet}
-use Rattle.vp_bars.specs.Symbols.{Linear}
+use Rattle.vp_bar_code.specs.declared.BarCode.TheVariants.{Code39, Ean13, Code128, Interleaved, Codabar, Code11, Msi, Code93, Ean8, UpcA, UpcE, AddOn}
+use Rattle.vp_bar_code.specs.declared.Code11Checks.{Code11Checks}
+use Rattle.vp_bar_code.specs.declared.MsiChecks.{MsiChecks}
+use Rattle.vp_bars.specs.Symbols.{Linear, within_length}
+use Rattle.vp_bars.specs.Signs.{digits, values_among}
+use Rattle.vp_bars.specs.Interleaved.{interleaved_symbol}
+use Rattle.vp_bars.specs.Codabar.{codabar_signs, codabar_for}
+use Rattle.vp_bars.specs.Code11.{code11_signs, code11_symbol}
+use Rattle.vp_bars.specs.Msi.{msi_for}
+use Rattle.vp_bars.specs.Code93.{code93_signs, code93_symbol}
+use Rattle.vp_bars.specs.Ean8.{ean8_symbol}
+use Rattle.vp_bars.specs.UpcA.{upca_symbol}
+use Rattle.vp_bars.specs.UpcE.{upce_short, upce_symbol}
+use Rattle.vp_bars.specs.AddOn.{add_on_symbol}
 use Rattle.vp_bars.specs.CodeSets.{symbol_from}
 use Rattle.vp_bars.specs.Symbologies.{symbol_of}
 use Rattle.vp_esc.specs.declared.reading.Reading.{Reading}
@@ -61,8 +74,52 @@ module _ {Item : Type 0} (rules : Rules Item) (known : (bytes : List ℕ) → So
 from_of_byte : (set : CodeSet) (values : Result (List ℕ) Why) → ErrOfByte (symbol_from set values)
 from_of_byte set values = grind arith
 
+within_by : (bytes : List ℕ) (symbol : Result Linear Fault) → ErrOfByte symbol → ErrOfByte (within_length bytes symbol)
+within_by bytes symbol h = grind arith
+
+interleaved_by : (check : Bool) (values : Option (List ℕ)) → ErrOfByte (interleaved_symbol check values)
+interleaved_by check values = grind arith
+
+codabar_by : (values : Option (List ℕ)) → ErrOfByte (codabar_for values)
+codabar_by values = grind arith
+
+code11_by : (checks : Code11Checks) (values : Option (List ℕ)) → ErrOfByte (code11_symbol checks values)
+code11_by checks values = grind arith
+
+msi_by : (checks : MsiChecks) (values : Option (List ℕ)) → ErrOfByte (msi_for checks values)
+msi_by checks values = grind arith
+
+code93_by : (values : Option (List ℕ)) → ErrOfByte (code93_symbol values)
+code93_by values = grind arith
+
+ean8_by : (values : Option (List ℕ)) → ErrOfByte (ean8_symbol values)
+ean8_by values = grind arith
+
+upca_by : (values : Option (List ℕ)) → ErrOfByte (upca_symbol values)
+upca_by values = grind arith
+
+short_by : (ds : List ℕ) (six : Option (List ℕ)) → ErrOfByte (upce_short ds six)
+short_by ds six = grind arith
+
+upce_by : (values : Option (List ℕ)) → ErrOfByte (upce_symbol values)
+upce_by values = grind (arith, short_by)
+
+add_on_by : (values : Option (List ℕ)) → ErrOfByte (add_on_symbol values)
+add_on_by values = grind arith
+
 pub bars_of_byte : (code : BarCode) (bytes : List ℕ) → ErrOfByte (symbol_of code bytes)
-bars_of_byte code bytes = grind (arith, common_steps, from_of_byte)
+bars_of_byte (Code39 check) bytes = grind (arith, common_steps)
+bars_of_byte (Ean13 padded) bytes = grind (arith, common_steps)
+bars_of_byte (Code128 kind) bytes = grind (arith, common_steps, from_of_byte)
+bars_of_byte (Interleaved check) bytes = within_by bytes _ (interleaved_by check (values_among digits bytes))
+bars_of_byte Codabar bytes = within_by bytes _ (codabar_by (values_among codabar_signs bytes))
+bars_of_byte (Code11 checks) bytes = within_by bytes _ (code11_by checks (values_among code11_signs bytes))
+bars_of_byte (Msi checks) bytes = within_by bytes _ (msi_by checks (values_among digits bytes))
+bars_of_byte Code93 bytes = within_by bytes _ (code93_by (values_among code93_signs bytes))
+bars_of_byte Ean8 bytes = within_by bytes _ (ean8_by (values_among digits bytes))
+bars_of_byte UpcA bytes = within_by bytes _ (upca_by (values_among digits bytes))
+bars_of_byte UpcE bytes = within_by bytes _ (upce_by (values_among digits bytes))
+bars_of_byte AddOn bytes = within_by bytes _ (add_on_by (values_among digits bytes))
 
 unit_of_byte : (by : Reading) (unit : List ℕ) → SomeOfByte (fault_in by unit)
 unfolding fault_in

@@ -6,9 +6,14 @@
 //!   and 1 for a rectangle); a dot a module
 //! - `F` and `C`, PDF417, full and compact: the digit of the level, or another byte for the one that is
 //!   recommended, and the rows and columns, 0 where they are left open; a row is three dots high
+//! - `L`, a linear symbol: a letter of its kind (`bars`), and the dots of a narrow and of a wide element; one
+//!   row of its bars
 //! - `E`, the same as `F`, but not drawn: its columns and rows alone, for bench/peers.sh
 #![tactic(auto)]
 
+mod bars;
+
+use crate::bars::draw_bars;
 use std::alloc::{AllocError, Global};
 use std::io::{Read, Write};
 use std::process::ExitCode;
@@ -126,6 +131,9 @@ fn draw_one(
             }
         }
         return Ok(());
+    }
+    if kind == b'L' {
+        return draw_bars(alloc, paper, first, rows, columns, bytes);
     }
     match vp_pdf417::encode(bytes, asked_of(kind, first, rows, columns)) {
         Ok(symbol) => draw_stack(alloc, paper, &symbol, kind == b'E')?,

@@ -15,6 +15,8 @@ mod glyph;
 #[cfg(test)]
 mod inflate;
 #[cfg(test)]
+mod linear;
+#[cfg(test)]
 mod page;
 #[cfg(test)]
 mod png;

@@ -16,11 +16,11 @@ characters_width-requires c =
     let all : total (bar_widths b.symbology c.args.narrow c.args.wide b.values) ≡ total (widths_of b.symbology c.args.narrow c.args.wide b.values) = rw (← kind) same in
     rw (c.strokes-strokes.ensures.symbology, c.strokes-strokes.ensures.narrow, c.strokes-strokes.ensures.wide, c.strokes-strokes.ensures.values) (omega (arith, few, all))
 
-pub returns-in-Ean13-clause-width : goal.returns-in-Ean13-clause-width
-returns-in-Ean13-clause-width c = grind (arith, width_is)
+pub returns-in_default-clause-width : goal.returns-in_default-clause-width
+returns-in_default-clause-width c = grind (arith, width_is)
 
-pub returns-in-Ean13-clause-small : goal.returns-in-Ean13-clause-small
-returns-in-Ean13-clause-small c = grind (arith, narrow_bars)
+pub returns-in_default-clause-small : goal.returns-in_default-clause-small
+returns-in_default-clause-small c = grind (arith, narrow_bars)
 
 pub returns-in-Code39 : goal.returns-in-Code39
 returns-in-Code39 c =

@@ -1,0 +1,10 @@
+pub mod Words
+pub mod Keywords
+pub mod Ranges
+pub mod Heads
+pub mod Letters
+pub mod Rows
+pub mod Steps
+pub mod Fonts
+pub mod Glyphs
+pub mod Orders
