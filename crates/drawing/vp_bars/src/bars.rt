@@ -65,7 +65,8 @@ impl Bars {
 
     /// The values of its characters from the left, as the standard's tables have them: those of Code 39,
     /// Code 128 and Codabar with start, check and stop, the thirteen digits of EAN-13, those of EAN-8, UPC
-    /// and add-ons with their guards, and of the others data and check, of Interleaved 2 of 5 two digits each.
+    /// and add-ons with their guards, and of the others data and check, of Interleaved 2 of 5 two digits
+    /// each.
     pub fn symbols(&self) -> &[u8]
         ensures values { result.now ≡ self.now.values }
         ensures most { length result.now ≤ 258 }

@@ -4,7 +4,8 @@
 //!
 //! `code39`, `ean13`, `code128_esc`, `code128_zpl` and the others make the symbol of some bytes, or say why
 //! there is none; `linear` makes that of any bar code that a command may ask for. `Bars` is such a symbol:
-//! the values of its characters, and its text. `Bars::boxed` puts bars and text into a `BarBox`, which is an `Ink`.
+//! the values of its characters, and its text. `Bars::boxed` puts bars and text into a `BarBox`, which is an
+//! `Ink`.
 //!
 //! - `bars`: a symbol. `symbology`: the kinds of them, and all in which they differ behind their data.
 //! - `code_39`, `ean_13`: the symbols of characters and of digits.

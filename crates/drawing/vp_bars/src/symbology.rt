@@ -26,24 +26,24 @@ use arrayvec::ArrayVec;
 use vp_bar_code::{BarCode, Code128Data};
 use vp_dots::Fault;
 
-/// The kinds of linear symbols.
+/// The kinds of linear symbols: first those of narrow and wide elements, of which the last three have a gap
+/// between characters, and then those of modules.
 #[derive(Clone, Copy, Debug, PartialEq, Eq)]
 pub enum Symbology {
-    /// ISO/IEC 16388.
-    Code39,
-    /// ISO/IEC 15420.
-    Ean13,
-    /// ISO/IEC 15417.
-    Code128,
     /// ISO/IEC 16390.
     Interleaved,
+    Msi,
+    /// ISO/IEC 16388.
+    Code39,
     /// EN 798.
     Codabar,
     Code11,
-    Msi,
+    /// ISO/IEC 15417.
+    Code128,
     /// AIM BC5.
     Code93,
-    /// ISO/IEC 15420, as the three that follow.
+    /// ISO/IEC 15420, as the four that follow.
+    Ean13,
     Ean8,
     UpcA,
     UpcE,

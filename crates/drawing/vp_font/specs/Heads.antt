@@ -20,10 +20,14 @@ bounds_at line = shape_at line >>= λ shape.
 
 -- a line that is about this; of lines that say the same thing the last one holds
 unfoldable pub with_line : Head → Keyword → List ℕ → Result Head Fault
-with_line head about.BoundingBox line = bounds_at line >>= λ bounds. Ok (record head { bounds = Some bounds })
-with_line head about.Ascent line = offset_at 1 2048 fault.Number line >>= λ ascent. Ok (record head { ascent = Some ascent })
-with_line head about.Descent line = offset_at 1 2048 fault.Number line >>= λ descent. Ok (record head { descent = Some descent })
-with_line head about.DefaultChar line = whole_at 1 1114111 fault.Number line >>= λ code. Ok (record head { default_char = Some code })
+with_line head about.BoundingBox line =
+    bounds_at line >>= λ bounds. Ok (record head { bounds = Some bounds })
+with_line head about.Ascent line =
+    offset_at 1 2048 fault.Number line >>= λ ascent. Ok (record head { ascent = Some ascent })
+with_line head about.Descent line =
+    offset_at 1 2048 fault.Number line >>= λ descent. Ok (record head { descent = Some descent })
+with_line head about.DefaultChar line =
+    whole_at 1 1114111 fault.Number line >>= λ code. Ok (record head { default_char = Some code })
 with_line head _ line = Ok head
 
 -- a height that is told, or else that of the box

@@ -31,10 +31,14 @@ code_at last line = number_at 1 line >>= λ n.
 
 -- a line that is about this; of lines that say the same thing the last one holds
 unfoldable pub with_part : Parts → Option ℕ → Keyword → List ℕ → Result Parts Fault
-with_part parts last about.Encoding line = code_at last line >>= λ c. Ok (record parts { code = Some c })
-with_part parts last about.Scalable line = whole_at 1 65535 fault.Number line >>= λ n. Ok (record parts { thousandths = Some n })
-with_part parts last about.Device line = whole_at 1 2048 fault.Advance line >>= λ n. Ok (record parts { advance = Some n })
-with_part parts last about.Box line = shape_at line >>= λ shape. Ok (record parts { shape = Some shape })
+with_part parts last about.Encoding line =
+    code_at last line >>= λ c. Ok (record parts { code = Some c })
+with_part parts last about.Scalable line =
+    whole_at 1 65535 fault.Number line >>= λ n. Ok (record parts { thousandths = Some n })
+with_part parts last about.Device line =
+    whole_at 1 2048 fault.Advance line >>= λ n. Ok (record parts { advance = Some n })
+with_part parts last about.Box line =
+    shape_at line >>= λ shape. Ok (record parts { shape = Some shape })
 with_part parts last about.StartChar line = Err fault.Incomplete
 with_part parts last about.EndChar line = Err fault.Incomplete
 with_part parts last about.EndFont line = Err fault.Incomplete

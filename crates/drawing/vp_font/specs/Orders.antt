@@ -41,4 +41,5 @@ reached (Some last) c = nat_le c last
 
 -- so are those of all letters
 abbrev pub Below : Option ℕ → List Entry → Type 0
-Below last letters = (i : ℕ) (other : Entry) → i < length letters → reached last (code_of letters i other) ≡ true
+Below last letters = (i : ℕ) (other : Entry) → i < length letters
+    → reached last (code_of letters i other) ≡ true

@@ -24,4 +24,5 @@ is_row bytes line = nat_le (2 * bytes) (prefix_len hex_digit line)
 -- the bytes that its digits tell
 abbrev pub row_of : ℕ → List ℕ → List ℕ
 row_of zero line = []
-row_of (suc n) line = row_of n line ++ (16 * nibble (slice_index line (2 * n)) + nibble (slice_index line (2 * n + 1))) ∷ []
+row_of (suc n) line =
+    row_of n line ++ (16 * nibble (slice_index line (2 * n)) + nibble (slice_index line (2 * n + 1))) ∷ []

@@ -22,7 +22,12 @@ use Rattle.vp_font.specs.Rows.{row_bytes, is_row}
 
 -- before the first line
 abbrev pub start : State
-start = record { place = Start; metrics = record { ascent = pos 0; descent = pos 0; default_char = None }; to_come = 0; last = None }
+start = record {
+  place = Start;
+  metrics = record { ascent = pos 0; descent = pos 0; default_char = None };
+  to_come = 0;
+  last = None;
+}
 
 abbrev pub Step : Type 0
 Step = Result (State × Given) Fault
@@ -50,7 +55,8 @@ head_line about.Chars s told line = whole_at 1 65535 fault.Count line >>= λ n. 
     Ok (record s { to_come = n; metrics = m; place = Between }, Nothing)
 head_line about.StartChar s told line = Err fault.More
 head_line about.EndFont s told line = Err fault.NoLetter
-head_line other s told line = with_line told other line >>= λ more. Ok (record s { place = InHead more }, Nothing)
+head_line other s told line =
+    with_line told other line >>= λ more. Ok (record s { place = InHead more }, Nothing)
 
 unfoldable pub in_head : State → Head → List ℕ → Step
 in_head s told line = head_line (about_of line) s told line
@@ -66,9 +72,11 @@ between s _ = Ok (s, Nothing)
 
 -- a letter's rows come
 abbrev pub rows_come : State → Begun → State × Given
-rows_come s (begins.Passed shape) = (record s { place = Passed shape.height (row_bytes shape.width) }, Nothing)
+rows_come s (begins.Passed shape) =
+    (record s { place = Passed shape.height (row_bytes shape.width) }, Nothing)
 rows_come s (begins.Letter letter) =
-    (record s { place = Rows letter.shape.height (row_bytes letter.shape.width); last = Some letter.code }, Letter letter)
+    (record s { place = Rows letter.shape.height (row_bytes letter.shape.width); last = Some letter.code },
+    Letter letter)
 
 unfoldable pub at_bitmap : State → Parts → Step
 at_bitmap s parts = complete parts >>= λ b. Ok (rows_come s b)
@@ -76,7 +84,8 @@ at_bitmap s parts = complete parts >>= λ b. Ok (rows_come s b)
 -- a line of a letter, up to BITMAP
 abbrev pub letter_line : Keyword → State → Parts → List ℕ → Step
 letter_line about.Bitmap s parts line = at_bitmap s parts
-letter_line other s parts line = with_part parts s.last other line >>= λ more. Ok (record s { place = InLetter more }, Nothing)
+letter_line other s parts line =
+    with_part parts s.last other line >>= λ more. Ok (record s { place = InLetter more }, Nothing)
 
 unfoldable pub in_letter : State → Parts → List ℕ → Step
 in_letter s parts line = letter_line (about_of line) s parts line

@@ -5,8 +5,8 @@
 //! band to band those that reach on. So a band is painted from the fields that meet it alone, in the order of
 //! closing. Each reading of an entry or of a link is a look. Looks are counted where they are done, as are
 //! the readings of fields and of what earlier bands left of them; nothing counts one back. The work of
-//! painting is counted from a copy's start on: the bytes of pictures' codes that are read, and the rows passed
-//! or painted.
+//! painting is counted from a copy's start on: the bytes of pictures' codes that are read, and the rows
+//! passed or painted.
 //!
 //! - `meeting`: which bands a box meets.
 //! - `table`: the entries of the fields of a format.
