@@ -6,7 +6,7 @@ ghost use Rattle.vp_bars.specs.Symbols.{Linear, within_length};
 
 use crate::pen::Pen;
 use crate::strokes::Strokes;
-use crate::symbology::{Symbology, regular, text_of as text_in};
+use crate::symbology::{Symbology, regular, regular_width, text_of as text_in};
 use arrayvec::ArrayVec;
 use std::marker::Model;
 use vp_dots::{Fault, Op, Why};
@@ -88,6 +88,7 @@ impl Bars {
             regular: self.regular,
             narrow,
             wide,
+            alike_width: regular_width(self.symbology, narrow, wide),
         }
     }
 

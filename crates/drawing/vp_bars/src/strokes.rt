@@ -4,7 +4,7 @@ ghost use Rattle.std.specs.Prelude.{◌≡◌, ℕ, ◌+◌, ◌<◌, ◌≤◌,
 ghost use Rattle.vp_bars.specs.Symbologies.{pattern_of as pattern_for, size_of as size_for};
 ghost use Rattle.vp_bars.specs.Widths.{sized, next_widths, widths_of, framed_widths, bar_widths, width_of, total, in_bar};
 ghost use Rattle.std.specs.List.{All};
-ghost use Rattle.vp_bars.specs.Regular.{IsRegular, AreRegular, step_of};
+ghost use Rattle.vp_bars.specs.Regular.{IsRegular, AreRegular, step_of, regular_width as width_of_regular};
 ghost use Rattle.vp_bars.specs.Elements.{left_elements, ean13_elements};
 ghost use Rattle.vp_bars.specs.declared.symbology.Symbology.TheVariants.{Ean13};
 ghost use Rattle.vp_bars.specs.Drawing.{Draws, turned, reach, HandedOut};
@@ -13,9 +13,7 @@ ghost use Rattle.vp_dots.specs.Words.{word_dot};
 
 use crate::patterns::{left_digit, parity};
 use crate::pen::Pen;
-use crate::symbology::{
-    Symbology, gap_of, is_regular, pattern_of, regular_width, size_of, start_of, stop_of,
-};
+use crate::symbology::{Symbology, gap_of, is_regular, pattern_of, size_of, start_of, stop_of};
 use vp_dots::{Op, paint_word};
 use vp_glyph::seen;
 
@@ -34,7 +32,11 @@ pub(crate) struct Strokes<'a> {
     pub regular: usize,
     pub narrow: u16,
     pub wide: u16,
+    /// How wide each regular one is.
+    pub alike_width: u32,
     ghost regular_are: { AreRegular symbology regular values.now },
+    ghost alike: { alike_width ≡ width_of_regular symbology narrow wide },
+    ghost small: { alike_width < 2 ^ 20 },
     ghost few: { length values.now ≤ 258 },
 }
 
@@ -87,7 +89,7 @@ impl Strokes<'_> {
             Symbology::Code39 | Symbology::Codabar | Symbology::Code11 => u32::from(self.narrow),
             _ => 0,
         };
-        gap + regular_width(self.symbology, self.narrow, self.wide)
+        gap + self.alike_width
     }
 
     /// How wide a character is.
@@ -99,7 +101,7 @@ impl Strokes<'_> {
             (pattern_for self.now.symbology v)) }
     {
         if is_regular(self.symbology, v) {
-            return regular_width(self.symbology, self.narrow, self.wide);
+            return self.alike_width;
         }
         self.width(pattern_of(self.symbology, v))
     }
