@@ -74,9 +74,10 @@ between s _ = Ok (s, Nothing)
 abbrev pub rows_come : State → Begun → State × Given
 rows_come s (begins.Passed shape) =
     (record s { place = Passed shape.height (row_bytes shape.width) }, Nothing)
-rows_come s (begins.Letter letter) =
-    (record s { place = Rows letter.shape.height (row_bytes letter.shape.width); last = Some letter.code },
-    Letter letter)
+rows_come s (begins.Letter letter) = (
+  record s { place = Rows letter.shape.height (row_bytes letter.shape.width); last = Some letter.code },
+  Letter letter,
+)
 
 unfoldable pub at_bitmap : State → Parts → Step
 at_bitmap s parts = complete parts >>= λ b. Ok (rows_come s b)
