@@ -295,11 +295,13 @@ fn bar_codes_that_the_whole_language_adds(rt: HostRuntime) -> Result<(), Fail> {
 }
 
 /// Kinds that the whole language reads and doesn't draw, and data that a kind hasn't.
-static REFUSED_IN_WHOLE: [Refusal; 4] = [
+static REFUSED_IN_WHOLE: [Refusal; 6] = [
     (b"\x1DkJ\x0212", Fault::Symbol(Why::Unsupported)),
     (b"\x1DkO\x0212", Fault::Symbol(Why::Unsupported)),
     (b"\x1Dk\x017654321\0", Fault::Symbol(Why::Length)),
     (b"\x1DkG\x03a1b", Fault::Symbol(Why::Char)),
+    (b"\x1DkH\x03A&B", Fault::Symbol(Why::Char)),
+    (b"\x1DkH\x03A)B", Fault::Symbol(Why::Char)),
 ];
 
 #[test]
