@@ -5,6 +5,7 @@ ghost use Rattle.vp_bars.specs.Boxes.{box_width, box_height, box_dot};
 ghost use Rattle.vp_strips.specs.SymbolInks.{box_of};
 ghost use Rattle.vp_receipt_settings.specs.Symbols.{IsFitBars, bars_of, bars_refusal, bars_image, box_image};
 ghost use Rattle.vp_receipt_settings.specs.Symbols.{has_shifts, is_shift};
+ghost use Rattle.std.specs.List.{list_any};
 
 use vp_bars::{BarBox, BarCode, Bars, HriPosition, alike_rows, linear};
 use vp_dots::{Fault, Ink, Small, Why};
@@ -81,14 +82,25 @@ fn bars_of(code: Option<BarCode>, bytes: &[u8], more: bool) -> Result<Bars, Faul
     linear(code, bytes)
 }
 
-/// Whether data of Code 93 have a byte that stands for one of its shifts.
+/// Whether data of Code 93 name one of its shifts.
 fn has_shifts(code: BarCode, bytes: &[u8]) -> bool
     ensures { result ≡ has_shifts code bytes.now }
 {
     match code {
-        BarCode::Code93 => bytes.iter().any(|byte| is_shift(*byte)),
+        BarCode::Code93 => have_shift(bytes),
         _ => false,
     }
+}
+
+fn have_shift(bytes: &[u8]) -> bool
+    ensures { result ≡ list_any is_shift bytes.now }
+{
+    for byte in bytes {
+        if is_shift(*byte) {
+            return true;
+        }
+    }
+    false
 }
 
 fn is_shift(byte: u8) -> bool
