@@ -41,15 +41,15 @@ qr_few count values c = grind (arith, lit≤, same, map_push, one_more, map)
 
 -- Of a command.
 
-columns_behind : (lead : Lead) (name : ℕ) (a b d : ℕ) (args : List ℕ) (c : ℕ) → Few (given_by lead name Columns (a ∷ b ∷ d ∷ args)) (given_by lead name Columns (a ∷ b ∷ d ∷ args ++ c ∷ []))
+columns_behind : (reading : Reading) (lead : Lead) (name : ℕ) (a b d : ℕ) (args : List ℕ) (c : ℕ) → Few (given_by reading lead name Columns (a ∷ b ∷ d ∷ args)) (given_by reading lead name Columns (a ∷ b ∷ d ∷ args ++ c ∷ []))
 unfolding given_behind
-columns_behind lead name a b d args c = grind (arith, given_is, length_push, map_push, one_more, map, tall_few)
+columns_behind reading lead name a b d args c = grind (arith, given_is, length_push, map_push, one_more, map, tall_few)
 
 -- behind its head, and before
-behind_few : (lead : Lead) (name : ℕ) (k : Command) (args : List ℕ) (c : ℕ) → Few (given_by lead name k args) (given_by lead name k (args ++ c ∷ []))
+behind_few : (reading : Reading) (lead : Lead) (name : ℕ) (k : Command) (args : List ℕ) (c : ℕ) → Few (given_by reading lead name k args) (given_by reading lead name k (args ++ c ∷ []))
 unfolding given_by given_behind qr_items
-behind_few lead name Columns (a ∷ b ∷ d ∷ args) c = columns_behind lead name a b d args c
-behind_few lead name k args c = grind (arith, length_push, map_push, lit≤, qr_few)
+behind_few reading lead name Columns (a ∷ b ∷ d ∷ args) c = columns_behind reading lead name a b d args c
+behind_few reading lead name k args c = grind (arith, length_push, map_push, lit≤, qr_few)
 
 pub a_byte_gives : (reading : Reading) (bytes : List ℕ) (c : ℕ) → length (items_of reading (bytes ++ c ∷ [])) ≤ length (items_of reading bytes) + 1
 unfolding given given_by given_behind

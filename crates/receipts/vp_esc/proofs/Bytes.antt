@@ -4,6 +4,7 @@ use Rattle.std.proofs.lemmas.Grind.{common_steps}
 use Rattle.std.proofs.lemmas.Bool.Decides.{nat_tests}
 use Rattle.std.proofs.lemmas.List.{take_all, take-append-le, length-append}
 use Rattle.arrayvec.specs.ArrayVec.{ArrayVec}
+use Rattle.vp_esc.specs.declared.reading.Reading.{Reading}
 use Rattle.vp_esc.specs.declared.item.EscItem.{EscItem}
 use Rattle.vp_esc.specs.declared.item.EscItem.TheVariants as items
 use Rattle.vp_esc.specs.declared.item.Lead.{Lead}
@@ -27,8 +28,8 @@ pub land_bytes : (r : EscReader) (command : Command) (kind : Data) (left : ℕ) 
     → is_counted command r.kept.items ≡ true → left ≡ data_len command r.kept.items
     → prints_rows command r.kept.items ≡ are_rows kind → is_skipped command r.kept.items ≡ give_nothing kind
     → ((more : List ℕ) → stores_bytes command (r.kept.items ++ more) ≡ are_stored kind)
-    → given_by r.lead r.name command r.kept.items ≡ item ∷ []
-    → ((more : List ℕ) → given_by r.lead r.name command (r.kept.items ++ more) ≡ item ∷ data_items kind more)
+    → given_by r.reading r.lead r.name command r.kept.items ≡ item ∷ []
+    → ((more : List ℕ) → given_by r.reading r.lead r.name command (r.kept.items ++ more) ≡ item ∷ data_items kind more)
     → Lands r.reading (Some item) rest (record r { phase = bytes_or_ground kind left; kept = final })
 land_bytes r command kind left rest item final b enough counted l rows skipped stored g behind =
     lands_by (ltb 0 left) _ _ refl b (grind (arith, needs_counted, nat_tests)) g
@@ -50,7 +51,7 @@ pub bytes_step : (r : EscReader) (kind : Data) (left c : ℕ) (rest : List ℕ) 
 bytes_step r kind left c rest hand =
     let p : IsPushed r.reading hand.command hand.args left c = pushed hand.command hand.args left c hand.begun.listed hand.counted hand.left_is in
     advances_by _ c (data_item kind c) _ refl hand.begun p.listed p.needs
-    (hand.gives (c ∷ []) ∙ ap (λ xs. given_by r.lead r.name hand.command hand.args ++ xs) (grind arith))
+    (hand.gives (c ∷ []) ∙ ap (λ xs. given_by r.reading r.lead r.name hand.command hand.args ++ xs) (grind arith))
     (stands_before r (phases.Bytes kind (left - 1)) (left - 1) (rest ++ c ∷ []) (λ h. record {
       command = hand.command;
       args = hand.args ++ c ∷ [];
@@ -74,11 +75,11 @@ pub six : (xs : List ℕ) → length xs ≡ 6
     → xs ≡ get_or xs 0 0 ∷ get_or xs 1 0 ∷ get_or xs 2 0 ∷ get_or xs 3 0 ∷ get_or xs 4 0 ∷ get_or xs 5 0 ∷ []
 six xs h = grind (arith, common_steps)
 
-raster_given : (lead : Lead) (name z m xl xh yl yh : ℕ) (more : List ℕ)
-    → given_by lead name Raster (z ∷ m ∷ xl ∷ xh ∷ yl ∷ yh ∷ more)
+raster_given : (reading : Reading) (lead : Lead) (name z m xl xh yl yh : ℕ) (more : List ℕ)
+    → given_by reading lead name Raster (z ∷ m ∷ xl ∷ xh ∷ yl ∷ yh ∷ more)
     ≡ items.Raster (spelled m (scale_of m)) (xl + 256 * xh) (yl + 256 * yh) ∷ raster_bytes (scale_of m) more
 unfolding given_behind
-raster_given lead name z m xl xh yl yh more = given_is lead name Raster (z ∷ m ∷ xl ∷ xh ∷ yl ∷ yh ∷ more) (omega arith)
+raster_given reading lead name z m xl xh yl yh more = given_is reading lead name Raster (z ∷ m ∷ xl ∷ xh ∷ yl ∷ yh ∷ more) (omega arith)
 
 pub land_raster : (r : EscReader) (z m xl xh yl yh left : ℕ) (rest : List ℕ) → Begun r.reading r.lead r.name Raster r.kept.items rest
     → r.kept.items ≡ z ∷ m ∷ xl ∷ xh ∷ yl ∷ yh ∷ [] → left ≡ (xl + 256 * xh) * (yl + 256 * yh)
@@ -87,8 +88,8 @@ pub land_raster : (r : EscReader) (z m xl xh yl yh left : ℕ) (rest : List ℕ)
 land_raster r z m xl xh yl yh left rest b k l =
     let item : EscItem = items.Raster (spelled m (scale_of m)) (xl + 256 * xh) (yl + 256 * yh) in
     land_bytes r Raster (raster_data (scale_of m)) left rest item r.kept b (rw k refl) refl (rw k l) (rw k (grind arith)) (rw k (grind arith)) (λ more. grind arith)
-    (rw k (raster_given r.lead r.name z m xl xh yl yh [] ∙ ap (λ xs. item ∷ xs) (grind arith)))
-    (λ more. rw k (raster_given r.lead r.name z m xl xh yl yh more ∙ ap (λ xs. item ∷ xs) (grind arith)))
+    (rw k (raster_given r.reading r.lead r.name z m xl xh yl yh [] ∙ ap (λ xs. item ∷ xs) (grind arith)))
+    (λ more. rw k (raster_given r.reading r.lead r.name z m xl xh yl yh more ∙ ap (λ xs. item ∷ xs) (grind arith)))
 
 -- Functions without effect, and graphics.
 
@@ -131,11 +132,11 @@ pub land_past : (r : EscReader) (past : ReadPastCommand) (left : ℕ) (rest : Li
 unfolding given_behind
 land_past r past left rest b enough e =
     let all : take (past_len past r.kept.items) r.kept.items ≡ r.kept.items = take_all (past_len past r.kept.items) r.kept.items (omega arith) in
-    let behind : (more : List ℕ) → given_by r.lead r.name (ReadPast past) (r.kept.items ++ more) ≡ unused r.lead r.name r.kept.items ∷ [] =
-    λ more. given_is r.lead r.name (ReadPast past) (r.kept.items ++ more) (past_within past r.kept.items more (omega arith))
+    let behind : (more : List ℕ) → given_by r.reading r.lead r.name (ReadPast past) (r.kept.items ++ more) ≡ unused r.lead r.name r.kept.items ∷ [] =
+    λ more. given_is r.reading r.lead r.name (ReadPast past) (r.kept.items ++ more) (past_within past r.kept.items more (omega arith))
     ∙ ap (λ xs. unused r.lead r.name xs ∷ []) (past_front past r.kept.items more (omega arith) ∙ all) in
     land_bytes r (ReadPast past) kinds.Skipped left rest (unused r.lead r.name r.kept.items) r.kept b enough refl e refl refl (λ more. refl)
-    (given_is r.lead r.name (ReadPast past) r.kept.items (omega arith) ∙ ap (λ xs. unused r.lead r.name xs ∷ []) all) behind
+    (given_is r.reading r.lead r.name (ReadPast past) r.kept.items (omega arith) ∙ ap (λ xs. unused r.lead r.name xs ∷ []) all) behind
   where
     past_within : (past : ReadPastCommand) (args more : List ℕ) → past_len past args ≤ length args → past_len past (args ++ more) ≤ length (args ++ more)
     past_within past args more h =

@@ -27,7 +27,7 @@ land_short : (r : EscReader) (m nl nh : ℕ) (mode : ColumnMode) (rest : List �
 unfolding given_behind
 land_short r m nl nh mode rest final b k e one behind =
     let item : EscItem = items.Columns mode (nl + 256 * nh) in
-    let g : (more : List ℕ) → given_by r.lead r.name Columns (m ∷ nl ∷ nh ∷ more) ≡ item ∷ data_items kinds.Columns more = grind (arith, given_is) in
+    let g : (more : List ℕ) → given_by r.reading r.lead r.name Columns (m ∷ nl ∷ nh ∷ more) ≡ item ∷ data_items kinds.Columns more = grind (arith, given_is) in
     land_bytes r Columns kinds.Columns (nl + 256 * nh) rest item final b (rw k refl) refl (rw k (rw e (rw one (omega arith)))) refl refl (λ more. refl) (rw k (g [])) (λ more. rw k (g more))
 
 land_tall : (r : EscReader) (m nl nh : ℕ) (mode : ColumnMode) (rest : List ℕ) (final : ArrayVec ℕ)

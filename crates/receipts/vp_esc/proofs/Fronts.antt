@@ -23,7 +23,7 @@ lead_of-lead_byte lead = grind arith
 -- a front that is a command with these arguments
 pub record Front (reading : Reading) (front : List ℕ) (lead : Lead) (name : ℕ) (command : Command) (args : List ℕ) : Type 0 where
   pub opens : is_unfinished reading front ≡ cond (is_listed reading command args) (needs_more command args) (stays_open reading)
-  pub gives : given reading front ≡ cond (is_listed reading command args) (given_by lead name command args) (passed_over reading lead name args)
+  pub gives : given reading front ≡ cond (is_listed reading command args) (given_by reading lead name command args) (passed_over reading lead name args)
   pub fault : fault_in reading front ≡ cond (is_listed reading command args) None (unknown reading (lead_byte lead) name)
 
 pub front_is : (reading : Reading) (lead : Lead) (name : ℕ) (command : Command) (args rest : List ℕ) → command_of reading lead name ≡ Some command
@@ -81,7 +81,7 @@ begun_longer c b l = record { named = b.named; bytes = longer c b; listed = l }
 -- one more argument, and the command needs more, or is whole
 pub advances_by : {reading : Reading} {lead : Lead} {name : ℕ} {command : Command} {args rest : List ℕ} (more : Bool) (c : ℕ) (item : Option EscItem) (new : EscReader)
     → new.reading ≡ reading → Begun reading lead name command args rest → is_listed reading command (args ++ c ∷ []) ≡ true → needs_more command (args ++ c ∷ []) ≡ more
-    → given_by lead name command (args ++ c ∷ []) ≡ given_by lead name command args ++ option_to_list item
+    → given_by reading lead name command (args ++ c ∷ []) ≡ given_by reading lead name command args ++ option_to_list item
     → StandsIn new (cond more (rest ++ c ∷ []) []) → Advances reading (Ok item) rest c new
 advances_by {reading} {lead} {name} {command} {args} {rest} more c item new r b l n g s =
     let after : Front reading (rest ++ c ∷ []) lead name command (args ++ c ∷ []) = front_is reading lead name command _ _ b.named (longer c b) in
@@ -108,7 +108,7 @@ alone_between b item r rest e i p stands = let empty : rest ≡ [] = rw p at sta
 -- the command with these arguments needs more, or is whole
 pub lands_by : {reading : Reading} {lead : Lead} {name : ℕ} {command : Command} {args front : List ℕ} (more : Bool) (item : Option EscItem) (new : EscReader)
     → new.reading ≡ reading → Begun reading lead name command args front → needs_more command args ≡ more
-    → given_by lead name command args ≡ option_to_list item → StandsIn new (cond more front []) → Lands reading item front new
+    → given_by reading lead name command args ≡ option_to_list item → StandsIn new (cond more front []) → Lands reading item front new
 lands_by {reading} {lead} {name} {command} {args} {front} more item new r b n g s =
     let here : Front reading front lead name command args = front_is reading lead name command _ _ b.named b.bytes in
     record { reads = r; fault = rw here.fault (rw b.listed refl); gives = rw here.gives (rw b.listed g); stands = rw here.opens (rw b.listed (rw n s)) }
@@ -119,7 +119,7 @@ pub stands_before : (r : EscReader) (x : Phase) (left : ℕ) (rest : List ℕ) �
 stands_before r x left rest h = grind (arith, nat_tests)
 
 pub given_begun : {reading : Reading} {lead : Lead} {name : ℕ} {command : Command} {args rest : List ℕ} → Begun reading lead name command args rest
-    → given_by lead name command args ≡ [] → given reading rest ≡ []
+    → given_by reading lead name command args ≡ [] → given reading rest ≡ []
 given_begun {reading} {lead} {name} {command} {args} {rest} b none = rw (front_is reading lead name command _ _ b.named b.bytes).gives (rw b.listed none)
 
 -- a lead alone has given nothing

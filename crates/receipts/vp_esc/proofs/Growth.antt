@@ -94,30 +94,30 @@ qr_grows count (cn ∷ function ∷ n ∷ more) c h = either_grows (is_qr_functi
 last_grows : (n : Bool) (x : EscItem) (ys : List EscItem) → n ≡ true → IsFrontOf (at_last n x) ys
 last_grows n x ys e = from_nil _ _ (rw e refl)
 
-behind_grows : (lead : Lead) (name : ℕ) (k : Command) (args : List ℕ) (c : ℕ) → head_len k args ≤ length args → needs_more k args ≡ true
-    → IsFrontOf (given_behind lead name k args) (given_behind lead name k (args ++ c ∷ []))
+behind_grows : (reading : Reading) (lead : Lead) (name : ℕ) (k : Command) (args : List ℕ) (c : ℕ) → head_len k args ≤ length args → needs_more k args ≡ true
+    → IsFrontOf (given_behind reading lead name k args) (given_behind reading lead name k (args ++ c ∷ []))
 unfolding given_behind needs_more
-behind_grows lead name TabStops args c h n = last_grows _ _ _ n
-behind_grows lead name Columns (a ∷ b ∷ d ∷ args) c h n = behind_one _ _ _ (columns_grow (column_mode_of a) args c)
-behind_grows lead name Raster (a ∷ b ∷ d ∷ e ∷ f ∷ g ∷ args) c h n = behind_one _ _ _ (raster_grows (scale_of b) args c)
-behind_grows lead name Symbol args c h n = last_grows _ _ _ n
-behind_grows lead name Function (a ∷ b ∷ d ∷ args) c h n = grind (arith, nat_tests, either_grows, qr_grows)
-behind_grows lead name Graphics (a ∷ b ∷ d ∷ e ∷ f ∷ args) c h n = unchanged _ _ refl
-behind_grows lead name (ReadPast past) args c h n = unchanged _ _ (ap (λ xs. unused lead name xs ∷ []) (past_front past args (c ∷ []) h))
-behind_grows lead name k args c h n = absurd (grind (arith, nat_tests))
+behind_grows reading lead name TabStops args c h n = last_grows _ _ _ n
+behind_grows reading lead name Columns (a ∷ b ∷ d ∷ args) c h n = behind_one _ _ _ (columns_grow (column_mode_of a) args c)
+behind_grows reading lead name Raster (a ∷ b ∷ d ∷ e ∷ f ∷ g ∷ args) c h n = behind_one _ _ _ (raster_grows (scale_of b) args c)
+behind_grows reading lead name Symbol args c h n = last_grows _ _ _ n
+behind_grows reading lead name Function (a ∷ b ∷ d ∷ args) c h n = grind (arith, nat_tests, either_grows, qr_grows)
+behind_grows reading lead name Graphics (a ∷ b ∷ d ∷ e ∷ f ∷ args) c h n = unchanged _ _ refl
+behind_grows reading lead name (ReadPast past) args c h n = unchanged _ _ (ap (λ xs. unused lead name xs ∷ []) (past_front past args (c ∷ []) h))
+behind_grows reading lead name k args c h n = absurd (grind (arith, nat_tests))
 
-given_none : (lead : Lead) (name : ℕ) (k : Command) → needs_more k [] ≡ true → given_by lead name k [] ≡ []
+given_none : (reading : Reading) (lead : Lead) (name : ℕ) (k : Command) → needs_more k [] ≡ true → given_by reading lead name k [] ≡ []
 unfolding needs_more given_by given_behind
-given_none lead name k n = grind (arith, nat_tests)
+given_none reading lead name k n = grind (arith, nat_tests)
 
-by_command : (lead : Lead) (name : ℕ) (k : Command) (args : List ℕ) (c : ℕ) → needs_more k args ≡ true
-    → IsFrontOf (given_by lead name k args) (given_by lead name k (args ++ c ∷ []))
-by_command lead name k [] c n = from_nil _ _ (given_none lead name k n)
-by_command lead name k (a ∷ args) c n = ⊎_elim
-    (λ (h : length (a ∷ args) < head_len k (a ∷ args)). let i : IsHead lead name k (a ∷ args) = heads lead name k (a ∷ args) h in from_nil _ _ i.gives)
+by_command : (reading : Reading) (lead : Lead) (name : ℕ) (k : Command) (args : List ℕ) (c : ℕ) → needs_more k args ≡ true
+    → IsFrontOf (given_by reading lead name k args) (given_by reading lead name k (args ++ c ∷ []))
+by_command reading lead name k [] c n = from_nil _ _ (given_none reading lead name k n)
+by_command reading lead name k (a ∷ args) c n = ⊎_elim
+    (λ (h : length (a ∷ args) < head_len k (a ∷ args)). let i : IsHead reading lead name k (a ∷ args) = heads reading lead name k (a ∷ args) h in from_nil _ _ i.gives)
     (λ (h : head_len k (a ∷ args) ≤ length (a ∷ args)).
     let s : head_len k (a ∷ args ++ c ∷ []) ≤ length (a ∷ args ++ c ∷ []) = grind (arith, length_push) in
-    rw (given_is lead name k (a ∷ args) h, given_is lead name k (a ∷ args ++ c ∷ []) s) (behind_grows lead name k (a ∷ args) c h n))
+    rw (given_is reading lead name k (a ∷ args) h, given_is reading lead name k (a ∷ args ++ c ∷ []) s) (behind_grows reading lead name k (a ∷ args) c h n))
     (cases_lt (length (a ∷ args)) (head_len k (a ∷ args)))
 
 -- what stops stays
@@ -130,12 +130,12 @@ by_named : (reading : Reading) (lead : Lead) (name : ℕ) (o : Option Command) (
 by_named Profile lead name None args c e = ([], refl)
 by_named Whole lead name None args c e = cc
 by_named Profile lead name (Some k) [] c e =
-    by_profile true (is_listed Profile k (c ∷ [])) (needs_more k []) _ _ (λ _ _ n. by_command lead name k [] c n) e (λ f. cc) (λ _ n _. given_none lead name k n)
+    by_profile true (is_listed Profile k (c ∷ [])) (needs_more k []) _ _ (λ _ _ n. by_command Profile lead name k [] c n) e (λ f. cc) (λ _ n _. given_none Profile lead name k n)
 by_named Profile lead name (Some k) (a ∷ args) c e =
-    by_profile (is_listed Profile k (a ∷ args)) (is_listed Profile k (a ∷ args)) (needs_more k (a ∷ args)) _ _ (λ _ _ n. by_command lead name k (a ∷ args) c n) e (λ f. f) (λ f _ g. cc)
-by_named Whole lead name (Some k) [] c e = from_nil _ _ (given_none lead name k e)
+    by_profile (is_listed Profile k (a ∷ args)) (is_listed Profile k (a ∷ args)) (needs_more k (a ∷ args)) _ _ (λ _ _ n. by_command Profile lead name k (a ∷ args) c n) e (λ f. f) (λ f _ g. cc)
+by_named Whole lead name (Some k) [] c e = from_nil _ _ (given_none Whole lead name k e)
 by_named Whole lead name (Some k) (a ∷ args) c e =
-    by_open (is_listed Whole k (a ∷ args)) (needs_more k (a ∷ args)) _ _ _ _ (λ n. by_command lead name k (a ∷ args) c n) e
+    by_open (is_listed Whole k (a ∷ args)) (needs_more k (a ∷ args)) _ _ _ _ (λ n. by_command Whole lead name k (a ∷ args) c n) e
   where
     by_open : (l n : Bool) (xs ys zs ws : List EscItem) → (n ≡ true → IsFrontOf xs ys) → cond l n false ≡ true → IsFrontOf (cond l xs zs) (cond l ys ws)
     by_open true n xs ys zs ws p o = p o

@@ -33,19 +33,19 @@ unfolding needs_more
 needs_counted k args e = grind arith
 
 -- Among the arguments before any data, more are needed, and nothing is given.
-pub record IsHead (lead : Lead) (name : ℕ) (k : Command) (args : List ℕ) : Type 0 where
+pub record IsHead (reading : Reading) (lead : Lead) (name : ℕ) (k : Command) (args : List ℕ) : Type 0 where
   pub needs : needs_more k args ≡ true
-  pub gives : given_by lead name k args ≡ []
+  pub gives : given_by reading lead name k args ≡ []
 
-pub heads : (lead : Lead) (name : ℕ) (k : Command) (args : List ℕ) → length args < head_len k args → IsHead lead name k args
+pub heads : (reading : Reading) (lead : Lead) (name : ℕ) (k : Command) (args : List ℕ) → length args < head_len k args → IsHead reading lead name k args
 unfolding given_by needs_more
-heads lead name k args h = grind (arith, nat_tests)
+heads reading lead name k args h = grind (arith, nat_tests)
 
 -- behind the head
-pub given_is : (lead : Lead) (name : ℕ) (k : Command) (args : List ℕ) → head_len k args ≤ length args
-    → given_by lead name k args ≡ given_behind lead name k args
+pub given_is : (reading : Reading) (lead : Lead) (name : ℕ) (k : Command) (args : List ℕ) → head_len k args ≤ length args
+    → given_by reading lead name k args ≡ given_behind reading lead name k args
 unfolding given_by
-given_is lead name k args h = let m : ltb (length args) (head_len k args) ≡ false = grind (arith, nat_tests) in rw m refl
+given_is reading lead name k args h = let m : ltb (length args) (head_len k args) ≡ false = grind (arith, nat_tests) in rw m refl
 
 -- One more byte of counted data.
 pub record IsPushed (reading : Reading) (k : Command) (args : List ℕ) (left c : ℕ) : Type 0 where

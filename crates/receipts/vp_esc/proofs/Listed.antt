@@ -7,6 +7,7 @@ use Rattle.std.proofs.lemmas.Bool.{eqb-true}
 use Rattle.std.proofs.lemmas.Bool.Decides.{nat_tests}
 use Rattle.std.proofs.lemmas.List.{append-nil, take_all}
 use Rattle.vp_dots.specs.Listing.{listed}
+use Rattle.vp_esc.specs.declared.reading.Reading.{Reading}
 use Rattle.vp_esc.specs.declared.item.EscItem.{EscItem}
 use Rattle.vp_esc.specs.declared.item.EscItem.TheVariants as items
 use Rattle.vp_esc.specs.declared.item.Lead.{Lead}
@@ -109,9 +110,9 @@ columns_listed mode bytes n e =
     let lines = single_lines items.Column8 (codes "column") bytes (λ b. refl) in
     record { parts = singles bytes; bytes_are = sym (all_singles bytes); lines_are = lines }
 
-pub columns_list : (args : List ℕ) → IsColumns args → is_column_mode (get_or args 0 0) ≡ true → IsBytes args → Lists Esc (0x2A ∷ args) (map line_of (given_behind Esc 0x2A Columns args))
+pub columns_list : (reading : Reading) (args : List ℕ) → IsColumns args → is_column_mode (get_or args 0 0) ≡ true → IsBytes args → Lists Esc (0x2A ∷ args) (map line_of (given_behind reading Esc 0x2A Columns args))
 unfolding given_behind
-columns_list args h mode b =
+columns_list reading args h mode b =
     let mode_is : is_column_mode h.m ≡ true = rw h.bytes at mode in
     let parts = columns_listed (column_mode_of h.m) h.columns (h.nl + 256 * h.nh) h.count in
     rw h.bytes (part_lines Esc (0x2A ∷ h.m ∷ h.nl ∷ h.nh ∷ []) (codes "column") (0x2A ∷ h.m ∷ h.nl ∷ h.nh ∷ h.columns) parts.parts
@@ -127,41 +128,46 @@ by_scale head dots m w n (Some scale) s e =
     (ap (λ (t : List ℕ). head ++ t) (sym (all_singles dots))) e
     (single_lines items.RasterByte _ dots (λ b. refl))
 
-pub raster_list : (args : List ℕ) → IsRaster args → eqb (get_or args 0 0) 0x30 ≡ true → IsBytes args → Lists Gs (0x76 ∷ args) (map line_of (given_behind Gs 0x76 Raster args))
+pub raster_list : (reading : Reading) (args : List ℕ) → IsRaster args → eqb (get_or args 0 0) 0x30 ≡ true → IsBytes args → Lists Gs (0x76 ∷ args) (map line_of (given_behind reading Gs 0x76 Raster args))
 unfolding given_behind
-raster_list args h z b =
+raster_list reading args h z b =
     let zero : h.zero ≡ 0x30 = eqb-true h.zero 0x30 (rw h.bytes at z) in
     rw (h.bytes, zero) (by_scale (0x76 ∷ 0x30 ∷ h.m ∷ h.xl ∷ h.xh ∷ h.yl ∷ h.yh ∷ []) h.dots h.m (h.xl + 256 * h.xh) (h.yl + 256 * h.yh) (scale_of h.m) refl
     (grind (arith, two_is)))
 
-pub graphics_list : (args : List ℕ) → IsGraphics args → Lists Gs (0x38 ∷ args) (map line_of (given_behind Gs 0x38 Graphics args))
+pub graphics_list : (reading : Reading) (args : List ℕ) → IsGraphics args → Lists Gs (0x38 ∷ args) (map line_of (given_behind reading Gs 0x38 Graphics args))
 unfolding given_behind
-graphics_list args h =
+graphics_list reading args h =
     rw h.bytes (front_line Gs (0x38 ∷ h.x ∷ h.p1 ∷ h.p2 ∷ h.p3 ∷ h.p4 ∷ []) h.parameters (0x38 ∷ h.x ∷ h.p1 ∷ h.p2 ∷ h.p3 ∷ h.p4 ∷ h.parameters)
     (items.WithoutEffect Gs (record { items = 0x38 ∷ h.x ∷ h.p1 ∷ h.p2 ∷ h.p3 ∷ h.p4 ∷ [] })) refl refl refl)
 
 -- up to 255 bytes of data are kept
-symbol_line : (kind : ℕ) (bytes : List ℕ) → length bytes ≤ 255 → line_of (symbol_unit kind bytes) ≡ listed (codes "gs") (symbol_bytes kind bytes)
-symbol_line kind bytes l = ap (λ (t : List ℕ). listed (codes "gs") (symbol_bytes kind t)) (take_all 255 bytes l)
+symbol_line : (reading : Reading) (kind : ℕ) (bytes : List ℕ) → length bytes ≤ 255 → line_of (symbol_unit reading kind bytes) ≡ listed (codes "gs") (symbol_bytes kind bytes)
+symbol_line reading kind bytes l = ap (λ (t : List ℕ). listed (codes "gs") (symbol_bytes kind t)) (take_all 255 bytes l)
 
 -- the item of these arguments
-symbol_item : (args cs : List ℕ) (kind : ℕ) → get_or args 0 0 ≡ kind → symbol_data args ≡ cs → length cs ≤ 255 → needs_more Symbol args ≡ false
-    → symbol_bytes kind cs ≡ 0x6B ∷ args → Lists Gs (0x6B ∷ args) (map line_of (given_behind Gs 0x6B Symbol args))
+symbol_item : (reading : Reading) (args cs : List ℕ) (kind : ℕ) → get_or args 0 0 ≡ kind → symbol_data args ≡ cs → length cs ≤ 255 → needs_more Symbol args ≡ false
+    → symbol_bytes kind cs ≡ 0x6B ∷ args → Lists Gs (0x6B ∷ args) (map line_of (given_behind reading Gs 0x6B Symbol args))
 unfolding given_behind
-symbol_item args cs kind k d l n b = rw n (one_line Gs (0x6B ∷ args) (symbol_unit (get_or args 0 0) (symbol_data args)) (grind (arith, get_or, symbol_line)))
+symbol_item reading args cs kind k d l n b = rw n (one_line Gs (0x6B ∷ args) (symbol_unit reading (get_or args 0 0) (symbol_data args)) (line args cs kind k d l b))
+  where
+    line : (args cs : List ℕ) (kind : ℕ) → get_or args 0 0 ≡ kind → symbol_data args ≡ cs → length cs ≤ 255 → symbol_bytes kind cs ≡ 0x6B ∷ args
+        → line_of (symbol_unit reading (get_or args 0 0) (symbol_data args)) ≡ listed (codes "gs") (0x6B ∷ args)
+    line args cs kind k d l b = ap (λ (m : ℕ). line_of (symbol_unit reading m (symbol_data args))) k ∙ ap (λ (t : List ℕ). line_of (symbol_unit reading kind t)) d
+        ∙ symbol_line reading kind cs l ∙ ap (λ (t : List ℕ). listed (codes "gs") t) b
 
-pub to_zero_list : (args : List ℕ) → IsToZero args → length args ≤ 257 → needs_more Symbol args ≡ false → Lists Gs (0x6B ∷ args) (map line_of (given_behind Gs 0x6B Symbol args))
-to_zero_list args h l n = grind (arith, common_steps, symbol_item)
+pub to_zero_list : (reading : Reading) (args : List ℕ) → IsToZero args → length args ≤ 257 → needs_more Symbol args ≡ false → Lists Gs (0x6B ∷ args) (map line_of (given_behind reading Gs 0x6B Symbol args))
+to_zero_list reading args h l n = grind (arith, common_steps, symbol_item)
 
-pub counted_list : (args : List ℕ) → IsCountedSymbol args → IsBytes args → needs_more Symbol args ≡ false → Lists Gs (0x6B ∷ args) (map line_of (given_behind Gs 0x6B Symbol args))
-counted_list args h b n = grind (arith, symbol_item)
+pub counted_list : (reading : Reading) (args : List ℕ) → IsCountedSymbol args → IsBytes args → needs_more Symbol args ≡ false → Lists Gs (0x6B ∷ args) (map line_of (given_behind reading Gs 0x6B Symbol args))
+counted_list reading args h b n = grind (arith, symbol_item)
 
 -- a command that is read past: its head in a line, and no data where none may be skipped
-past_of : (lead : Lead) (name : ℕ) (past : ReadPastCommand) (args : List ℕ) (h : IsReadPast past args)
+past_of : (reading : Reading) (lead : Lead) (name : ℕ) (past : ReadPastCommand) (args : List ℕ) (h : IsReadPast past args)
     → Lists lead (name ∷ (h.head ++ h.parameters)) (map line_of (unused lead name h.head ∷ []))
-    → Lists lead (name ∷ args) (map line_of (given_behind lead name (ReadPast past) args))
+    → Lists lead (name ∷ args) (map line_of (given_behind reading lead name (ReadPast past) args))
 unfolding given_behind
-past_of lead name past args h l =
+past_of reading lead name past args h l =
     let front : take (past_len past (h.head ++ h.parameters)) (h.head ++ h.parameters) ≡ h.head =
     past_front past h.head h.parameters (omega (arith, h.head_count)) ∙ take_all (past_len past h.head) h.head (omega (arith, h.head_count)) in
     rw h.bytes (rw front l)
@@ -169,9 +175,9 @@ past_of lead name past args h l =
 no_data : (xs : List ℕ) → length xs ≡ 0 → xs ≡ []
 no_data xs h = grind (arith, common_steps)
 
-pub past_list : (lead : Lead) (name : ℕ) (k : ReadPastCommand) (args : List ℕ) → IsNamed (ReadPast k) lead name → IsReadPast k args
-    → Lists lead (name ∷ args) (map line_of (given_behind lead name (ReadPast k) args))
-past_list lead name k args i h = past_of lead name k args h (by_past k i h.count)
+pub past_list : (reading : Reading) (lead : Lead) (name : ℕ) (k : ReadPastCommand) (args : List ℕ) → IsNamed (ReadPast k) lead name → IsReadPast k args
+    → Lists lead (name ∷ args) (map line_of (given_behind reading lead name (ReadPast k) args))
+past_list reading lead name k args i h = past_of reading lead name k args h (by_past k i h.count)
   where
     skips : ((args : List ℕ) → may_skip lead (name ∷ args) ≡ true) → Lists lead (name ∷ (h.head ++ h.parameters)) (map line_of (unused lead name h.head ∷ []))
     skips s = front_line lead (name ∷ h.head) h.parameters (name ∷ (h.head ++ h.parameters)) (unused lead name h.head) refl (s (h.head ++ h.parameters)) refl

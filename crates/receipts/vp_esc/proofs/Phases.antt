@@ -35,7 +35,7 @@ pub land_arguments : (r : EscReader) (command : Command) (rest : List ℕ) → B
     → Lands r.reading None rest (record r { phase = phases.Arguments command })
 land_arguments r command rest b few other =
     let less : length r.kept.items < head_len command r.kept.items = omega arith in
-    let h : IsHead r.lead r.name command r.kept.items = heads r.lead r.name command r.kept.items less in
+    let h : IsHead r.reading r.lead r.name command r.kept.items = heads r.reading r.lead r.name command r.kept.items less in
     lands_by true None (record r { phase = phases.Arguments command }) refl b h.needs h.gives (record { begun = b; few = less })
 
 pub land_plain : (r : EscReader) (p : PlainCommand) (rest : List ℕ) (item : EscItem)
@@ -54,7 +54,7 @@ land_stops r rest b few =
 
 -- the arguments so far have given nothing
 pub argument_none : (r : EscReader) (command : Command) (rest : List ℕ) → InArguments r command rest → given r.reading rest ≡ []
-argument_none r command rest hand = given_begun hand.begun (heads r.lead r.name command r.kept.items hand.few).gives
+argument_none r command rest hand = given_begun hand.begun (heads r.reading r.lead r.name command r.kept.items hand.few).gives
 
 pub argument_lands : (r : EscReader) (command : Command) (rest : List ℕ) (c : ℕ) (kept : List ℕ) (item : Option EscItem) (new : EscReader)
     → InArguments r command rest → is_listed r.reading command (r.kept.items ++ c ∷ []) ≡ true → kept ≡ take 255 (r.kept.items ++ c ∷ [])

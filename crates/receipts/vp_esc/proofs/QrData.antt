@@ -5,6 +5,7 @@ use Rattle.std.specs.Prelude.{option_to_list}
 use Rattle.std.proofs.lemmas.Bool.Decides.{nat_tests}
 use Rattle.std.proofs.lemmas.List.{append_cancel_left, append-nil, map_push, length-take, length_push}
 use Rattle.arrayvec.specs.ArrayVec.{ArrayVec}
+use Rattle.vp_esc.specs.declared.reading.Reading.{Reading}
 use Rattle.vp_esc.specs.declared.item.EscItem.{EscItem}
 use Rattle.vp_esc.specs.declared.item.EscItem.TheVariants as items
 use Rattle.vp_esc.specs.declared.item.Lead.{Lead}
@@ -44,10 +45,10 @@ qr_same : (count : ℕ) (values : List ℕ) (c : ℕ) (xs : List EscItem)
 unfolding qr_items
 qr_same count values c xs h = grind (arith, append_cancel_left, value_push)
 
-qr_given_is : (lead : Lead) (name pl ph : ℕ) (values : List ℕ)
-    → given_by lead name Function (107 ∷ pl ∷ ph ∷ values) ≡ qr_items (pl + 256 * ph) values
+qr_given_is : (reading : Reading) (lead : Lead) (name pl ph : ℕ) (values : List ℕ)
+    → given_by reading lead name Function (107 ∷ pl ∷ ph ∷ values) ≡ qr_items (pl + 256 * ph) values
 unfolding given_behind
-qr_given_is lead name pl ph values = given_is lead name Function (107 ∷ pl ∷ ph ∷ values) (omega arith)
+qr_given_is reading lead name pl ph values = given_is reading lead name Function (107 ∷ pl ∷ ph ∷ values) (omega arith)
 
 pub land_qr : (r : EscReader) (pl ph count : ℕ) (rest : List ℕ) (final : ArrayVec ℕ) (item : Option EscItem)
     → Begun r.reading r.lead r.name Function r.kept.items rest → r.kept.items ≡ 107 ∷ pl ∷ ph ∷ [] → count ≡ pl + 256 * ph → final.items ≡ []
@@ -55,7 +56,7 @@ pub land_qr : (r : EscReader) (pl ph count : ℕ) (rest : List ℕ) (final : Arr
     → Lands r.reading item rest (record r { phase = qr_or_ground count count; kept = final })
 land_qr r pl ph count rest final item b k e empty g =
     let b' : Begun r.reading r.lead r.name Function (107 ∷ pl ∷ ph ∷ []) rest = rw k at b in
-    lands_by (ltb 0 count) item _ refl b' (grind (arith, needs_counted, nat_tests)) (qr_given_is r.lead r.name pl ph [] ∙ rw (← e) g)
+    lands_by (ltb 0 count) item _ refl b' (grind (arith, needs_counted, nat_tests)) (qr_given_is r.reading r.lead r.name pl ph [] ∙ rw (← e) g)
     (stands_before (record r { kept = final }) (phases.Qr count count) count rest (λ h. record {
       args = 107 ∷ pl ∷ ph ∷ [];
       begun = b';
@@ -88,10 +89,10 @@ front_push args c h = grind (arith, common_steps)
 length_drop : (args : List ℕ) → 3 ≤ length args → length args ≡ 3 + length (drop 3 args)
 length_drop args h = grind arith
 
-qr_given_next : (lead : Lead) (name count : ℕ) (args : List ℕ) (c : ℕ) (xs : List EscItem) → IsQr args count
+qr_given_next : (reading : Reading) (lead : Lead) (name count : ℕ) (args : List ℕ) (c : ℕ) (xs : List EscItem) → IsQr args count
     → qr_items count (drop 3 args ++ c ∷ []) ≡ qr_items count (drop 3 args) ++ xs
-    → given_by lead name Function (args ++ c ∷ []) ≡ given_by lead name Function args ++ xs
-qr_given_next lead name count args c xs q h = grind (arith, qr_given_is)
+    → given_by reading lead name Function (args ++ c ∷ []) ≡ given_by reading lead name Function args ++ xs
+qr_given_next reading lead name count args c xs q h = grind (arith, qr_given_is)
 
 -- The first values tell whether those behind them are stored.
 store_front : (values : List ℕ) → begins_store (take 255 values) ≡ begins_store values
@@ -114,8 +115,8 @@ qr_step r count left c rest item final hand given k =
     rw hand.kept (omega (arith, length-take 255 (drop 3 hand.args), length_drop hand.args enough, hand.left_is.count, hand.left_is.some_left, hand.count_is)) in
     let h : qr_items count (take 255 (drop 3 hand.args) ++ c ∷ []) ≡ qr_items count (take 255 (drop 3 hand.args)) ++ option_to_list item =
     rw (← hand.kept) (given len (grind (arith, store_front))) in
-    let g : given_by r.lead r.name Function (hand.args ++ c ∷ []) ≡ given_by r.lead r.name Function hand.args ++ option_to_list item =
-    qr_given_next r.lead r.name count hand.args c (option_to_list item) q (qr_same count (drop 3 hand.args) c (option_to_list item) h) in
+    let g : given_by r.reading r.lead r.name Function (hand.args ++ c ∷ []) ≡ given_by r.reading r.lead r.name Function hand.args ++ option_to_list item =
+    qr_given_next r.reading r.lead r.name count hand.args c (option_to_list item) q (qr_same count (drop 3 hand.args) c (option_to_list item) h) in
     let all : final.items ≡ take 255 (drop 3 (hand.args ++ c ∷ [])) =
     k ∙ rw hand.kept (take_255_push (drop 3 hand.args) c) ∙ ap (take 255) (sym (drop_push hand.args c enough)) in
     let begins : begins_store final.items ≡ begins_store (drop 3 (hand.args ++ c ∷ [])) = ap begins_store all ∙ store_front (drop 3 (hand.args ++ c ∷ [])) in
@@ -136,8 +137,8 @@ qr_step r count left c rest item final hand given k =
       rows = refl;
       skipped = rw bytes refl;
       stored = λ more. rw bytes refl;
-      gives = λ more. rw bytes (qr_given_is r.lead r.name q.pl q.ph (49 ∷ 80 ∷ 48 ∷ more) ∙ stored_given (q.pl + 256 * q.ph) more many
-          ∙ sym (ap (λ xs. xs ++ data_items kinds.Stored more) (qr_given_is r.lead r.name q.pl q.ph (49 ∷ 80 ∷ 48 ∷ []) ∙ stored_given (q.pl + 256 * q.ph) [] many)));
+      gives = λ more. rw bytes (qr_given_is r.reading r.lead r.name q.pl q.ph (49 ∷ 80 ∷ 48 ∷ more) ∙ stored_given (q.pl + 256 * q.ph) more many
+          ∙ sym (ap (λ xs. xs ++ data_items kinds.Stored more) (qr_given_is r.reading r.lead r.name q.pl q.ph (49 ∷ 80 ∷ 48 ∷ []) ∙ stored_given (q.pl + 256 * q.ph) [] many)));
     })))
     (λ others. advances_by _ c item _ refl hand.begun p.listed p.needs g
     (stands_before (record r { kept = final }) (phases.Qr count (left - 1)) (left - 1) (rest ++ c ∷ []) (λ l. record {

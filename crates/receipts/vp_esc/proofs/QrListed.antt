@@ -5,6 +5,7 @@ use Rattle.std.specs.Prelude.{map, codes}
 use Rattle.std.proofs.lemmas.Bool.{and_parts, eqb-true}
 use Rattle.std.proofs.lemmas.Bool.Decides.{nat_tests}
 use Rattle.vp_dots.specs.Listing.{listed}
+use Rattle.vp_esc.specs.declared.reading.Reading.{Reading}
 use Rattle.vp_esc.specs.declared.item.EscItem.{EscItem}
 use Rattle.vp_esc.specs.declared.item.EscItem.TheVariants as items
 use Rattle.vp_esc.specs.declared.item.Lead.TheVariants.{Gs}
@@ -111,9 +112,9 @@ qr_list p pl ph (cn ∷ function ∷ n ∷ more) c l = by_function (is_qr_functi
 count_is : (pl ph : ℕ) → pl < 256 → ph < 256 → IsCount (pl + 256 * ph) pl ph
 count_is pl ph l h = record { low = omega arith; high = omega arith; bytes = two_is pl ph l h }
 
-pub function_list : (args : List ℕ) → IsFunction args → IsBytes args → Lists Gs (0x28 ∷ args) (map line_of (given_behind Gs 0x28 Function args))
+pub function_list : (reading : Reading) (args : List ℕ) → IsFunction args → IsBytes args → Lists Gs (0x28 ∷ args) (map line_of (given_behind reading Gs 0x28 Function args))
 unfolding given_behind
-function_list args h b =
+function_list reading args h b =
     let bytes : IsBytes (h.x ∷ h.pl ∷ h.ph ∷ h.parameters) = rw h.bytes at b in
     rw h.bytes (by_name (eqb h.x 0x6B) refl (count_is h.pl h.ph bytes.1.0 bytes.1.1.0))
   where

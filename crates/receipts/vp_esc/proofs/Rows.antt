@@ -33,7 +33,7 @@ counted_front k front more h e = grind (arith, common_steps)
 
 sized_short : (k : Command) (args front more : List ℕ) → IsSized k args → args ≡ front ++ more → more ≢ [] → needs_more k front ≡ true
 sized_short k args front more s e n =
-    let h = heads Esc 0 k front in
+    let h = heads Whole Esc 0 k front in
     grind (arith, common_steps, h, counted_front, same k front more, needs_counted, nat_tests)
 
 sized_done : (k : Command) (args : List ℕ) → IsSized k args → needs_more k args ≡ false

@@ -30,26 +30,26 @@ byte_line reading b e = grind arith
 or_none : (b : Bool) → b || false ≡ true → b ≡ true
 or_none b e = grind arith
 
-by_command : (lead : Lead) (name : ℕ) (k : Command) (args : List ℕ) → IsNamed k lead name → lists Whole k (get_or args 0 0) ≡ true → IsArguments k args → IsBytes args
-    → needs_more k args ≡ false → is_long_symbol lead (name ∷ args) ≡ false → Lists lead (name ∷ args) (map line_of (given_behind lead name k args))
+by_command : (reading : Reading) (lead : Lead) (name : ℕ) (k : Command) (args : List ℕ) → IsNamed k lead name → lists Whole k (get_or args 0 0) ≡ true → IsArguments k args → IsBytes args
+    → needs_more k args ≡ false → is_long_symbol lead (name ∷ args) ≡ false → Lists lead (name ∷ args) (map line_of (given_behind reading lead name k args))
 unfolding given_behind
-by_command lead name (Plain p) args i l a b n s = one_line lead (name ∷ args) (plain_item lead name p args) (plain_listed lead name p args i a b)
-by_command lead name TabStops args i l a b n s = rw (i.0, i.1, n) (one_line Esc (0x44 ∷ args) (stops_item args) (stops_listed args a))
-by_command lead name Columns args i l a b n s = rw (i.0, i.1) (columns_list args a (or_none _ l) b)
-by_command lead name Raster args i l a b n s = rw (i.0, i.1) (raster_list args a (or_none _ l) b)
-by_command lead name Symbol args i l a b n s =
+by_command reading lead name (Plain p) args i l a b n s = one_line lead (name ∷ args) (plain_item lead name p args) (plain_listed lead name p args i a b)
+by_command reading lead name TabStops args i l a b n s = rw (i.0, i.1, n) (one_line Esc (0x44 ∷ args) (stops_item args) (stops_listed args a))
+by_command reading lead name Columns args i l a b n s = rw (i.0, i.1) (columns_list reading args a (or_none _ l) b)
+by_command reading lead name Raster args i l a b n s = rw (i.0, i.1) (raster_list reading args a (or_none _ l) b)
+by_command reading lead name Symbol args i l a b n s =
     let short : ltb 257 (length args) ≡ false = rw (i.0, i.1) at s in
     rw (i.0, i.1) (⊎_elim
-    (λ (z : IsToZero args). to_zero_list args z (grind (arith, nat_tests)) n)
-    (λ (c : IsCountedSymbol args). counted_list args c b n)
+    (λ (z : IsToZero args). to_zero_list reading args z (grind (arith, nat_tests)) n)
+    (λ (c : IsCountedSymbol args). counted_list reading args c b n)
     a)
-by_command lead name Function args i l a b n s = rw (i.0, i.1) (function_list args a b)
-by_command lead name Graphics args i l a b n s = rw (i.0, i.1) (graphics_list args a)
-by_command lead name (ReadPast past) args i l a b n s = past_list lead name past args i a
+by_command reading lead name Function args i l a b n s = rw (i.0, i.1) (function_list reading args a b)
+by_command reading lead name Graphics args i l a b n s = rw (i.0, i.1) (graphics_list reading args a)
+by_command reading lead name (ReadPast past) args i l a b n s = past_list reading lead name past args i a
 
 -- a whole command is of the table, and its head is there
 record IsWhole (reading : Reading) (lead : Lead) (name : ℕ) (k : Command) (args front : List ℕ) : Type 0 where
-  gives : given reading front ≡ given_behind lead name k args
+  gives : given reading front ≡ given_behind reading lead name k args
   needs : needs_more k args ≡ false
 
 whole_is : (reading : Reading) (lead : Lead) (name : ℕ) (k : Command) (args front : List ℕ) → command_of reading lead name ≡ Some k → is_listed reading k args ≡ true
@@ -58,13 +58,13 @@ whole_is reading lead name k args front e l b w =
     let f : Front reading front lead name k args = front_is reading lead name k args front e b in
     let needs : needs_more k args ≡ false = rw l at (sym f.opens ∙ w) in
     record {
-      gives = f.gives ∙ rw l (given_is lead name k args (has_head needs));
+      gives = f.gives ∙ rw l (given_is reading lead name k args (has_head needs));
       needs = needs;
     }
   where
     has_head : needs_more k args ≡ false → head_len k args ≤ length args
     has_head n = ⊎_elim
-        (λ (h : length args < head_len k args). let i : IsHead lead name k args = heads lead name k args h in let m : needs_more k args ≡ true = i.needs in let no : true ≡ false = sym m ∙ n in cc)
+        (λ (h : length args < head_len k args). let i : IsHead reading lead name k args = heads reading lead name k args h in let m : needs_more k args ≡ true = i.needs in let no : true ≡ false = sym m ∙ n in cc)
         (λ (h : head_len k args ≤ length args). h)
         (cases_lt (length args) (head_len k args))
 
@@ -99,7 +99,7 @@ command_lines reading lead bytes b u s = ⊎_elim
         let short : is_long_symbol c.lead (c.name ∷ c.args) ≡ false = ap (λ l. is_long_symbol l (c.name ∷ c.args)) (sym same.0) ∙ ap (is_long_symbol lead) (sym same.1) ∙ s in
         let all : IsBytes (c.name ∷ c.args) = rw (same.1) at b in
         let first = first_listed reading c.command c.args c.listed whole.needs in
-        let lists = by_command c.lead c.name c.command c.args (named_so reading c.lead c.name c.command c.named) first c.arguments all.1 whole.needs short in
+        let lists = by_command reading c.lead c.name c.command c.args (named_so reading c.lead c.name c.command c.named) first c.arguments all.1 whole.needs short in
         rw whole.gives (rw (same.0, same.1) lists)
 
     of_none : IsPassedOver reading (lead_byte lead ∷ bytes) → Lists lead bytes (map line_of (given reading (lead_byte lead ∷ bytes)))

@@ -1,14 +1,26 @@
 -- What the profile reads without a fault is read alike by the whole language.
-use Rattle.std.proofs.Common.{◌≡◌, ℕ, Bool, true, false, Option, None, Some, List, [], ◌∷◌, ◌++◌, refl, sym, ◌∙◌, arith}
+use Rattle.std.proofs.Common.{◌≡◌, ℕ, Bool, true, false, Option, None, Some, List, [], ◌∷◌, ◌++◌, length, drop, map, cond, eqb, ltb, get_or, refl, sym, ap, ◌∙◌, arith}
 use Rattle.std.specs.List.{flat_map, AllByRecursion}
+use Rattle.std.proofs.lemmas.List.{map-append}
+use Rattle.vp_esc.specs.declared.reading.Reading.{Reading}
 use Rattle.vp_esc.specs.declared.reading.Reading.TheVariants.{Profile, Whole}
+use Rattle.vp_esc.specs.declared.item.EscItem.{EscItem}
+use Rattle.vp_esc.specs.declared.item.EscItem.TheVariants as items
+use Rattle.vp_esc.specs.declared.item.RasterScale.{RasterScale}
+use Rattle.vp_esc.specs.declared.item.QrModel.{QrModel}
+use Rattle.vp_esc.specs.declared.item.ColumnMode.{ColumnMode}
+use Rattle.vp_esc.specs.declared.item.ColumnMode.TheVariants.{Single8, Double8, Single24, Double24}
 use Rattle.vp_dots.specs.declared.fault.Fault.{Fault}
 use Rattle.vp_esc.specs.declared.item.Lead.{Lead}
 use Rattle.vp_esc.specs.declared.command.Command.{Command}
-use Rattle.vp_esc.specs.Command.{lead_of, command_of, is_listed}
-use Rattle.vp_esc.specs.Units.{is_unfinished, given, fault_in}
-use Rattle.vp_esc.specs.Split.{Split, with_byte, split_on, split, items, fault_of}
-use Rattle.vp_esc.specs.Laws.{IsUnit}
+use Rattle.vp_esc.specs.declared.command.Command.TheVariants.{Plain, TabStops, Columns, Raster, Symbol, Function, Graphics, ReadPast}
+use Rattle.vp_esc.specs.declared.command.Plain.{Plain as PlainCommand}
+use Rattle.vp_esc.specs.Values.{column_mode_of, scale_of, qr_model_of, qr_level_of}
+use Rattle.vp_esc.specs.Command.{lead_of, command_of, head_len, is_listed}
+use Rattle.vp_esc.specs.Qr.{qr_items, value_items, is_qr_function, model_items, module_item, level_item, print_item}
+use Rattle.vp_esc.specs.Units.{is_unfinished, given, fault_in, given_by, given_behind, needs_more, plain_item, stops_item, symbol_data, symbol_unit, at_last, word_at, single_item, raster_bytes, columns, tall_columns}
+use Rattle.vp_esc.specs.Split.{Split, with_byte, split_on, split, items as items_of, fault_of}
+use Rattle.vp_esc.specs.Laws.{IsUnit, as_read_by}
 use Rattle.vp_esc.proofs.Divisions.{splits}
 use Rattle.vp_esc.proofs.Faults.{split_stays, fault_stays_lem}
 use Rattle.vp_esc.proofs.Fronts.{closed_sound}
@@ -21,17 +33,124 @@ pub no_fault : (bytes : List ℕ) → fault_of Whole bytes ≡ None
 unfolding fault_of
 no_fault bytes = never (split Whole bytes).rest
 
+-- the items of one reading are those of another, but for their bar codes
+abbrev Same : Reading → List EscItem → List EscItem → Type 0
+Same reading xs ys = xs ≡ map (as_read_by reading) ys
+
+both : (reading : Reading) {xs zs : List EscItem} (ys ws : List EscItem) → Same reading xs ys → Same reading zs ws → Same reading (xs ++ zs) (ys ++ ws)
+both reading ys ws p q = rw (p, q) (sym (map-append (as_read_by reading) ys ws))
+
+-- a choice that is the same
+chosen : (reading : Reading) (b : Bool) {xs zs : List EscItem} (ys ws : List EscItem) → Same reading xs ys → Same reading zs ws → Same reading (cond b xs zs) (cond b ys ws)
+chosen reading true ys ws p q = p
+chosen reading false ys ws p q = q
+
+-- items without a bar code
+record ArePlain (reading : Reading) (xs : List EscItem) : Type 0 where
+  same : Same reading xs xs
+
+none : {reading : Reading} → ArePlain reading []
+none = record { same = refl }
+
+more : {reading : Reading} {item : EscItem} {xs : List EscItem} → as_read_by reading item ≡ item → ArePlain reading xs → ArePlain reading (item ∷ xs)
+more {reading} {item} {xs} e rest = record { same = rw e (ap (λ ys. item ∷ ys) rest.same) }
+
+columns8 : (reading : Reading) (bytes : List ℕ) → ArePlain reading (columns Single8 bytes)
+columns8 reading [] = none
+columns8 reading (b ∷ bytes) = more refl (columns8 reading bytes)
+
+columns24 : (reading : Reading) (bytes : List ℕ) → ArePlain reading (tall_columns bytes)
+columns24 reading (a ∷ b ∷ c ∷ bytes) = more refl (columns24 reading bytes)
+columns24 reading bytes = none
+
+columns_plain : (reading : Reading) (mode : ColumnMode) (bytes : List ℕ) → ArePlain reading (columns mode bytes)
+columns_plain reading Single8 bytes = columns8 reading bytes
+columns_plain reading Double8 bytes = columns8 reading bytes
+columns_plain reading Single24 bytes = columns24 reading bytes
+columns_plain reading Double24 bytes = columns24 reading bytes
+
+rows_plain : (reading : Reading) (scale : RasterScale) (bytes : List ℕ) → ArePlain reading (raster_bytes (Some scale) bytes)
+rows_plain reading scale [] = none
+rows_plain reading scale (b ∷ bytes) = more refl (rows_plain reading scale bytes)
+
+raster_plain : (reading : Reading) (scale : Option RasterScale) (bytes : List ℕ) → ArePlain reading (raster_bytes scale bytes)
+raster_plain reading None bytes = none
+raster_plain reading (Some scale) bytes = rows_plain reading scale bytes
+
+stored_plain : (reading : Reading) (bytes : List ℕ) → ArePlain reading (map (λ b. items.QrByte b) bytes)
+stored_plain reading [] = none
+stored_plain reading (b ∷ bytes) = more refl (stored_plain reading bytes)
+
+-- GS ( k.
+
+model_same : (reading : Reading) (count cn n : ℕ) (model : Option QrModel) (bytes : List ℕ) → Same reading (model_items count cn n model bytes) (model_items count cn n model bytes)
+model_same reading count cn n model bytes = grind arith
+
+one_same : (reading : Reading) (item : EscItem) → as_read_by reading item ≡ item → Same reading (item ∷ []) (item ∷ [])
+one_same reading item e = ap (λ x. x ∷ []) (sym e)
+
+value_same : (reading : Reading) (count cn function n : ℕ) (bytes : List ℕ) → Same reading (value_items count cn function n bytes) (value_items count cn function n bytes)
+unfolding value_items
+value_same reading count cn function n bytes =
+    chosen reading (eqb function 65) _ _ (model_same reading count cn n (qr_model_of n) bytes)
+    (chosen reading (eqb function 67) _ _ (one_same reading (module_item count cn n) (grind arith))
+    (chosen reading (eqb function 69) _ _ (one_same reading (level_item count cn n (qr_level_of n)) (grind arith))
+    (chosen reading (eqb function 80) _ _ (chosen reading (eqb n 48) _ _ (more refl (stored_plain reading bytes)).same refl)
+    (one_same reading (print_item count cn n) (grind arith)))))
+
+qr_same : (reading : Reading) (count : ℕ) (bytes : List ℕ) → Same reading (qr_items count bytes) (qr_items count bytes)
+unfolding qr_items
+qr_same reading count [] = chosen reading (eqb count 0) _ _ refl refl
+qr_same reading count (cn ∷ []) = chosen reading (eqb count 1) _ _ refl refl
+qr_same reading count (cn ∷ function ∷ []) = chosen reading (is_qr_function cn function count) _ _ refl refl
+qr_same reading count (cn ∷ function ∷ n ∷ bytes) = chosen reading (is_qr_function cn function count) _ _ (value_same reading count cn function n bytes) refl
+
+-- Of a command.
+
+single_same : (reading : Reading) (b : ℕ) → as_read_by reading (single_item b) ≡ single_item b
+single_same reading b = grind arith
+
+plain_same : (reading : Reading) (lead : Lead) (name : ℕ) (p : PlainCommand) (args : List ℕ) → as_read_by reading (plain_item lead name p args) ≡ plain_item lead name p args
+plain_same reading lead name p args = grind arith
+
+stops_same : (reading : Reading) (part : Bool) (args : List ℕ) → Same reading (at_last part (stops_item args)) (at_last part (stops_item args))
+stops_same reading true args = refl
+stops_same reading false args = grind arith
+
+symbol_same : (reading other : Reading) (part : Bool) (m : ℕ) (bytes : List ℕ) → Same reading (at_last part (symbol_unit reading m bytes)) (at_last part (symbol_unit other m bytes))
+symbol_same reading other true m bytes = refl
+symbol_same reading other false m bytes = refl
+
+behind_same : (reading other : Reading) (lead : Lead) (name : ℕ) (k : Command) (args : List ℕ)
+    → Same reading (given_behind reading lead name k args) (given_behind other lead name k args)
+unfolding given_behind
+behind_same reading other lead name (Plain p) args = one_same reading (plain_item lead name p args) (plain_same reading lead name p args)
+behind_same reading other lead name TabStops args = stops_same reading (needs_more TabStops args) args
+behind_same reading other lead name Columns args = (more refl (columns_plain reading (column_mode_of (get_or args 0 0)) (drop 3 args))).same
+behind_same reading other lead name Raster args = (more refl (raster_plain reading (scale_of (get_or args 1 0)) (drop 6 args))).same
+behind_same reading other lead name Symbol args = symbol_same reading other (needs_more Symbol args) (get_or args 0 0) (symbol_data args)
+behind_same reading other lead name Function args = chosen reading (eqb (get_or args 0 0) 0x6B) _ _ (qr_same reading (word_at args 1) (drop 3 args)) refl
+behind_same reading other lead name Graphics args = refl
+behind_same reading other lead name (ReadPast past) args = refl
+
+by_same : (reading other : Reading) (lead : Lead) (name : ℕ) (k : Command) (args : List ℕ)
+    → Same reading (given_by reading lead name k args) (given_by other lead name k args)
+unfolding given_by
+by_same reading other lead name k args = chosen reading (ltb (length args) (head_len k args)) _ _ refl (behind_same reading other lead name k args)
+
 -- a front is open or whole in both, and gives the same
 record IsAlike (front : List ℕ) : Type 0 where
   opens : is_unfinished Whole front ≡ is_unfinished Profile front
-  gives : given Whole front ≡ given Profile front
+  gives : (reading other : Reading) → Same reading (given reading front) (given other front)
 
-in_table : (lead : Lead) (b : ℕ) (k : Command) → command_of Profile lead b ≡ Some k → command_of Whole lead b ≡ Some k
+in_table : (reading : Reading) (lead : Lead) (b : ℕ) (k : Command) → command_of Profile lead b ≡ Some k → command_of reading lead b ≡ Some k
 unfolding command_of
-in_table lead b k e = rw e refl
+in_table Profile lead b k e = e
+in_table Whole lead b k e = rw e refl
 
-listed_too : (k : Command) (args : List ℕ) → is_listed Profile k args ≡ true → is_listed Whole k args ≡ true
-listed_too k args l = grind arith
+listed_too : (reading : Reading) (k : Command) (args : List ℕ) → is_listed Profile k args ≡ true → is_listed reading k args ≡ true
+listed_too Profile k args l = l
+listed_too Whole k args l = grind arith
 
 named : (b : ℕ) (lead : Lead) (c : ℕ) (args : List ℕ) (o : Option Command) → lead_of b ≡ Some lead → command_of Profile lead c ≡ o
     → fault_in Profile (b ∷ c ∷ args) ≡ None → IsAlike (b ∷ c ∷ args)
@@ -39,19 +158,27 @@ unfolding is_unfinished given fault_in
 named b lead c args None e f g = absurd (grind arith)
 named b lead c args (Some k) e f g =
     let l : is_listed Profile k args ≡ true = grind arith in
-    let w = in_table lead c k f in
-    let m = listed_too k args l in
-    record { opens = rw (e, f, w, l, m) refl; gives = rw (e, f, w, l, m) refl }
+    let w = in_table Whole lead c k f in
+    let m = listed_too Whole k args l in
+    record {
+      opens = rw (e, f, w, l, m) refl;
+      gives = λ reading other.
+          let one = in_table reading lead c k f in
+          let two = in_table other lead c k f in
+          let here = listed_too reading k args l in
+          let there = listed_too other k args l in
+          rw (e, one, two, here, there) (by_same reading other lead c k args);
+    }
 
 after : (b : ℕ) (bytes : List ℕ) (o : Option Lead) → lead_of b ≡ o → fault_in Profile (b ∷ bytes) ≡ None → IsAlike (b ∷ bytes)
 unfolding is_unfinished given
-after b bytes None e g = record { opens = rw e refl; gives = rw e refl }
-after b [] (Some lead) e g = record { opens = rw e refl; gives = rw e refl }
+after b bytes None e g = record { opens = rw e refl; gives = λ reading other. rw (e, single_same reading b) refl }
+after b [] (Some lead) e g = record { opens = rw e refl; gives = λ reading other. rw e refl }
 after b (c ∷ args) (Some lead) e g = named b lead c args (command_of Profile lead c) e refl g
 
 alike : (front : List ℕ) → fault_in Profile front ≡ None → IsAlike front
 unfolding is_unfinished given
-alike [] g = record { opens = refl; gives = refl }
+alike [] g = record { opens = refl; gives = λ reading other. refl }
 alike (b ∷ bytes) g = after b bytes (lead_of b) refl g
 
 -- no fault in the end is none before
@@ -79,23 +206,30 @@ pub units_lem : (bytes : List ℕ) → fault_of Profile bytes ≡ None → split
 unfolding fault_of split
 units_lem bytes g = split_alike (record { units = []; rest = [] }) bytes g
 
-given_alike : (units : List (List ℕ)) → AllByRecursion (IsUnit Profile) units → flat_map (given Whole) units ≡ flat_map (given Profile) units
-given_alike [] a = refl
-given_alike (u ∷ units) a =
-    let one = alike u (closed_sound Profile u a.0.whole) in
-    rw (one.gives, given_alike units a.1) refl
+-- each reading divides it so
+split_by : (reading : Reading) (bytes : List ℕ) → fault_of Profile bytes ≡ None → split reading bytes ≡ split Profile bytes
+split_by Profile bytes g = refl
+split_by Whole bytes g = units_lem bytes g
 
-same_items : (bytes : List ℕ) → fault_of Profile bytes ≡ None → items Whole bytes ≡ items Profile bytes
-unfolding items fault_of
-same_items bytes g =
+given_alike : (reading other : Reading) (units : List (List ℕ)) → AllByRecursion (IsUnit Profile) units
+    → Same reading (flat_map (given reading) units) (flat_map (given other) units)
+given_alike reading other [] a = refl
+given_alike reading other (u ∷ units) a =
+    let one = alike u (closed_sound Profile u a.0.whole) in
+    both reading _ _ (one.gives reading other) (given_alike reading other units a.1)
+
+same_items : (reading other : Reading) (bytes : List ℕ) → fault_of Profile bytes ≡ None → Same reading (items_of reading bytes) (items_of other bytes)
+unfolding items_of fault_of
+same_items reading other bytes g =
     let s = splits Profile bytes in
     let rest = alike (split Profile bytes).rest g in
-    rw (units_lem bytes g, rest.gives, given_alike (split Profile bytes).units s.each) refl
+    rw (split_by reading bytes g, split_by other bytes g)
+    (both reading _ _ (given_alike reading other (split Profile bytes).units s.each) (rest.gives reading other))
 
 -- a front of what has no fault has none
 front_known : (bytes more : List ℕ) (o : Option Fault) → fault_of Profile bytes ≡ o → fault_of Profile (bytes ++ more) ≡ None → o ≡ None
 front_known bytes more None e g = refl
 front_known bytes more (Some f) e g = let t : ◌≡◌ {A = Option Fault} None (Some f) = sym g ∙ fault_stays_lem Profile bytes more f e in cc
 
-pub items_lem : (bytes more : List ℕ) → fault_of Profile (bytes ++ more) ≡ None → items Whole bytes ≡ items Profile bytes
-items_lem bytes more g = same_items bytes (front_known bytes more (fault_of Profile bytes) refl g)
+pub items_lem : (reading other : Reading) (bytes more : List ℕ) → fault_of Profile (bytes ++ more) ≡ None → Same reading (items_of reading bytes) (items_of other bytes)
+items_lem reading other bytes more g = same_items reading other bytes (front_known bytes more (fault_of Profile bytes) refl g)

@@ -2,6 +2,9 @@
 use Rattle.std.specs.Prelude.{◌≡◌, ◌≢◌, ℕ, true, false, List, [], ◌++◌}
 use Rattle.std.specs.List.{flat_map, AllByRecursion}
 use Rattle.vp_esc.specs.declared.reading.Reading.{Reading}
+use Rattle.vp_esc.specs.declared.item.EscItem.{EscItem}
+use Rattle.vp_esc.specs.declared.item.EscItem.TheVariants.{Symbol}
+use Rattle.vp_esc.specs.Values.{spelled, bar_code_of}
 use Rattle.vp_esc.specs.Units.{is_unfinished}
 
 -- Each proper front is open: no whole unit ends before.
@@ -27,3 +30,9 @@ pub record Splits (reading : Reading) (bytes : List ℕ) (units : List (List ℕ
   pub spelling : bytes ≡ all_bytes units ++ rest
   pub each : AllByRecursion (IsUnit reading) units
   pub end : IsRest reading rest
+
+-- GS k as the reading has it: the bar code is what its table says of the kind. Any other item stays.
+abbrev pub as_read_by : Reading → EscItem → EscItem
+as_read_by reading (Symbol kind bytes more) =
+    Symbol (spelled kind.byte (bar_code_of reading kind.byte)) bytes more
+as_read_by reading item = item

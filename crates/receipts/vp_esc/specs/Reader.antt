@@ -143,8 +143,8 @@ pub record InBytes (r : EscReader) (kind : Data) (left : ℕ) (rest : List ℕ) 
   pub rows : prints_rows command args ≡ are_rows kind
   pub skipped : is_skipped command args ≡ give_nothing kind
   pub stored : (more : List ℕ) → stores_bytes command (args ++ more) ≡ are_stored kind
-  pub gives : (more : List ℕ) → given_by r.lead r.name command (args ++ more)
-      ≡ given_by r.lead r.name command args ++ data_items kind more
+  pub gives : (more : List ℕ) → given_by r.reading r.lead r.name command (args ++ more)
+      ≡ given_by r.reading r.lead r.name command args ++ data_items kind more
 
 pub record InTallColumns (r : EscReader) (left : ℕ) (rest : List ℕ) : Type 0 where
   pub args : List ℕ

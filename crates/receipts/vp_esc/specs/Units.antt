@@ -159,12 +159,14 @@ abbrev pub symbol_data : List ℕ → List ℕ
 symbol_data args =
     if is_kind_to_zero (slice_index args 0) then take (length args - 2) (drop 1 args) else drop 2 args
 
-abbrev pub symbol_with : ℕ → List ℕ → Bool → EscItem
-symbol_with m kept more = items.Symbol (spelled m (Values.bar_code_of m)) (record { items = kept }) more
+abbrev pub symbol_with : Reading → ℕ → List ℕ → Bool → EscItem
+symbol_with reading m kept more =
+    items.Symbol (spelled m (Values.bar_code_of reading m)) (record { items = kept }) more
 
 -- the first bytes, as many as are kept, and whether there are more
-abbrev pub symbol_unit : ℕ → List ℕ → EscItem
-symbol_unit m bytes = symbol_with m (take DATA_BYTES bytes) (nat_lt DATA_BYTES (length bytes))
+abbrev pub symbol_unit : Reading → ℕ → List ℕ → EscItem
+symbol_unit reading m bytes =
+    symbol_with reading m (take DATA_BYTES bytes) (nat_lt DATA_BYTES (length bytes))
 
 -- each three bytes are a column of 24 dots
 abbrev pub tall_columns : List ℕ → List EscItem
@@ -206,28 +208,28 @@ at_last true item = []
 at_last false item = item ∷ []
 
 -- what a command has given, from the last byte of its head on
-unfoldable pub given_behind : Lead → ℕ → Command → List ℕ → List EscItem
-given_behind lead name (Plain plain) args = plain_item lead name plain args ∷ []
-given_behind lead name TabStops args = at_last (needs_more TabStops args) (stops_item args)
-given_behind lead name Columns args =
+unfoldable pub given_behind : Reading → Lead → ℕ → Command → List ℕ → List EscItem
+given_behind reading lead name (Plain plain) args = plain_item lead name plain args ∷ []
+given_behind reading lead name TabStops args = at_last (needs_more TabStops args) (stops_item args)
+given_behind reading lead name Columns args =
     items.Columns (column_mode_of (slice_index args 0)) (word_at args 1)
     ∷ columns (column_mode_of (slice_index args 0)) (drop 3 args)
-given_behind lead name Raster args =
+given_behind reading lead name Raster args =
     items.Raster (spelled (slice_index args 1) (scale_of (slice_index args 1)))
     (word_at args 2) (word_at args 4)
     ∷ raster_bytes (scale_of (slice_index args 1)) (drop 6 args)
-given_behind lead name Symbol args =
-    at_last (needs_more Symbol args) (symbol_unit (slice_index args 0) (symbol_data args))
-given_behind lead name Function args =
+given_behind reading lead name Symbol args =
+    at_last (needs_more Symbol args) (symbol_unit reading (slice_index args 0) (symbol_data args))
+given_behind reading lead name Function args =
     if slice_index args 0 == 0x6B then qr_items (word_at args 1) (drop 3 args)
     else unused lead name (take 3 args) ∷ []
-given_behind lead name Graphics args = unused lead name (take 5 args) ∷ []
-given_behind lead name (ReadPast past) args = unused lead name (take (past_len past args) args) ∷ []
+given_behind reading lead name Graphics args = unused lead name (take 5 args) ∷ []
+given_behind reading lead name (ReadPast past) args = unused lead name (take (past_len past args) args) ∷ []
 
 -- what the arguments so far have given
-unfoldable pub given_by : Lead → ℕ → Command → List ℕ → List EscItem
-given_by lead name command args =
-    if nat_lt (length args) (head_len command args) then [] else given_behind lead name command args
+unfoldable pub given_by : Reading → Lead → ℕ → Command → List ℕ → List EscItem
+given_by reading lead name command args =
+    if nat_lt (length args) (head_len command args) then [] else given_behind reading lead name command args
 
 -- a byte that is a unit alone
 abbrev pub single_item : ℕ → EscItem
@@ -269,7 +271,7 @@ passed_over Whole lead name args = unused lead name args ∷ []
 abbrev pub given_named : Reading → Lead → ℕ → Option Command → List ℕ → List EscItem
 given_named reading lead name None args = passed_over reading lead name args
 given_named reading lead name (Some command) args =
-    if is_listed reading command args then given_by lead name command args
+    if is_listed reading command args then given_by reading lead name command args
     else passed_over reading lead name args
 
 abbrev pub given_after : Reading → Option Lead → ℕ → List ℕ → List EscItem

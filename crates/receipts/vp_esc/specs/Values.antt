@@ -1,6 +1,9 @@
 -- What the bytes of arguments stand for, by the name of the command in Epson's reference.
 use Rattle.std.specs.Prelude.{ℕ, ◌+◌, ◌/◌, ◌%◌, ◌^◌, ◌==◌, Bool, false, ◌&&◌, nat_le, ◌||◌, Option, Some, None}
 use Rattle.std.specs.Prelude.{if◌then◌else◌}
+use Rattle.std.specs.Option.{option_or}
+use Rattle.vp_esc.specs.declared.reading.Reading.{Reading}
+use Rattle.vp_esc.specs.declared.reading.Reading.TheVariants.{Profile, Whole}
 use Rattle.vp_esc.specs.declared.item.Spelled.{Spelled}
 use Rattle.vp_esc.specs.declared.item.Underline.{Underline}
 use Rattle.vp_esc.specs.declared.item.Underline.TheVariants.{Off, OneRow, TwoRows}
@@ -22,7 +25,8 @@ use Rattle.vp_esc.specs.declared.item.ColumnMode.TheVariants.{Single8, Double8, 
 use Rattle.vp_esc.specs.declared.item.RasterScale.{RasterScale}
 use Rattle.vp_esc.specs.declared.item.RasterScale.TheVariants.{Normal, DoubleWidth, DoubleHeight, Quadruple}
 use Rattle.vp_bar_code.specs.declared.BarCode.{BarCode}
-use Rattle.vp_bar_code.specs.declared.BarCode.TheVariants.{Ean13, Code39, Code128}
+use Rattle.vp_bar_code.specs.declared.BarCode.TheVariants.{Ean13, Code39, Code128, UpcA, UpcE, Ean8}
+use Rattle.vp_bar_code.specs.declared.BarCode.TheVariants.{Interleaved, Codabar, Code93}
 use Rattle.vp_bar_code.specs.declared.Code128Data.TheVariants.{Escapes}
 use Rattle.vp_esc.specs.declared.item.QrModel.{QrModel}
 use Rattle.vp_esc.specs.declared.item.QrModel.TheVariants as models
@@ -142,13 +146,29 @@ is_kind_counted m = nat_le 65 m && nat_le m 73
 abbrev pub is_added_kind : ℕ → Bool
 is_added_kind m = nat_le 74 m && nat_le m 79
 
--- GS k: the kinds that are drawn
-abbrev pub bar_code_of : ℕ → Option BarCode
-bar_code_of m =
+-- GS k: the kinds that the profile draws,
+abbrev pub profile_bar_code : ℕ → Option BarCode
+profile_bar_code m =
     if m == 2 || m == 67 then Some (Ean13 false)
     else if m == 4 || m == 69 then Some (Code39 false)
     else if m == 73 then Some (Code128 Escapes)
     else None
+
+-- and those that the whole language adds
+abbrev pub added_bar_code : ℕ → Option BarCode
+added_bar_code m =
+    if m == 0 || m == 65 then Some UpcA
+    else if m == 1 || m == 66 then Some UpcE
+    else if m == 3 || m == 68 then Some Ean8
+    else if m == 5 || m == 70 then Some (Interleaved false)
+    else if m == 6 || m == 71 then Some Codabar
+    else if m == 72 then Some Code93
+    else None
+
+-- GS k: the bar code that a kind draws
+abbrev pub bar_code_of : Reading → ℕ → Option BarCode
+bar_code_of Profile m = profile_bar_code m
+bar_code_of Whole m = option_or (profile_bar_code m) (added_bar_code m)
 
 -- GS ( k, function 65
 abbrev pub qr_model_of : ℕ → Option QrModel

@@ -375,11 +375,11 @@ impl EscReader {
         ensures event { result ≡ Event.Given }
         ensures state { self.new ≡ record self.old {
           kept = self.new.kept;
-          item = symbol_with kind self.old.kept.items more;
+          item = symbol_with self.old.reading kind self.old.kept.items more;
         } }
     {
         self.item = EscItem::Symbol {
-            kind: spelled(kind, bar_code_of(kind)),
+            kind: spelled(kind, bar_code_of(self.reading, kind)),
             data: self.kept.take(),
             more,
         };

@@ -7,6 +7,7 @@ use crate::item::{
     ColumnMode, Cut, Magnification, PrintDirection, PrintMode, QrLevel, QrModel, RasterScale,
     Spelled, Underline,
 };
+use crate::reading::Reading;
 use vp_bar_code::{BarCode, Code128Data, HriPosition};
 use vp_glyph::{Alignment, Font};
 
@@ -186,8 +187,21 @@ pub fn is_added_kind(m: u8) -> bool
     74 <= m && m <= 79
 }
 
-pub fn bar_code_of(m: u8) -> Option<BarCode>
-    ensures { result ≡ spec.bar_code_of m }
+/// The bar code that GS k draws by this kind, if there is one.
+pub fn bar_code_of(reading: Reading, m: u8) -> Option<BarCode>
+    ensures { result ≡ spec.bar_code_of reading m }
+{
+    match profile_bar_code(m) {
+        None => match reading {
+            Reading::Profile => None,
+            Reading::Whole => added_bar_code(m),
+        },
+        known => known,
+    }
+}
+
+fn profile_bar_code(m: u8) -> Option<BarCode>
+    ensures { result ≡ spec.profile_bar_code m }
 {
     match m {
         2 | 67 => Some(BarCode::Ean13 { padded: false }),
@@ -195,6 +209,21 @@ pub fn bar_code_of(m: u8) -> Option<BarCode>
         73 => Some(BarCode::Code128 {
             data: Code128Data::Escapes,
         }),
+        _ => None,
+    }
+}
+
+/// The bar code that the whole language adds for this kind.
+fn added_bar_code(m: u8) -> Option<BarCode>
+    ensures { result ≡ spec.added_bar_code m }
+{
+    match m {
+        0 | 65 => Some(BarCode::UpcA),
+        1 | 66 => Some(BarCode::UpcE),
+        3 | 68 => Some(BarCode::Ean8),
+        5 | 70 => Some(BarCode::Interleaved { check: false }),
+        6 | 71 => Some(BarCode::Codabar),
+        72 => Some(BarCode::Code93),
         _ => None,
     }
 }

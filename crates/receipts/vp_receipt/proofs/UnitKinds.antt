@@ -62,24 +62,24 @@ unfolding qr_items value_items
 qr_other count bytes = grind (arith, other, none, nat_le, more, stored_other)
 
 -- a command from the last byte of its head on
-behind : (lead : Lead) (name : ℕ) (command : Command) (args : List ℕ) → nat_lt (length args) (head_len command args) ≡ false →
-    Kind (given_behind lead name command args) (needs_more command args)
+behind : (reading : Reading) (lead : Lead) (name : ℕ) (command : Command) (args : List ℕ) → nat_lt (length args) (head_len command args) ≡ false →
+    Kind (given_behind reading lead name command args) (needs_more command args)
 unfolding given_behind needs_more
-behind lead name (ReadPast past) args h = inl (more (other refl) none)
-behind lead name command args h = grind (arith, other, slice_index, none, more, columns8, columns24, ltb-false, length-drop, qr_other)
+behind reading lead name (ReadPast past) args h = inl (more (other refl) none)
+behind reading lead name command args h = grind (arith, other, slice_index, none, more, columns8, columns24, ltb-false, length-drop, qr_other)
 
-of_command : (lead : Lead) (name : ℕ) (command : Command) (args : List ℕ) → Kind (given_by lead name command args) (needs_more command args)
+of_command : (reading : Reading) (lead : Lead) (name : ℕ) (command : Command) (args : List ℕ) → Kind (given_by reading lead name command args) (needs_more command args)
 unfolding given_by
-of_command lead name command args = by_head (nat_lt (length args) (head_len command args)) refl
+of_command reading lead name command args = by_head (nat_lt (length args) (head_len command args)) refl
   where
-    by_head : (b : Bool) → nat_lt (length args) (head_len command args) ≡ b → Kind (cond b [] (given_behind lead name command args)) (needs_more command args)
+    by_head : (b : Bool) → nat_lt (length args) (head_len command args) ≡ b → Kind (cond b [] (given_behind reading lead name command args)) (needs_more command args)
     by_head true e = inl none
-    by_head false e = behind lead name command args e
+    by_head false e = behind reading lead name command args e
 
 -- a command, or what the table hasn't
 of_listed : (listed : Bool) (reading : Reading) (lead : Lead) (name : ℕ) (command : Command) (args : List ℕ)
-    → Kind (cond listed (given_by lead name command args) (passed_over reading lead name args)) (cond listed (needs_more command args) (stays_open reading))
-of_listed true reading lead name command args = of_command lead name command args
+    → Kind (cond listed (given_by reading lead name command args) (passed_over reading lead name args)) (cond listed (needs_more command args) (stays_open reading))
+of_listed true reading lead name command args = of_command reading lead name command args
 of_listed false Profile lead name command args = inl none
 of_listed false Whole lead name command args = inl (more (other refl) none)
 

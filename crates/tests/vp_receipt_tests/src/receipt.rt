@@ -76,7 +76,18 @@ fn print_on(
     room: usize,
     paper: &mut Vec<u8>,
 ) -> Result<Option<Fault>, AllocError> {
-    let mut reader = EscReader::new(Reading::Profile);
+    print_by(Reading::Profile, receipt, sent, room, paper)
+}
+
+/// The same by the commands of a reading.
+fn print_by(
+    reading: Reading,
+    receipt: &mut Receipt,
+    sent: &[u8],
+    room: usize,
+    paper: &mut Vec<u8>,
+) -> Result<Option<Fault>, AllocError> {
+    let mut reader = EscReader::new(reading);
     let mut fault = None;
     for byte in sent {
         let refused = match reader.take(*byte) {

@@ -63,8 +63,13 @@ type Row = (&'static [u8], &'static str);
 
 /// Each row's bytes give the item of its words.
 fn right(rt: &impl Abort, rows: &[Row]) {
+    right_by(rt, Reading::Profile, rows);
+}
+
+/// The same by the commands of a reading.
+fn right_by(rt: &impl Abort, reading: Reading, rows: &[Row]) {
     for (bytes, words) in rows {
-        let found = match last_item(&mut EscReader::new(Reading::Profile), bytes) {
+        let found = match last_item(&mut EscReader::new(reading), bytes) {
             Some(item) => in_words(item),
             None => "nothing",
         };
@@ -214,7 +219,20 @@ fn bar_code_in_words(kind: &Spelled<Option<BarCode>>) -> &'static str {
             byte: 65,
             value: None,
         } => "65 for no bar code",
-        _ => "another bar code",
+        other => added_in_words(other),
+    }
+}
+
+fn added_in_words(kind: &Spelled<Option<BarCode>>) -> &'static str {
+    match kind.value {
+        Some(BarCode::UpcA) => "UPC-A",
+        Some(BarCode::UpcE) => "UPC-E",
+        Some(BarCode::Ean8) => "EAN-8",
+        Some(BarCode::Interleaved { check: false }) => "2 of 5",
+        Some(BarCode::Codabar) => "Codabar",
+        Some(BarCode::Code93) => "Code 93",
+        Some(_) => "another bar code",
+        None => "no bar code",
     }
 }
 
@@ -337,6 +355,30 @@ static BAR_CODES: [Row; 4] = [
 #[test]
 fn bar_codes(rt: HostRuntime) {
     right(&rt, &BAR_CODES);
+}
+
+static WHOLE_BAR_CODES: [Row; 16] = [
+    (b"\x1D\x6B\x00\x31\x00", "UPC-A"),
+    (b"\x1D\x6B\x01\x31\x00", "UPC-E"),
+    (b"\x1D\x6B\x02\x31\x00", "2 for EAN-13"),
+    (b"\x1D\x6B\x03\x31\x00", "EAN-8"),
+    (b"\x1D\x6B\x05\x31\x00", "2 of 5"),
+    (b"\x1D\x6B\x06\x31\x00", "Codabar"),
+    (b"\x1D\x6B\x41\x01\x31", "UPC-A"),
+    (b"\x1D\x6B\x42\x01\x31", "UPC-E"),
+    (b"\x1D\x6B\x44\x01\x31", "EAN-8"),
+    (b"\x1D\x6B\x45\x01\x31", "69 for Code 39"),
+    (b"\x1D\x6B\x46\x01\x31", "2 of 5"),
+    (b"\x1D\x6B\x47\x01\x31", "Codabar"),
+    (b"\x1D\x6B\x48\x01\x31", "Code 93"),
+    (b"\x1D\x6B\x49\x01\x31", "73 for Code 128"),
+    (b"\x1D\x6B\x4A\x01\x31", "no bar code"),
+    (b"\x1D\x6B\x4F\x01\x31", "no bar code"),
+];
+
+#[test]
+fn bar_codes_of_the_whole_language(rt: HostRuntime) {
+    right_by(&rt, Reading::Whole, &WHOLE_BAR_CODES);
 }
 
 static QR_VALUES: [Row; 3] = [

@@ -1,5 +1,5 @@
 //! Symbols on paper, and those that are refused.
-use super::{Case, M, Strip, apply, new_receipt, print_on, put_all, right, wanted};
+use super::{Case, M, Strip, apply, new_receipt, print_by, print_on, put_all, right, wanted};
 use crate::checks::same;
 use std::alloc::{AllocError, Global};
 use std::process::Abort;
@@ -210,4 +210,108 @@ fn refused_bar_codes(rt: HostRuntime) -> Result<(), Fail> {
     all_are_refused(&rt, rt.alloc(), &REFUSED_BARS)?;
     let sent = filled(rt.alloc(), b"M\x1Dw\x03\x1Dk\x04", b'A', 256, b"\0")?;
     is_refused(&rt, rt.alloc(), sent.as_slice(), Fault::SymbolTooLong)
+}
+
+/// A bar code that the whole language adds, with modules of two dots, and its bars as an encoder from outside
+/// has them.
+static ADDED_BAR_CODES: [Case; 6] = [
+    (
+        b"\x1Dw\x02\x1Dh\x01\x1Dk\x0003600029145\0",
+        &[Strip {
+            head: b"P4\n576 1\n",
+            rows: &[(
+                1,
+                b"\xCC\x0F\x33\xFC\xCC\xFF\x03\xCC\x0F\x30\x3C\xCC\
+    \xCF\x3C\x3F\x30\xF0\xF3\x3F\x0C\x3F\x3C\xF0\xCC",
+            )],
+        }],
+    ),
+    (
+        b"\x1Dw\x02\x1Dh\x01\x1DkB\x06654321",
+        &[Strip {
+            head: b"P4\n576 1\n",
+            rows: &[(1, b"\xCC\x03\x33\xC0\xC3\xF3\x3F\xCC\x3C\xF0\xF0\xCC\xCC")],
+        }],
+    ),
+    (
+        b"\x1Dw\x02\x1Dh\x01\x1Dk\x037351353\0",
+        &[Strip {
+            head: b"P4\n576 1\n",
+            rows: &[(
+                1,
+                b"\xCC\xFC\xF3\xFC\xCF\x03\x0F\x0C\xCC\xC0\x33\x0F\xCC\x03\x30\x30\xCC",
+            )],
+        }],
+    ),
+    (
+        b"\x1Dw\x02\x1Dh\x01\x1DkF\x0812345670",
+        &[Strip {
+            head: b"P4\n576 1\n",
+            rows: &[(
+                1,
+                b"\xCC\xF9\x83\x33\xE0\xF9\xF3\x06\x60\xF9\x83\xE0\xCC\xCC\xC1\xF0\x7C\xF9\x80",
+            )],
+        }],
+    ),
+    (
+        b"\x1Dw\x02\x1Dh\x01\x1Dk\x06A40156B\0",
+        &[Strip {
+            head: b"P4\n576 1\n",
+            rows: &[(
+                1,
+                b"\xCF\x83\x06\x67\xCC\x19\x99\x83\xE6\x67\xC1\x9F\x33\x06\x60\xCC\xF9\x83\x06\x7C",
+            )],
+        }],
+    ),
+    (
+        b"\x1Dw\x02\x1Dh\x01\x1DkH\x06TEST93",
+        &[Strip {
+            head: b"P4\n576 1\n",
+            rows: &[(
+                1,
+                b"\xCC\xFF\x3C\xC3\xCF\x0C\x33\xCC\xF0\xF3\x0F\x30\
+    \x0C\xCC\xC0\x33\x3F\x3C\xC3\x03\x33\x3F\xCC",
+            )],
+        }],
+    ),
+];
+
+/// The fault in the whole language, and whether just these strips are printed.
+fn in_whole(alloc: Global, sent: &[u8], strips: &[Strip]) -> Result<(Option<Fault>, bool), Fail> {
+    let mut receipt = new_receipt(alloc, Width::W576)?;
+    let mut paper = Vec::new(alloc);
+    let fault = print_by(Reading::Whole, &mut receipt, sent, 4096, &mut paper)?;
+    let want = wanted(alloc, Width::W576, strips)?;
+    Ok((fault, paper.as_slice() == want.as_slice()))
+}
+
+#[test]
+fn bar_codes_that_the_whole_language_adds(rt: HostRuntime) -> Result<(), Fail> {
+    for (sent, strips) in &ADDED_BAR_CODES {
+        same(&rt, &in_whole(rt.alloc(), sent, strips)?, &(None, true));
+        is_refused(&rt, rt.alloc(), sent, Fault::Symbol(Why::Unsupported))?;
+    }
+    Ok(())
+}
+
+/// Kinds that the whole language reads and doesn't draw, and data that a kind hasn't.
+static REFUSED_IN_WHOLE: [Refusal; 6] = [
+    (b"\x1DkJ\x0212", Fault::Symbol(Why::Unsupported)),
+    (b"\x1DkO\x0212", Fault::Symbol(Why::Unsupported)),
+    (b"\x1Dk\x017654321\0", Fault::Symbol(Why::Length)),
+    (b"\x1DkG\x03a1b", Fault::Symbol(Why::Char)),
+    (b"\x1DkH\x03A&B", Fault::Symbol(Why::Char)),
+    (b"\x1DkH\x03A)B", Fault::Symbol(Why::Char)),
+];
+
+#[test]
+fn bar_codes_that_the_whole_language_refuses(rt: HostRuntime) -> Result<(), Fail> {
+    for (sent, fault) in &REFUSED_IN_WHOLE {
+        same(
+            &rt,
+            &in_whole(rt.alloc(), sent, &[])?,
+            &(Some(*fault), true),
+        );
+    }
+    Ok(())
 }
