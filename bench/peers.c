@@ -16,7 +16,7 @@ static size_t work(char *data, size_t length, char **words)
     vp_progress done;
     size_t at = 0, put = 0;
     (void)words;
-    if (vp_new(VP_RECEIPT, NULL, 0, NULL, 0, &printer) != VP_OK)
+    if (vp_new(VP_WHOLE_RECEIPT, NULL, 0, NULL, 0, &printer) != VP_OK)
         exit(1);
     do {
         vp_step(&printer, (uint8_t *)data + at, length - at, paper, sizeof paper, &done);

@@ -30,6 +30,15 @@ def ean13(data):
     return b"\x1dk\x02" + data + b"\0"
 
 
+def counted(kind):
+    """A bar code of the whole language by its number."""
+    return lambda data: b"\x1dk" + bytes([kind, len(data)]) + data
+
+
+def capitals():
+    return "".join(CHOICE.choices(SMALL[:26].upper() + "0123456789", k=CHOICE.randrange(6, 20))).encode()
+
+
 def words():
     return "".join(CHOICE.choices(SMALL[:26] + SMALL[:26].upper() + "0123456789     ,.", k=60)).encode()
 
@@ -48,6 +57,12 @@ KINDS = {
     "code128-row": (lambda: letters(6, 20), LOW, code128),
     "ean13": (lambda: digits(12), HIGH, ean13),
     "ean13-row": (lambda: digits(12), LOW, ean13),
+    "upca": (lambda: digits(11), HIGH, counted(65)),
+    "upce": (lambda: digits(6), HIGH, counted(66)),
+    "ean8": (lambda: digits(7), HIGH, counted(68)),
+    "interleaved": (lambda: digits(14), HIGH, counted(70)),
+    "codabar": (lambda: b"A" + digits(10) + b"B", HIGH, counted(71)),
+    "code93": (capitals, HIGH, counted(72)),
     "pdf417": (words, b"", pdf417(b"F")),
     "pdf417-alone": (words, b"", pdf417(b"E")),
 }

@@ -49,7 +49,7 @@ again() {
 }
 
 # 200 texts of each kind with a receipt of their symbols, and one of each
-for kind in qr code128 code128-row ean13 ean13-row pdf417 pdf417-alone; do
+for kind in qr code128 code128-row ean13 ean13-row upca upce ean8 interleaved codabar code93 pdf417 pdf417-alone; do
     "$top/bench/peers.py" "$kind" 200 "$kind.txt" "$kind.bin"
     "$top/bench/peers.py" "$kind" 1 "$kind-one.txt" "$kind-one.bin"
 done
@@ -114,6 +114,12 @@ if has cc && made vp -DVP -I"$top/include" "$top/bench/peers.c" "$library"; then
         inside 'EAN-13, a hundred rows' 100 ean13.bin 'libzint, drawn,' zint 'ean13.txt 13 1'
         inside 'Code 128, a row' 100 code128-row.bin 'libzint, encoded alone,' zint 'code128.txt 20 0'
         inside 'EAN-13, a row' 100 ean13-row.bin 'libzint, encoded alone,' zint 'ean13.txt 13 0'
+        inside 'UPC-A, a hundred rows' 100 upca.bin 'libzint, drawn,' zint 'upca.txt 34 1'
+        inside 'UPC-E, a hundred rows' 100 upce.bin 'libzint, drawn,' zint 'upce.txt 37 1'
+        inside 'EAN-8, a hundred rows' 100 ean8.bin 'libzint, drawn,' zint 'ean8.txt 13 1'
+        inside 'Interleaved 2 of 5, a hundred rows' 100 interleaved.bin 'libzint, drawn,' zint 'interleaved.txt 3 1'
+        inside 'Codabar, a hundred rows' 100 codabar.bin 'libzint, drawn,' zint 'codabar.txt 18 1'
+        inside 'Code 93, a hundred rows' 100 code93.bin 'libzint, drawn,' zint 'code93.txt 25 1'
         drawn=$top/crates/tests/vp_draw_symbols/out/vp_draw_symbols
         if [ -e "$drawn" ]; then
             ln -s "$drawn" drawn
