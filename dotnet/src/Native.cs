@@ -26,6 +26,22 @@ namespace VirtualReceiptPrinter
         public NativeFault Fault;
     }
 
+    /// <summary>A handle of what finds requests, passed by its address.</summary>
+    [StructLayout(LayoutKind.Sequential)]
+    struct NativeRequests
+    {
+        public IntPtr Requests;
+    }
+
+    [StructLayout(LayoutKind.Sequential)]
+    unsafe struct NativeRequest
+    {
+        public fixed byte Name[8];
+        public ulong Start, End;
+        public uint Count;
+        public fixed byte Arguments[1024];
+    }
+
     static class Native
     {
         public const uint Receipt = 0, Receipt58 = 1, Label = 2, WholeReceipt = 3, WholeReceipt58 = 4;
@@ -47,6 +63,19 @@ namespace VirtualReceiptPrinter
 
         [DllImport(Library, CallingConvention = CallingConvention.Cdecl)]
         public static extern void vp_free(ref NativePrinter printer);
+
+        [DllImport(Library, CallingConvention = CallingConvention.Cdecl)]
+        public static extern uint vp_new_requests(uint language, out NativeRequests made);
+
+        [DllImport(Library, CallingConvention = CallingConvention.Cdecl)]
+        public static extern unsafe uint vp_next_request(
+            ref NativeRequests requests, byte* input, UIntPtr length, out UIntPtr taken, out NativeRequest request);
+
+        [DllImport(Library, CallingConvention = CallingConvention.Cdecl)]
+        public static extern uint vp_last_request(ref NativeRequests requests, out NativeRequest request);
+
+        [DllImport(Library, CallingConvention = CallingConvention.Cdecl)]
+        public static extern void vp_free_requests(ref NativeRequests requests);
 
         [DllImport(Library, CallingConvention = CallingConvention.Cdecl)]
         static extern UIntPtr vp_fault_line(ref NativeFault fault, ulong after, byte[] line, UIntPtr room);

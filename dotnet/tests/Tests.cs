@@ -91,6 +91,36 @@ static class Tests
         Throws<VpException>("nothing", "nothing is printed", () => new Receipt().Print(new byte[0]).Joined());
     }
 
+    /// <summary>What a stream asks, in pieces of so many bytes, a request a line.</summary>
+    static string Asked(Requests requests, byte[] stream, int piece)
+    {
+        using (requests)
+        {
+            var found = new List<Request>();
+            for (var at = 0; at < stream.Length; at += piece) found.AddRange(requests.Feed(stream.Skip(at).Take(piece).ToArray()));
+            var last = requests.Finish();
+            if (last != null) found.Add(last);
+            return string.Join("; ", found);
+        }
+    }
+
+    static void Requested()
+    {
+        var receipt = Ascii("A\u0010\u0004\u0001\u001dv0\0\u0001\0\u0004\0\u0010\u0004\u0002\0\u001dr\u0001");
+        foreach (var piece in new[] { 1, 5, 100 })
+        {
+            Same("what a receipt asks", Asked(Requests.OfReceipt(), receipt, piece),
+                "1..4 DLE EOT 01; 12..15 DLE EOT 02; 16..19 GS r 01");
+            Same("what a label asks", Asked(Requests.OfLabel(), Ascii("~HS^XA^XZ~HQES~SD1"), piece),
+                "0..3 ~HS; 9..14 ~HQ 45 53; 14..18 ~SD 31");
+        }
+        var requests = Requests.OfLabel();
+        requests.Dispose();
+        requests.Dispose();
+        Same("requests of a closed one", requests.Finish(), null);
+        Throws<ObjectDisposedException>("requests behind their end", "", () => requests.Feed(new byte[0]));
+    }
+
     static void Misuse()
     {
         Throws<ArgumentNullException>("no stream", "data", () => new Receipt().Print(null));
@@ -113,6 +143,7 @@ static class Tests
         foreach (var stream in Directory.GetFiles(words[1], "*.zpl").Concat(Directory.GetFiles(words[1], "*.bin"))
             .Concat(Directory.GetFiles(words[2]))) AsTheProgram(words[0], words[1], stream);
         Images(words[3]);
+        Requested();
         Misuse();
         Console.WriteLine("the .NET package: ok");
         return 0;

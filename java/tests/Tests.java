@@ -99,6 +99,32 @@ final class Tests {
         refused("nothing", "nothing is printed", () -> new Receipt().print(new byte[0]).joined());
     }
 
+    /** What a stream asks, in pieces of so many bytes. */
+    private static String asked(Requests requests, byte[] stream, int piece) {
+        List<Request> found = new ArrayList<>();
+        for (int at = 0; at < stream.length; at += piece) {
+            found.addAll(requests.feed(Arrays.copyOfRange(stream, at, Math.min(at + piece, stream.length))));
+        }
+        Request last = requests.finish();
+        if (last != null) found.add(last);
+        return found.toString();
+    }
+
+    private static void requested() {
+        byte[] receipt = bytes("A\u0010\u0004\u0001\u001dv0\0\u0001\0\u0004\0\u0010\u0004\u0002\0\u001dr\u0001");
+        for (int piece : new int[] {1, 5, 100}) {
+            same("what a receipt asks", asked(Requests.ofReceipt(), receipt, piece),
+                "[1..4 DLE EOT 01, 12..15 DLE EOT 02, 16..19 GS r 01]");
+            same("what a label asks", asked(Requests.ofLabel(), bytes("~HS^XA^XZ~HQES~SD1"), piece),
+                "[0..3 ~HS, 9..14 ~HQ 45 53, 14..18 ~SD 31]");
+        }
+        Requests requests = Requests.ofLabel();
+        requests.close();
+        requests.close();
+        same("requests of a closed one", requests.finish(), null);
+        refused("requests behind their end", "closed", () -> requests.feed(new byte[0]));
+    }
+
     private static void misuse() {
         refused("no stream", "data", () -> new Receipt().print(null));
         refused("a width", "576 or 384", () -> new Receipt(500));
@@ -123,6 +149,7 @@ final class Tests {
             }
         }
         images();
+        requested();
         misuse();
         System.out.println("the package for Java: ok");
     }

@@ -15,6 +15,8 @@ interface VpLibrary extends Library {
     int LINE = 96;
     /** The bytes of a handle, of vp_progress and of vp_fault, and the places in vp_progress. */
     int HANDLE = 8, PROGRESS = 24, FAULT = 4, TAKEN = 0, PUT = 8, STATE = 16, FAULT_AT = 20;
+    /** The bytes of vp_request, and the places in it behind its name. */
+    int REQUEST = 1056, REQUEST_START = 8, REQUEST_END = 16, REQUEST_COUNT = 24, REQUEST_ARGUMENTS = 28;
 
     int vp_new(int language, byte[] fontA, long lengthA, byte[] fontB, long lengthB, Pointer made);
 
@@ -23,6 +25,14 @@ interface VpLibrary extends Library {
     int vp_finish(Pointer printer, Pointer fault);
 
     void vp_free(Pointer printer);
+
+    int vp_new_requests(int language, Pointer made);
+
+    int vp_next_request(Pointer requests, Pointer input, long length, Pointer taken, Pointer request);
+
+    int vp_last_request(Pointer requests, Pointer request);
+
+    void vp_free_requests(Pointer requests);
 
     long vp_fault_line(Pointer fault, long after, byte[] line, long room);
 
