@@ -1,0 +1,34 @@
+-- What a stream asks, in the order in which it is known.
+use Rattle.std.specs.Prelude.{◌≡◌, ℕ, Bool, true, false, List, [], ◌∷◌, ◌++◌}
+use Rattle.vp_language.specs.declared.language.Language.{Language}
+use Rattle.vp_language.specs.declared.language.Language.TheVariants as languages
+use Rattle.vp_requests.specs.declared.request.Request.{Request}
+use Rattle.vp_requests.specs.RealTime.{real_time_request}
+use Rattle.vp_requests.specs.Units.{unit_request}
+use Rattle.vp_requests.specs.Labels.{label_request, last_request}
+
+-- of a receipt's requests that one byte makes known, the real-time one comes first
+abbrev pub receipt_request : List ℕ → ℕ → List Request
+receipt_request before c = real_time_request before c ++ unit_request before c
+
+module _ (known : List ℕ → ℕ → List Request) where
+  -- what each of these bytes makes known, behind those before
+  abbrev pub behind : List ℕ → List ℕ → List Request
+  behind before [] = []
+  behind before (c ∷ bytes) = known before c ++ behind (before ++ c ∷ []) bytes
+
+unfoldable pub receipt_requests : List ℕ → List Request
+receipt_requests bytes = behind receipt_request [] bytes
+
+unfoldable pub label_requests : List ℕ → List Request
+label_requests bytes = behind label_request [] bytes
+
+-- what each byte makes known, one after the other
+abbrev pub requests : Language → List ℕ → List Request
+requests languages.Label bytes = label_requests bytes
+requests _ bytes = receipt_requests bytes
+
+-- and what the end of the stream does
+abbrev pub at_end : Language → List ℕ → List Request
+at_end languages.Label bytes = last_request bytes
+at_end _ bytes = []

@@ -1,0 +1,17 @@
+//! What a stream asks of its printer, and where in its bytes.
+//!
+//! - `request`: what is asked.
+//! - `real_time`, `unit`, `name`: which bytes ask.
+//! - `arrivals`, `units`, `labels`: real-time requests, units and commands of labels, byte by byte.
+#![tactic(auto)]
+
+mod arrivals;
+mod kept;
+mod labels;
+mod name;
+mod real_time;
+pub mod request;
+mod unit;
+mod units;
+
+pub use request::{Ask, Found, Request};
