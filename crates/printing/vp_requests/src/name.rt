@@ -1,5 +1,5 @@
 //! Which commands of a label ask.
-ghost use Rattle.std.specs.Prelude.{◌≡◌};
+ghost use Rattle.std.specs.Prelude.{◌≡◌, ◌≤◌};
 ghost use Rattle.vp_zpl.specs.Spelling.{capital as capital_is, is_sign as is_sign_as, is_line_end as is_line_end_as};
 ghost use Rattle.vp_requests.specs.Labels.{tilde_h_ask as tilde_h_is, tilde_j_ask as tilde_j_is, tilde_p_ask as tilde_p_is};
 ghost use Rattle.vp_requests.specs.Labels.{tilde_ask as tilde_is, caret_ask as caret_is, ask_named as ask_named_is};
@@ -125,7 +125,8 @@ pub fn ask_of(command: &[u8]) -> Option<Ask>
 
 /// How many bytes of arguments are waited for.
 pub fn most_arguments(ask: Ask) -> usize
-    ensures { result ≡ most_is ask }
+    ensures value { result ≡ most_is ask }
+    ensures few { result ≤ MOST_ARGUMENTS }
 {
     match ask {
         Ask::HostQuery | Ask::SetDarkness => 2,

@@ -97,12 +97,11 @@ impl Request {
     /// The request of these bytes, the first of which are its name.
     #[inline(never)]
     pub(crate) fn of(ask: Ask, name_len: usize, bytes: &[u8], start: u64, end: u64) -> Request
-        requires name { name_len ≤ length bytes.now }
-        requires room { length (drop name_len bytes.now) ≤ MOST_ARGUMENTS }
+        requires { length (drop name_len bytes.now) ≤ MOST_ARGUMENTS }
         ensures { result ≡ request_of ask name_len bytes.now start end }
     {
         let mut arguments = ArrayVec::new();
-        let _fits = arguments.try_extend_from_slice(&bytes[name_len..]);
+        let _fits = arguments.try_extend_from_slice(&bytes[name_len.min(bytes.len())..]);
         Request {
             ask,
             arguments,

@@ -8,6 +8,7 @@ use crate::kept::keep;
 use crate::request::{Ask, Request};
 use crate::unit::{ask_of, name_len};
 use arrayvec::ArrayVec;
+use vp_esc::laws::the_profile_is_within;
 use vp_esc::{EscReader, Reading};
 
 /// The unit that is begun, as far as its bytes are kept, or one that is whole, asks and is still to be told.
@@ -51,6 +52,7 @@ impl Units {
             UnitsStand self.new (before ++ byte ∷ [])
             × (waiting_unit self.new (counted (suc (length before))) ≡ unit_request before byte) }
     {
+        the_profile_is_within();
         keep(&mut self.bytes, byte);
         let _item = self.reader.take(byte);
         if self.reader.at_rest() {
