@@ -1,3 +1,6 @@
 pub mod Rows
 pub mod RealTimes
 pub mod UnitEnds
+pub mod LabelCuts
+pub mod Going
+pub mod BothKinds

@@ -101,3 +101,7 @@ module _ (u : Units) (before : List ℕ) (c : ℕ) (s : UnitsStand u before) (no
       by_test false q =
           let same : ask_of kept ≡ ask_of unit = ap ask_of kept_is ∙ ask_kept unit in
           subst (λ (n : Units). Comes n) (sym (e ∙ ap (λ (ask : Option Ask). ended_by ask one taken) same)) (by_ask (ask_of unit) refl q)
+
+pub stand_first : (u : Units) → EscStands Whole u.reader [] → u.bytes.items ≡ [] → u.start ≡ 0 → u.ask ≡ None → UnitsStand u []
+unfolding split split_on
+stand_first u reads k s none = record { reads = reads; unit = rw none (record { kept = k; start = s }) }

@@ -1,5 +1,5 @@
 -- What a stream asks, in the order in which it is known.
-use Rattle.std.specs.Prelude.{◌≡◌, ℕ, Bool, true, false, List, [], ◌∷◌, ◌++◌}
+use Rattle.std.specs.Prelude.{ℕ, Bool, true, false, List, [], ◌∷◌, ◌++◌, if◌then◌else◌}
 use Rattle.vp_language.specs.declared.language.Language.{Language}
 use Rattle.vp_language.specs.declared.language.Language.TheVariants as languages
 use Rattle.vp_requests.specs.declared.request.Request.{Request}
@@ -23,12 +23,14 @@ receipt_requests bytes = behind receipt_request [] bytes
 unfoldable pub label_requests : List ℕ → List Request
 label_requests bytes = behind label_request [] bytes
 
+abbrev pub is_label : Language → Bool
+is_label languages.Label = true
+is_label _ = false
+
 -- what each byte makes known, one after the other
 abbrev pub requests : Language → List ℕ → List Request
-requests languages.Label bytes = label_requests bytes
-requests _ bytes = receipt_requests bytes
+requests language bytes = if is_label language then label_requests bytes else receipt_requests bytes
 
 -- and what the end of the stream does
-abbrev pub at_end : Language → List ℕ → List Request
-at_end languages.Label bytes = last_request bytes
-at_end _ bytes = []
+abbrev pub last_requests : Language → List ℕ → List Request
+last_requests language bytes = if is_label language then last_request bytes else []

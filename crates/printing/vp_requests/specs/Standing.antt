@@ -20,7 +20,12 @@ use Rattle.vp_requests.specs.Units.{name_len}
 use Rattle.vp_requests.specs.Units as units
 use Rattle.vp_requests.specs.Labels.{begun_at, full_by, short_by}
 use Rattle.vp_requests.specs.Labels as labels
-use Rattle.vp_requests.specs.Requests.{label_requests}
+use Rattle.vp_language.specs.declared.language.Language.{Language}
+use Rattle.vp_requests.specs.declared.receipts.Receipts.{Receipts}
+use Rattle.vp_requests.specs.declared.requests.Machine.{Machine}
+use Rattle.vp_requests.specs.declared.requests.Machine.TheVariants.{Receipt, Label}
+use Rattle.vp_requests.specs.declared.requests.Requests.{Requests}
+use Rattle.vp_requests.specs.Requests.{label_requests, receipt_requests, is_label}
 
 -- the bytes that are kept are those of the request that is begun, or of one that is still to be told
 pub record ArrivalsStand (a : Arrivals) (bytes : List ℕ) : Type 0 where
@@ -68,6 +73,24 @@ ended_by (Some ask) u taken = record u { ask = Some ask }
 abbrev pub ended_unit : Units → ℕ → Units
 ended_unit u taken = ended_by (units.ask_of u.bytes.items) u taken
 
+pub record ReceiptsStand (r : Receipts) (bytes : List ℕ) : Type 0 where
+  pub arrivals : ArrivalsStand r.arrivals bytes
+  pub units : UnitsStand r.units bytes
+  pub taken : r.taken ≡ counted (length bytes)
+
+abbrev pub waiting : Receipts → List Request
+waiting r = waiting_arrival r.arrivals r.taken ++ waiting_unit r.units r.taken
+
+-- all that was known is told, or still to be told
+pub record ReceiptsTold (r : Receipts) (bytes : List ℕ) (told : List Request) : Type 0 where
+  pub stands : ReceiptsStand r bytes
+  pub all : receipt_requests bytes ≡ told ++ waiting r
+
+-- nothing is to be told
+pub record IsIdle (r : Receipts) : Type 0 where
+  pub arrivals : r.arrivals.is_whole ≡ false
+  pub units : r.units.ask ≡ None
+
 -- the open command, as far as it is kept
 pub record LabelsStand (l : Labels) (bytes : List ℕ) : Type 0 where
   pub reads : ZplStands l.reader bytes
@@ -113,3 +136,16 @@ with_sign l c = record l { bytes = record { items = c ∷ [] }; start = l.taken;
 pub record Divides (l : Labels) (c : ℕ) (asked : List Request) (new : Labels) : Type 0 where
   pub new_is : new ≡ (if is_line_end c then record l { taken = grown l.taken 1 } else with_sign l c)
   pub asks : asked ≡ (if is_line_end c then [] else kept_short l)
+
+abbrev pub told_by : Machine → Language → List ℕ → List Request → Type 0
+told_by (Label labels) language bytes told = (is_label language ≡ true) × LabelsTold labels bytes told
+told_by (Receipt receipts) language bytes told = (is_label language ≡ false) × ReceiptsTold receipts bytes told
+
+-- behind these bytes, of whose requests these were given
+unfoldable pub Told : Language → Requests → List ℕ → List Request → Type 0
+Told language r bytes told = told_by r.machine language bytes told
+
+-- these are the first of the others
+pub record IsFront (told all : List Request) : Type 0 where
+  pub more : List Request
+  pub is : all ≡ told ++ more

@@ -1,11 +1,11 @@
 //! The commands of a label, byte by byte.
 ghost use Rattle.std.specs.Prelude.{◌≡◌, ◌≤◌, ◌<◌, ◌++◌, ◌∷◌, [], ℕ, List, None, Some, length, take, option_to_list};
-ghost use Rattle.vp_requests.specs.Labels.{label_request, last_request};
+ghost use Rattle.vp_requests.specs.Labels.{label_request};
 ghost use Rattle.vp_requests.specs.Requests.{label_requests};
 ghost use Rattle.vp_requests.specs.Standing.{LabelsStand, LabelsTold, kept_full, kept_short, Divides, GoesOn};
 
 use crate::kept::keep;
-use crate::name::{ask_of, is_line_end, is_sign, most_arguments};
+use crate::name::{ask_of, ends_data, is_line_end, most_arguments};
 use crate::request::{Found, Request};
 use arrayvec::ArrayVec;
 use vp_zpl::ZplReader;
@@ -49,9 +49,7 @@ impl Labels {
 
     /// The request of the open command, where it has fewer.
     pub fn short(&self) -> Option<Request>
-        ensures value { option_to_list result ≡ kept_short self.now }
-        ensures last { (bytes : List ℕ) → LabelsStand self.now bytes →
-            option_to_list result ≡ last_request bytes }
+        ensures { option_to_list result ≡ kept_short self.now }
     {
         let command = self.bytes.as_slice();
         let ask = ask_of(command)?;
@@ -94,14 +92,15 @@ impl Labels {
             LabelsStand self.new (before ++ byte ∷ [])
             × (option_to_list result ≡ label_request before byte) }
     {
-        if is_sign(byte) || is_line_end(byte) {
-            if self.reader.take_data(&[byte]) == 0 {
-                let _item = self.reader.take(byte);
-                return self.between(byte);
+        if ends_data(byte) {
+            // it is taken as data where binary data are wanted
+            if self.reader.take_data(&[byte]) > 0 {
+                return self.go_on(byte);
             }
-        } else {
             let _item = self.reader.take(byte);
+            return self.between(byte);
         }
+        let _item = self.reader.take(byte);
         self.go_on(byte)
     }
 

@@ -3,6 +3,7 @@
 //! - `request`: what is asked.
 //! - `real_time`, `unit`, `name`: which bytes ask.
 //! - `arrivals`, `units`, `labels`: real-time requests, units and commands of labels, byte by byte.
+//! - `receipts`: both of a receipt. `requests`: those of a stream.
 #![tactic(auto)]
 
 mod arrivals;
@@ -10,8 +11,11 @@ mod kept;
 mod labels;
 mod name;
 mod real_time;
+mod receipts;
 pub mod request;
+pub mod requests;
 mod unit;
 mod units;
 
 pub use request::{Ask, Found, Request};
+pub use requests::Requests;

@@ -1,17 +1,18 @@
 //! Which commands of a label ask.
 ghost use Rattle.std.specs.Prelude.{◌≡◌, ◌≤◌};
-ghost use Rattle.vp_zpl.specs.Spelling.{capital as capital_is, is_sign as is_sign_as, is_line_end as is_line_end_as};
+ghost use Rattle.vp_zpl.specs.Spelling.{capital as capital_is, is_line_end as is_line_end_as};
+ghost use Rattle.vp_zpl.specs.Runs.{ends_data as ends_data_as};
 ghost use Rattle.vp_requests.specs.Labels.{tilde_h_ask as tilde_h_is, tilde_j_ask as tilde_j_is, tilde_p_ask as tilde_p_is};
 ghost use Rattle.vp_requests.specs.Labels.{tilde_ask as tilde_is, caret_ask as caret_is, ask_named as ask_named_is};
 ghost use Rattle.vp_requests.specs.Labels.{ask_of as ask_is, most_arguments as most_is};
 
 use crate::request::{Ask, MOST_ARGUMENTS};
 
-/// ^ and ~
-pub fn is_sign(byte: u8) -> bool
-    ensures { result ≡ is_sign_as byte }
+/// The bytes that are no data but in binary data: ^ and ~, and the ends of lines.
+pub fn ends_data(byte: u8) -> bool
+    ensures { result ≡ ends_data_as byte }
 {
-    byte == b'^' || byte == b'~'
+    byte == b'^' || byte == b'~' || is_line_end(byte)
 }
 
 /// CR and LF
