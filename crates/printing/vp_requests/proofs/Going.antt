@@ -87,3 +87,14 @@ label_takes l new bytes told asked c t take =
       stands = done.0;
       all = label-push bytes c ∙ ap (λ (xs : List Request). xs ++ label_request bytes c) t.all ∙ ap (λ (xs : List Request). told ++ xs) (sym done.1);
     }
+
+-- all of the input
+pub ends_told : (Told : List ℕ → List Request → Type 0) (asks : List ℕ → List Request) (bytes : List ℕ) (told : List Request) (input : List ℕ) (i : ℕ)
+    → Went Told asks bytes told input i → i ≡ length input → Told (bytes ++ take (length input) input) (told ++ [])
+ends_told Told asks bytes told input i w e =
+    subst (λ (xs : List Request). Told (bytes ++ take (length input) input) xs) (sym (append-nil told))
+    (subst (λ (n : ℕ). Told (bytes ++ take n input) told) e w.now)
+
+pub ends_same : (Told : List ℕ → List Request → Type 0) (asks : List ℕ → List Request) (bytes : List ℕ) (told : List Request) (input : List ℕ) (i n : ℕ)
+    → Went Told asks bytes told input i → i ≡ length input → n < length input → asks (bytes ++ take n input) ≡ told
+ends_same Told asks bytes told input i n w e lt = w.same n (omega (arith, e, lt))

@@ -4,3 +4,4 @@ pub mod UnitEnds
 pub mod LabelCuts
 pub mod Going
 pub mod BothKinds
+pub mod Arms

@@ -4,7 +4,7 @@ use Rattle.std.proofs.lemmas.List.{append-nil}
 use Rattle.vp_requests.specs.declared.request.Request.{Request}
 use Rattle.vp_requests.specs.Requests.{label_requests}
 use Rattle.vp_requests.specs.Standing.{LabelsTold}
-use Rattle.vp_requests.proofs.Going.{begins, at_next, goes, none_list, label_takes}
+use Rattle.vp_requests.proofs.Going.{begins, at_next, goes, none_list, label_takes, ends_told, ends_same}
 use Rattle.vp_requests.proofs.labels.Labels.next.Goals as goal
 
 pub loop-i-init : goal.loop-i-init
@@ -27,3 +27,11 @@ returns-then-is_some-clause-told c = λ bytes told t.
 
 pub returns-then-is_some-clause-at_its_byte : goal.returns-then-is_some-clause-at_its_byte
 returns-then-is_some-clause-at_its_byte c = λ bytes told n t lt. (c.loop-i.invariant bytes told t).same n (omega (arith, lt))
+
+pub returns-clause-told : goal.returns-clause-told
+returns-clause-told c = λ bytes told t.
+    ends_told (LabelsTold c.loop-i.self) label_requests bytes told c.args.input.now c.loop-i.i (c.loop-i.invariant bytes told t) (omega arith)
+
+pub returns-clause-at_its_byte : goal.returns-clause-at_its_byte
+returns-clause-at_its_byte c = λ bytes told n t lt.
+    ends_same (LabelsTold c.loop-i.self) label_requests bytes told c.args.input.now c.loop-i.i n (c.loop-i.invariant bytes told t) (omega arith) lt
