@@ -5,3 +5,4 @@ pub mod LabelCuts
 pub mod Going
 pub mod BothKinds
 pub mod Arms
+pub mod Lefts

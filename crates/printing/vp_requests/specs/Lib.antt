@@ -7,3 +7,5 @@ pub mod Labels
 pub mod Requests
 -- What the readers hold.
 pub mod Standing
+-- What the laws say.
+pub mod Laws
