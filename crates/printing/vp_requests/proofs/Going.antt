@@ -16,7 +16,7 @@ behind-push : (known : List ℕ → ℕ → List Request) (before bytes : List �
 behind-push known before [] c = append-nil (known before c) ∙ ap (λ (xs : List ℕ). known xs c) (sym (append-nil before))
 behind-push known before (b ∷ bytes) c =
     ap (λ (xs : List Request). known before b ++ xs) (behind-push known (before ++ b ∷ []) bytes c
-        ∙ ap (λ (xs : List ℕ). behind known (before ++ b ∷ []) bytes ++ known xs c) (append_assoc before (b ∷ []) bytes))
+    ∙ ap (λ (xs : List ℕ). behind known (before ++ b ∷ []) bytes ++ known xs c) (append_assoc before (b ∷ []) bytes))
     ∙ sym (append_assoc (known before b) (behind known (before ++ b ∷ []) bytes) (known (before ++ b ∷ bytes) c))
 
 pub label-push : (bytes : List ℕ) (c : ℕ) → label_requests (bytes ++ c ∷ []) ≡ label_requests bytes ++ label_request bytes c
@@ -65,6 +65,7 @@ goes Told New asks bytes told input i lt w now same = record {
   where
     last_or : (n : ℕ) → n ≤ i + 1 → (n ≤ i) ⊎ (n ≡ i + 1)
     last_or n le = grind (arith, le)
+
     by_place : (n : ℕ) → (n ≤ i) ⊎ (n ≡ i + 1) → asks (bytes ++ take n input) ≡ told
     by_place n (inl le) = w.same n le
     by_place n (inr e) = subst (λ (m : ℕ). asks (bytes ++ take m input) ≡ told) (sym e) (ap asks (at_next bytes input i lt) ∙ same)

@@ -106,9 +106,11 @@ full_is l command start end k s t = by_test (nat_lt 1028 (length command)) refl
     by_long : (ask : Option Ask) → 1028 ≤ length command → length l.bytes.items ≡ 1028 → kept_full_by ask l ≡ full_by ask command start end
     by_long None le n = refl
     by_long (Some ask) le n = rw (n, no_equal 1028 (most_arguments ask) (omega arith) (most_le ask), no_equal (length command) (most_arguments ask) le (most_le ask)) refl
+
     by_same : (ask : Option Ask) → kept_full_by ask (record l { bytes = record { items = command }; start = counted start; taken = counted end }) ≡ full_by ask command start end
     by_same None = refl
     by_same (Some ask) = refl
+
     by_test : (long : Bool) → nat_lt 1028 (length command) ≡ long → kept_full l ≡ full_request command start end
     by_test true e =
         let le : 1028 ≤ length command = is_longer 1028 (length command) e in
@@ -125,9 +127,11 @@ short_is l command start end k s t = by_test (nat_lt 1028 (length command)) refl
     by_long : (ask : Option Ask) → 1028 ≤ length command → length l.bytes.items ≡ 1028 → kept_short_by ask l ≡ short_by ask command start end
     by_long None le n = refl
     by_long (Some ask) le n = rw (n, no_less 1028 (most_arguments ask) (omega arith) (most_le ask), no_less (length command) (most_arguments ask) le (most_le ask)) refl
+
     by_same : (ask : Option Ask) → kept_short_by ask (record l { bytes = record { items = command }; start = counted start; taken = counted end }) ≡ short_by ask command start end
     by_same None = refl
     by_same (Some ask) = refl
+
     by_test : (long : Bool) → nat_lt 1028 (length command) ≡ long → kept_short l ≡ short_request command start end
     by_test true e =
         let le : 1028 ≤ length command = is_longer 1028 (length command) e in
@@ -175,8 +179,10 @@ module _ (l : Labels) (before : List ℕ) (c : ℕ) (s : LabelsStand l before) (
           let n : is_sign c ≡ true = grind (arith, e, q) in
           let now : (cut (before ++ c ∷ [])).open_one ≡ c ∷ [] = ap (λ (s : Cut). s.open_one) (cut-push before c) ∙ rw (w, q, n) refl in
           let at : begun_at (before ++ c ∷ []) ≡ length before = begun-push before c ∙ rw (n, w) (length-reverse before) in
-          rw (d.new_is, d.asks, q, n, w) (record { reads = reads; kept = rw now refl; start = s.taken ∙ sym (ap counted at); taken = more },
-          short_is (record l { reader = reader }) (cut before).open_one (begun_at before) (length before) s.kept s.start s.taken)
+          rw (d.new_is, d.asks, q, n, w) (
+            record { reads = reads; kept = rw now refl; start = s.taken ∙ sym (ap counted at); taken = more },
+            short_is (record l { reader = reader }) (cut before).open_one (begun_at before) (length before) s.kept s.start s.taken,
+          )
 
 opened : (s : Cut) (c : ℕ) (wants sign ends : Bool) → wants_binary s.open_one ≡ wants → is_sign c ≡ sign → is_line_end c ≡ ends
     → begins s.open_one c ≡ false → is_dropped s.open_one c ≡ false → (with_byte s c).open_one ≡ longer s.open_one c
@@ -202,12 +208,15 @@ module _ (l : Labels) (before : List ℕ) (c : ℕ) (s : LabelsStand l before) (
   goes_on asked new g =
       let at : begun_at (before ++ c ∷ []) ≡ begun_at before = begun-push before c ∙ rw b refl in
       let long : suc (length before) ≡ length (before ++ c ∷ []) = omega (arith, length-append before (c ∷ [])) in
-      rw (g.asks, g.new_is, b, d) (record {
-        reads = reads;
-        kept = kept_is ∙ sym (ap (take 1028) longer_is);
-        start = s.start ∙ sym (ap counted at);
-        taken = one_more ∙ ap counted long;
-      }, full_is (with_more (record l { reader = reader }) c) (longer (cut before).open_one c) (begun_at before) (suc (length before)) kept_is s.start one_more)
+      rw (g.asks, g.new_is, b, d) (
+        record {
+          reads = reads;
+          kept = kept_is ∙ sym (ap (take 1028) longer_is);
+          start = s.start ∙ sym (ap counted at);
+          taken = one_more ∙ ap counted long;
+        },
+        full_is (with_more (record l { reader = reader }) c) (longer (cut before).open_one c) (begun_at before) (suc (length before)) kept_is s.start one_more,
+      )
 
 -- what is taken as data, of a sign or the end of a line
 pub as_data : (n : ℕ) (wants : Bool) → 0 < n → n ≡ (if wants then 1 else 0) → (wants ≡ true) × (n ≡ 1)

@@ -21,7 +21,7 @@ behind-append : (known : List ℕ → ℕ → List Request) (before bytes more :
 behind-append known before [] more = ap (λ (xs : List ℕ). behind known xs more) (sym (append-nil before))
 behind-append known before (b ∷ bytes) more =
     ap (λ (xs : List Request). known before b ++ xs) (behind-append known (before ++ b ∷ []) bytes more
-        ∙ ap (λ (xs : List ℕ). behind known (before ++ b ∷ []) bytes ++ behind known xs more) (append_assoc before (b ∷ []) bytes))
+    ∙ ap (λ (xs : List ℕ). behind known (before ++ b ∷ []) bytes ++ behind known xs more) (append_assoc before (b ∷ []) bytes))
     ∙ sym (append_assoc (known before b) (behind known (before ++ b ∷ []) bytes) (behind known (before ++ b ∷ bytes) more))
 
 pub only_more : (language : Language) (bytes more : List ℕ) → IsFront (requests language bytes) (requests language (bytes ++ more))
@@ -209,15 +209,20 @@ one_more c bytes before r place b e h p next = by_part (part_of (r ++ c ∷ []))
   where
     long : length (r ++ c ∷ []) ≡ length r + 1
     long = length-append r (c ∷ [])
+
     longer : length (before ++ c ∷ []) ≡ length before + 1
     longer = length-append before (c ∷ [])
+
     rest : List Request
     rest = behind real_time_request (before ++ c ∷ []) bytes
+
     row : List ℕ
     row = r ++ c ∷ []
+
     same : ending_at (suc (length before)) (ask_of row) 2 row ≡ request_of (ask_of row) 2 row (counted place) (counted (place + length row))
     same = ap (λ (n : ℕ). request_of (ask_of row) 2 row (counted n) (counted (suc (length before)))) (omega (arith, long, p))
         ∙ ap (λ (n : ℕ). request_of (ask_of row) 2 row (counted place) (counted n)) (omega (arith, long, p))
+
     by_dle : (so : Bool) → (c == 0x10) ≡ so → part_of (r ++ c ∷ []) ≡ Neither → rest ≡ from_left 0 place (r ++ c ∷ bytes)
     by_dle true q n =
         next (c ∷ []) (place + length r) (begun_is before r c Neither b n ∙ rw q refl) (part_dle c q) (λ bs. rw (part_dle c q) refl) (omega (arith, longer, p))
@@ -225,6 +230,7 @@ one_more c bytes before r place b e h p next = by_part (part_of (r ++ c ∷ []))
     by_dle false q n =
         next [] (suc (place + length r)) (begun_is before r c Neither b n ∙ rw q refl) part_nil (λ bs. refl) (omega (arith, longer, p))
         ∙ sym (other (place + length r) c bytes q) ∙ sym (after place r c bytes h e n)
+
     by_part : (part : Part) → part_of (r ++ c ∷ []) ≡ part → real_time_request before c ++ rest ≡ from_left 0 place (r ++ c ∷ bytes)
     by_part Whole w =
         ap (λ (xs : List Request). xs ++ rest) (known_by before r c Whole b w ∙ ap (λ (request : Request). request ∷ []) same)

@@ -49,11 +49,14 @@ module _ (a : Arrivals) (before : List ℕ) (c : ℕ) (s : ArrivalsStand a befor
       let r = request_is kept k in
       let h : part_of (begun before ++ c ∷ []) ≡ Begun = ap part_of r ∙ p in
       let long : length kept ≡ length a.bytes.items + 1 = ap length (k ∙ kept_all a.bytes.items c part_is) ∙ length-append a.bytes.items (c ∷ []) in
-      rw (e, none, h) (record {
-        part = p;
-        begun_is = rw (begun-push before c, h) r;
-        start = s.start ∙ ap counted (omega (arith, long, length-append before (c ∷ [])));
-      }, refl)
+      rw (e, none, h) (
+        record {
+          part = p;
+          begun_is = rw (begun-push before c, h) r;
+          start = s.start ∙ ap counted (omega (arith, long, length-append before (c ∷ [])));
+        },
+        refl,
+      )
 
   pub is_whole : (kept : List ℕ) → kept ≡ take 10 (a.bytes.items ++ c ∷ []) → part_of kept ≡ Whole → (new : Arrivals)
       → new ≡ record a { bytes = record { items = kept }; is_whole = true }
@@ -63,11 +66,14 @@ module _ (a : Arrivals) (before : List ℕ) (c : ℕ) (s : ArrivalsStand a befor
       let h : part_of (begun before ++ c ∷ []) ≡ Whole = ap part_of r ∙ p in
       let long : length kept ≡ length a.bytes.items + 1 = ap length (k ∙ kept_all a.bytes.items c part_is) ∙ length-append a.bytes.items (c ∷ []) in
       let begins : a.start ≡ counted (suc (length before) - length kept) = s.start ∙ ap counted (omega (arith, long)) in
-      rw (e, h) (record {
-        part = p;
-        begun_is = rw (begun-push before c, h) refl;
-        start = s.start ∙ ap counted (omega (arith, long, length-append before (c ∷ [])));
-      }, rw (r, begins) refl)
+      rw (e, h) (
+        record {
+          part = p;
+          begun_is = rw (begun-push before c, h) refl;
+          start = s.start ∙ ap counted (omega (arith, long, length-append before (c ∷ [])));
+        },
+        rw (r, begins) refl,
+      )
 
   pub begins : (kept : List ℕ) → kept ≡ take 10 (a.bytes.items ++ c ∷ []) → part_of kept ≡ Neither → (taken : ℕ)
       → taken ≡ counted (length before) → (new : Arrivals) → new ≡ begun_anew (record a { bytes = record { items = kept } }) c taken
@@ -77,17 +83,24 @@ module _ (a : Arrivals) (before : List ℕ) (c : ℕ) (s : ArrivalsStand a befor
     where
       h : part_of (begun before ++ c ∷ []) ≡ Neither
       h = ap part_of (request_is kept k) ∙ p
+
       by_test : (so : Bool) → (c == 0x10) ≡ so → ArrivalsStand new (before ++ c ∷ []) × (waiting_arrival new (counted (suc (length before))) ≡ real_time_request before c)
-      by_test true q = rw (e, q, none, h) (record {
-        part = part_dle c q;
-        begun_is = rw (begun-push before c, h, q) refl;
-        start = t ∙ ap counted (omega (arith, length-append before (c ∷ [])));
-      }, refl)
-      by_test false q = rw (e, q, none, h) (record {
-        part = part_nil;
-        begun_is = rw (begun-push before c, h, q) refl;
-        start = omega (arith, t, length-append before (c ∷ []));
-      }, refl)
+      by_test true q = rw (e, q, none, h) (
+        record {
+          part = part_dle c q;
+          begun_is = rw (begun-push before c, h, q) refl;
+          start = t ∙ ap counted (omega (arith, length-append before (c ∷ [])));
+        },
+        refl,
+      )
+      by_test false q = rw (e, q, none, h) (
+        record {
+          part = part_nil;
+          begun_is = rw (begun-push before c, h, q) refl;
+          start = omega (arith, t, length-append before (c ∷ []));
+        },
+        refl,
+      )
 
 pub stand_first : (a : Arrivals) → a.bytes.items ≡ [] → a.start ≡ 0 → a.is_whole ≡ false → ArrivalsStand a []
 unfolding begun begun_on

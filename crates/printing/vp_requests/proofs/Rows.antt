@@ -49,14 +49,14 @@ action_few : (args : List ℕ) → action_part args ≡ Begun → length args �
 action_few [] e = omega arith
 action_few (n ∷ args) e =
     let h : length args ≤ 6 = either (n == 0x01) _ _ (λ h. omega (arith, pulse_few args h)) (either (n == 0x02) _ _ (λ h. omega (arith, row_few power_off args h))
-        (either (n == 0x03) _ _ (buzzer_few args) (either (n == 0x07) _ _ (state_few args) (either (n == 0x08) _ _ (λ h. omega (arith, row_few clear args h)) (none (length args)))))) e in
+    (either (n == 0x03) _ _ (buzzer_few args) (either (n == 0x07) _ _ (state_few args) (either (n == 0x08) _ _ (λ h. omega (arith, row_few clear args h)) (none (length args)))))) e in
     omega (arith, h)
 
 behind_few : (bytes : List ℕ) → part_behind bytes ≡ Begun → length bytes ≤ 8
 behind_few [] e = omega arith
 behind_few (n ∷ args) e =
     let h : length args ≤ 7 = either (n == 0x04) _ _ (status_few args) (either (n == 0x05) _ _ (recover_few args)
-        (either (n == 0x14) _ _ (action_few args) (λ h. omega (arith, none (length args) h)))) e in
+    (either (n == 0x14) _ _ (action_few args) (λ h. omega (arith, none (length args) h)))) e in
     omega (arith, h)
 
 -- a request that is begun has at most nine bytes

@@ -76,10 +76,13 @@ module _ (u : Units) (before : List ℕ) (c : ℕ) (s : UnitsStand u before) (no
       by_test true q =
           let r = rest-push before c ∙ rw q refl in
           let long : length (before ++ c ∷ []) ≡ suc (length before) = omega (arith, length-append before (c ∷ [])) in
-          rw (none, q) (record {
-            reads = reads;
-            unit = record { kept = rw r kept_is; start = rw r (start_is ∙ ap (λ (n : ℕ). counted (n - length (rest before ++ c ∷ []))) (sym long)) };
-          }, refl)
+          rw (none, q) (
+            record {
+              reads = reads;
+              unit = record { kept = rw r kept_is; start = rw r (start_is ∙ ap (λ (n : ℕ). counted (n - length (rest before ++ c ∷ []))) (sym long)) };
+            },
+            refl,
+          )
       by_test false q = absurd (some (rest-push before c ∙ rw q refl))
 
   pub ends : (rest (before ++ c ∷ []) ≡ []) → (taken : ℕ) → taken ≡ counted (length before) → (new : Units)
@@ -88,14 +91,19 @@ module _ (u : Units) (before : List ℕ) (c : ℕ) (s : UnitsStand u before) (no
     where
       unit : List ℕ
       unit = rest before ++ c ∷ []
+
       by_ask : (ask : Option Ask) → ask_of unit ≡ ask → is_unfinished Whole unit ≡ false → Comes (ended_by ask one taken)
-      by_ask None a q = rw (q, a) (record {
-        reads = reads;
-        unit = record { kept = rw empty refl; start = rw empty (omega (arith, t, length-append before (c ∷ []))) };
-      }, refl)
+      by_ask None a q = rw (q, a) (
+        record {
+          reads = reads;
+          unit = record { kept = rw empty refl; start = rw empty (omega (arith, t, length-append before (c ∷ []))) };
+        },
+        refl,
+      )
       by_ask (Some ask) a q =
           let whole : kept ≡ unit = kept_is ∙ take_all 22 unit (omega (arith, asks_short unit ask a)) in
           rw (q, a, whole, start_is) (record { reads = reads; unit = empty }, refl)
+
       by_test : (so : Bool) → is_unfinished Whole unit ≡ so → Comes new
       by_test true q = absurd (not_empty (rest before) c (sym (rest-push before c ∙ rw q refl) ∙ empty))
       by_test false q =

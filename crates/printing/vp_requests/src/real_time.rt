@@ -87,7 +87,11 @@ fn pulse_part(args: &[u8]) -> Part
 fn buzzer_part(args: &[u8]) -> Part
     ensures { result ≡ buzzer_is args.now }
 {
-    if args.len() < 5 { Part::Begun } else { Part::Whole }
+    if args.len() < 5 {
+        Part::Begun
+    } else {
+        Part::Whole
+    }
 }
 
 /// DLE DC4 7 m.

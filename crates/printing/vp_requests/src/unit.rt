@@ -14,9 +14,7 @@ fn asks_for_graphics(args: &[u8]) -> bool
     ensures { result ≡ graphics_is args.now }
 {
     match args {
-        [m, n, ..] => {
-            *m == 0x30 && matches!(*n, 0 | 3 | 4 | 0x30 | 0x33 | 0x34 | 0x40 | 0x50)
-        }
+        [m, n, ..] => { *m == 0x30 && matches!(*n, 0 | 3 | 4 | 0x30 | 0x33 | 0x34 | 0x40 | 0x50) }
         _ => false,
     }
 }

@@ -16,7 +16,7 @@ loop-i-init c =
       idle = idle;
       went = λ bytes told t.
           let now = subst (λ (asked : List Request). ReceiptsTold c.tell-request.new.self bytes asked)
-              (ap (λ (xs : List Request). told ++ xs) (none_list c.tell-request.result none) ∙ append-nil told) (c.tell-request.ensures.told bytes told t) in
+          (ap (λ (xs : List Request). told ++ xs) (none_list c.tell-request.result none) ∙ append-nil told) (c.tell-request.ensures.told bytes told t) in
           begins (ReceiptsTold c.tell-request.new.self) receipt_requests bytes told c.args.input.now now (all_told c.tell-request.new.self bytes told now idle);
     }
 
@@ -32,8 +32,8 @@ loop-i-preserved c =
           let front = bytes ++ take c.loop-i.i c.args.input.now in
           let xs = front ++ get_or c.args.input.now c.loop-i.i 0 ∷ [] in
           let now = subst (λ (asked : List Request). ReceiptsTold new xs asked)
-              (ap (λ (asked : List Request). told ++ asked) (none_list c.tell-request-in-loop-i.result none) ∙ append-nil told)
-              (c.tell-request-in-loop-i.ensures.told xs told (c.take.ensures front told w.now)) in
+          (ap (λ (asked : List Request). told ++ asked) (none_list c.tell-request-in-loop-i.result none) ∙ append-nil told)
+          (c.tell-request-in-loop-i.ensures.told xs told (c.take.ensures front told w.now)) in
           goes (ReceiptsTold c.loop-i.self) (ReceiptsTold new) receipt_requests bytes told c.args.input.now c.loop-i.i c.loop-i-test.true w now (all_told new xs told now idle);
     }
 
