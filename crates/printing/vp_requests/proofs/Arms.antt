@@ -1,5 +1,5 @@
 -- What each language is read by.
-use Rattle.std.proofs.Common.{◌≡◌, ℕ, Bool, true, false, if◌then◌else◌, Option, None, List, [], ◌∷◌, ◌++◌, length, take, refl, sym, ap, subst, ◌∙◌, arith}
+use Rattle.std.proofs.Common.{◌≡◌, ℕ, true, false, Option, None, List, [], ◌++◌, length, take, refl, sym, ap, subst, ◌∙◌, arith}
 use Rattle.std.specs.Prelude.{option_to_list}
 use Rattle.std.proofs.lemmas.List.{append-nil, take_all}
 use Rattle.vp_language.specs.declared.language.Language.{Language}
@@ -9,7 +9,6 @@ use Rattle.vp_requests.specs.declared.request.Request.{Request}
 use Rattle.vp_requests.specs.declared.requests.Machine.{Machine}
 use Rattle.vp_requests.specs.declared.requests.Machine.TheVariants.{Receipt, Label}
 use Rattle.vp_requests.specs.declared.requests.Requests.{Requests}
-use Rattle.vp_requests.specs.Labels.{last_request}
 use Rattle.vp_requests.specs.Requests.{requests, last_requests, is_label, receipt_requests, label_requests}
 use Rattle.vp_requests.specs.Standing.{Told, told_by, ReceiptsTold, LabelsTold, IsFront, IsIdle, waiting, kept_short}
 use Rattle.vp_requests.proofs.LabelCuts.{last_is}

@@ -1,5 +1,5 @@
 -- Both kinds of requests of a receipt.
-use Rattle.std.proofs.Common.{◌≡◌, ℕ, ◌+◌, suc, Bool, true, false, if◌then◌else◌, Option, None, Some, List, [], ◌∷◌, ◌++◌, length, refl, sym, ap, subst, ◌∙◌, append_assoc, length-append, arith}
+use Rattle.std.proofs.Common.{◌≡◌, ℕ, suc, false, None, List, [], ◌∷◌, ◌++◌, length, refl, sym, ap, subst, ◌∙◌, append_assoc, length-append, arith}
 use Rattle.std.proofs.lemmas.List.{append-nil}
 use Rattle.vp_streams.specs.Count.{counted, grown}
 use Rattle.vp_requests.specs.declared.arrivals.Arrivals.{Arrivals}
@@ -9,7 +9,7 @@ use Rattle.vp_requests.specs.declared.request.Request.{Request}
 use Rattle.vp_requests.specs.RealTime.{real_time_request}
 use Rattle.vp_requests.specs.Units.{unit_request}
 use Rattle.vp_requests.specs.Requests.{receipt_request, receipt_requests}
-use Rattle.vp_requests.specs.Standing.{ArrivalsStand, UnitsStand, ReceiptsTold, ReceiptsStand, IsIdle, waiting, waiting_arrival, waiting_unit}
+use Rattle.vp_requests.specs.Standing.{ArrivalsStand, UnitsStand, ReceiptsTold, IsIdle, waiting, waiting_arrival, waiting_unit}
 use Rattle.vp_requests.proofs.Going.{receipt-push, no_receipts}
 
 no_arrival : (a : Arrivals) (end : ℕ) → a.is_whole ≡ false → waiting_arrival a end ≡ []

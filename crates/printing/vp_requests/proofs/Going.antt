@@ -1,15 +1,12 @@
 -- Bytes taken one by one, and what they ask.
-use Rattle.std.proofs.Common.{◌≡◌, ℕ, ◌+◌, ◌≤◌, ◌<◌, ◌⊎◌, inl, inr, zero, suc, Bool, true, false, if◌then◌else◌, Option, None, Some, is_some, List, [], ◌∷◌, ◌++◌, length, take, get_or, refl, sym, ap, subst, ◌∙◌, append_assoc, arith}
+use Rattle.std.proofs.Common.{◌≡◌, ℕ, ◌+◌, ◌≤◌, ◌<◌, ◌⊎◌, inl, inr, false, Option, None, Some, is_some, List, [], ◌∷◌, ◌++◌, length, take, get_or, refl, sym, ap, subst, ◌∙◌, append_assoc, arith}
 use Rattle.std.specs.Prelude.{option_to_list}
 use Rattle.std.proofs.lemmas.List.{append-nil, take_more}
 use Rattle.vp_requests.specs.declared.labels.Labels.{Labels}
-use Rattle.vp_requests.specs.declared.receipts.Receipts.{Receipts}
 use Rattle.vp_requests.specs.declared.request.Request.{Request}
-use Rattle.vp_requests.specs.RealTime.{real_time_request}
-use Rattle.vp_requests.specs.Units.{unit_request}
 use Rattle.vp_requests.specs.Labels.{label_request}
 use Rattle.vp_requests.specs.Requests.{behind, receipt_request, receipt_requests, label_requests}
-use Rattle.vp_requests.specs.Standing.{ReceiptsTold, ReceiptsStand, IsIdle, waiting, LabelsTold, LabelsStand}
+use Rattle.vp_requests.specs.Standing.{LabelsTold, LabelsStand}
 
 behind-push : (known : List ℕ → ℕ → List Request) (before bytes : List ℕ) (c : ℕ)
     → behind known before (bytes ++ c ∷ []) ≡ behind known before bytes ++ known (before ++ bytes) c

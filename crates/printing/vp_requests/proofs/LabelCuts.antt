@@ -1,24 +1,21 @@
 -- Commands of labels, byte by byte.
-use Rattle.std.proofs.Common.{◌≡◌, ◌≢◌, ℕ, ◌+◌, ◌-◌, ◌≤◌, ◌<◌, ◌==◌, zero, suc, Bool, true, false, not, ◌&&◌, ◌||◌, cond, if◌then◌else◌, Option, None, Some, List, [], ◌∷◌, ◌++◌, length, take, nat_lt, reverse, refl, sym, ap, subst, ◌∙◌, length-append, arith}
-use Rattle.std.specs.Prelude.{option_to_list}
+use Rattle.std.proofs.Common.{◌≡◌, ℕ, ◌+◌, ◌≤◌, ◌<◌, ◌==◌, zero, suc, Bool, true, false, ◌&&◌, if◌then◌else◌, Option, None, Some, List, [], ◌∷◌, ◌++◌, length, take, nat_lt, reverse, refl, sym, ap, ◌∙◌, length-append, arith}
 use Rattle.std.specs.List.{prefix_len}
 use Rattle.std.proofs.lemmas.List.{take_all, length-take-le, reverse-append, length-reverse}
-use Rattle.std.proofs.lemmas.Grind.{common_steps}
 use Rattle.vp_streams.specs.Count.{counted, grown}
 use Rattle.vp_zpl.specs.declared.name.Kind.{Kind}
 use Rattle.vp_zpl.specs.declared.name.Kind.TheVariants as kinds
 use Rattle.vp_zpl.specs.declared.reader.ZplReader.{ZplReader}
 use Rattle.vp_zpl.specs.Spelling.{is_sign, is_line_end, behind_commas}
 use Rattle.vp_zpl.specs.Commands.{Cut, cut, cut_back, with_byte, longer, wants_binary, wants_binary_named, kind_named, is_short, is_whole, is_b, head, count_of, indicator}
-use Rattle.vp_zpl.specs.Runs.{ends_data, is_text, is_kept_code, front_in, front_named, text_front, picture_front, data_front}
+use Rattle.vp_zpl.specs.Runs.{ends_data, is_kept_code, front_in, front_named, text_front, picture_front, data_front}
 use Rattle.vp_zpl.specs.Items.{waiting}
 use Rattle.vp_zpl.specs.Reader.{Stands as ZplStands}
 use Rattle.vp_requests.specs.declared.request.Ask.{Ask}
-use Rattle.vp_requests.specs.declared.request.Ask.TheVariants as asks
 use Rattle.vp_requests.specs.declared.request.Request.{Request}
 use Rattle.vp_requests.specs.declared.labels.Labels.{Labels}
 use Rattle.vp_requests.specs.Labels.{ask_of, most_arguments, begins, is_dropped, begun_back, begun_at, full_by, short_by, full_request, short_request, label_request, last_request}
-use Rattle.vp_requests.specs.Standing.{LabelsStand, kept_full, kept_full_by, kept_short, kept_short_by, Divides, GoesOn, with_more, with_sign}
+use Rattle.vp_requests.specs.Standing.{LabelsStand, kept_full, kept_full_by, kept_short, kept_short_by, Divides, GoesOn, with_more}
 
 pub cut-push : (bytes : List ℕ) (c : ℕ) → cut (bytes ++ c ∷ []) ≡ with_byte (cut bytes) c
 unfolding cut

@@ -1,17 +1,16 @@
 -- Requests are found from the left.
-use Rattle.std.proofs.Common.{◌≡◌, ◌≢◌, ℕ, ◌+◌, ◌-◌, ◌≤◌, ◌<◌, ◌==◌, zero, suc, Bool, true, false, if◌then◌else◌, List, [], ◌∷◌, ◌++◌, length, nat_lt, nat_le, refl, sym, ap, subst, ◌∙◌, append_assoc, length-append, arith}
+use Rattle.std.proofs.Common.{◌≡◌, ℕ, ◌+◌, ◌==◌, suc, Bool, true, false, if◌then◌else◌, List, [], ◌∷◌, ◌++◌, length, nat_lt, refl, sym, ap, subst, ◌∙◌, append_assoc, length-append, arith}
 use Rattle.std.proofs.lemmas.List.{append-nil}
-use Rattle.std.proofs.lemmas.Grind.{common_steps}
 use Rattle.vp_language.specs.declared.language.Language.{Language}
 use Rattle.vp_streams.specs.Count.{counted}
 use Rattle.vp_requests.specs.declared.real_time.Part.{Part}
 use Rattle.vp_requests.specs.declared.real_time.Part.TheVariants.{Whole, Begun, Neither}
 use Rattle.vp_requests.specs.declared.request.Request.{Request}
 use Rattle.vp_requests.specs.Request.{request_of, ending_at}
-use Rattle.vp_requests.specs.RealTime.{part_of, part_behind, action_part, status_part, recover_part, pulse_part, buzzer_part, state_part, row_part, power_off, clear, begun_if, whole_if, ask_of, begun, begun_on, begun_by, if_whole, real_time_request}
+use Rattle.vp_requests.specs.RealTime.{part_of, part_behind, action_part, status_part, recover_part, pulse_part, buzzer_part, state_part, row_part, power_off, clear, whole_if, ask_of, begun, begun_on, begun_by, if_whole, real_time_request}
 use Rattle.vp_requests.specs.Labels.{label_request}
 use Rattle.vp_requests.specs.Requests.{behind, requests, receipt_request, receipt_requests, label_requests, real_time_requests, is_label}
-use Rattle.vp_requests.specs.Laws.{Front, front_by, front_behind, found_in, passed, from_left}
+use Rattle.vp_requests.specs.Laws.{Front, front_behind, found_in, passed, from_left}
 use Rattle.vp_requests.specs.Laws.Front.{Row, Open, NoRow}
 use Rattle.vp_requests.specs.Standing.{IsFront}
 use Rattle.vp_requests.proofs.RealTimes.{begun-push}

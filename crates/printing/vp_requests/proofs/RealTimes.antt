@@ -1,13 +1,10 @@
 -- Real-time requests, byte by byte.
-use Rattle.std.proofs.Common.{◌≡◌, ℕ, ◌+◌, ◌-◌, ◌≤◌, suc, ◌==◌, if◌then◌else◌, Bool, true, false, List, [], ◌∷◌, ◌++◌, length, take, refl, sym, ap, subst, ◌∙◌, length-append, arith}
+use Rattle.std.proofs.Common.{◌≡◌, ℕ, ◌+◌, ◌-◌, suc, ◌==◌, Bool, true, false, List, [], ◌∷◌, ◌++◌, length, take, refl, ap, ◌∙◌, length-append, arith}
 use Rattle.std.proofs.lemmas.List.{take_all}
-use Rattle.std.proofs.lemmas.Grind.{common_steps}
-use Rattle.vp_streams.specs.Count.{counted, grown}
+use Rattle.vp_streams.specs.Count.{counted}
 use Rattle.vp_requests.specs.declared.arrivals.Arrivals.{Arrivals}
-use Rattle.vp_requests.specs.declared.real_time.Part.{Part}
 use Rattle.vp_requests.specs.declared.real_time.Part.TheVariants.{Whole, Begun, Neither}
-use Rattle.vp_requests.specs.Request.{ending_at}
-use Rattle.vp_requests.specs.RealTime.{part_of, begun, begun_on, begun_by, real_time_request, if_whole}
+use Rattle.vp_requests.specs.RealTime.{part_of, begun, begun_on, begun_by, real_time_request}
 use Rattle.vp_requests.specs.Standing.{ArrivalsStand, waiting_arrival, begun_anew}
 use Rattle.vp_requests.proofs.Rows.{few}
 

@@ -1,5 +1,5 @@
 -- Rows of the table of real-time requests.
-use Rattle.std.proofs.Common.{◌≡◌, ℕ, ◌+◌, ◌<◌, ◌≤◌, suc, Bool, true, false, if◌then◌else◌, ◌==◌, List, [], ◌∷◌, length, drop, length-drop, refl, arith}
+use Rattle.std.proofs.Common.{◌≡◌, ℕ, ◌<◌, ◌≤◌, Bool, true, false, if◌then◌else◌, ◌==◌, List, [], ◌∷◌, length, drop, length-drop, refl, arith}
 use Rattle.std.proofs.lemmas.List.{drop_more, nil_from_length}
 use Rattle.vp_requests.specs.declared.real_time.Part.{Part}
 use Rattle.vp_requests.specs.declared.real_time.Part.TheVariants.{Begun, Neither}

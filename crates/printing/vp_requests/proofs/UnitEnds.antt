@@ -1,8 +1,7 @@
 -- Units, byte by byte.
-use Rattle.std.proofs.Common.{◌≡◌, ◌≢◌, ℕ, ◌+◌, ◌-◌, ◌≤◌, ◌<◌, zero, suc, Bool, true, false, if◌then◌else◌, Option, None, Some, List, [], ◌∷◌, ◌++◌, length, take, nat_lt, refl, sym, ap, subst, ◌∙◌, length-append, arith}
-use Rattle.std.proofs.lemmas.List.{take_all, take-append-le, length-take-le, append-nil}
-use Rattle.std.proofs.lemmas.Grind.{common_steps}
-use Rattle.vp_streams.specs.Count.{counted, grown}
+use Rattle.std.proofs.Common.{◌≡◌, ◌≢◌, ℕ, ◌-◌, ◌≤◌, zero, suc, Bool, true, false, if◌then◌else◌, Option, None, Some, List, [], ◌∷◌, ◌++◌, length, take, nat_lt, refl, sym, ap, subst, ◌∙◌, length-append, arith}
+use Rattle.std.proofs.lemmas.List.{take_all, length-take-le}
+use Rattle.vp_streams.specs.Count.{counted}
 use Rattle.vp_esc.specs.declared.reader.EscReader.{EscReader}
 use Rattle.vp_esc.specs.declared.reading.Reading.TheVariants.{Whole}
 use Rattle.vp_esc.specs.Units.{is_unfinished}
@@ -10,10 +9,8 @@ use Rattle.vp_esc.specs.Split.{Split, split, split_on, with_byte}
 use Rattle.vp_esc.specs.Reader.{Stands as EscStands}
 use Rattle.vp_requests.specs.declared.request.Ask.{Ask}
 use Rattle.vp_requests.specs.declared.units.Units.{Units}
-use Rattle.vp_requests.specs.declared.unit.TheConstants.{LONGEST_UNIT}
-use Rattle.vp_requests.specs.Request.{ending_at}
-use Rattle.vp_requests.specs.Units.{ask_of, ask_in, name_len, asked, if_asked, unit_request}
-use Rattle.vp_requests.specs.Standing.{UnitsStand, InUnit, unit_by, waiting_unit, waiting_by, ended_unit, ended_by}
+use Rattle.vp_requests.specs.Units.{ask_of, unit_request}
+use Rattle.vp_requests.specs.Standing.{UnitsStand, InUnit, unit_by, waiting_unit, ended_unit, ended_by}
 
 on-push : (s : Split) (bytes : List ℕ) (c : ℕ) → split_on Whole s (bytes ++ c ∷ []) ≡ with_byte Whole (split_on Whole s bytes) c
 unfolding split_on

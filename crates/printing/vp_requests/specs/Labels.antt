@@ -1,5 +1,5 @@
 -- The commands of a label that ask (ZPL II, "host" commands and those for the printer's state).
-use Rattle.std.specs.Prelude.{ℕ, suc, ◌+◌, ◌==◌, Bool, true, false, not, ◌&&◌, ◌||◌, Option, None, Some, List, [], ◌∷◌, length}
+use Rattle.std.specs.Prelude.{ℕ, suc, ◌+◌, ◌==◌, Bool, not, ◌&&◌, Option, None, Some, List, [], ◌∷◌, length}
 use Rattle.std.specs.Prelude.{reverse, nat_lt, if◌then◌else◌}
 use Prim.Native.Char.{code}
 use Rattle.vp_streams.specs.Count.{counted}

@@ -1,5 +1,5 @@
 -- The requests that a receipt printer answers as they arrive (ESC/POS, "real-time commands").
-use Rattle.std.specs.Prelude.{ℕ, ◌==◌, Bool, ◌&&◌, ◌||◌, Option, None, Some, List, [], ◌∷◌, ◌++◌, length}
+use Rattle.std.specs.Prelude.{ℕ, ◌==◌, Bool, ◌&&◌, ◌||◌, List, [], ◌∷◌, ◌++◌, length}
 use Rattle.std.specs.Prelude.{suc, nat_lt, nat_le, slice_index, if◌then◌else◌}
 use Rattle.vp_requests.specs.declared.real_time.Part.{Part}
 use Rattle.vp_requests.specs.declared.real_time.Part.TheVariants.{Whole, Begun, Neither}

@@ -1,5 +1,5 @@
 -- Where the readers of requests stand behind bytes, and what is still to be told of them.
-use Rattle.std.specs.Prelude.{◌≡◌, ℕ, suc, ◌+◌, ◌-◌, ◌==◌, Bool, true, false, Option, None, Some, List, [], ◌∷◌, ◌++◌}
+use Rattle.std.specs.Prelude.{◌≡◌, ℕ, ◌+◌, ◌-◌, ◌==◌, Bool, true, false, Option, None, Some, List, [], ◌∷◌, ◌++◌}
 use Rattle.std.specs.Prelude.{length, take, nat_lt, if◌then◌else◌}
 use Rattle.vp_streams.specs.Count.{counted, grown}
 use Rattle.vp_esc.specs.declared.reading.Reading.TheVariants as readings

@@ -1,7 +1,7 @@
 -- The commands of a receipt that ask, each a unit of the whole reading (ESC/POS, "status commands" and those
 -- that answer).
-use Rattle.std.specs.Prelude.{ℕ, suc, ◌+◌, ◌*◌, ◌==◌, Bool, false, ◌&&◌, ◌||◌, Option, None, Some, List, [], ◌∷◌, ◌++◌}
-use Rattle.std.specs.Prelude.{length, nat_lt, nat_le, if◌then◌else◌}
+use Rattle.std.specs.Prelude.{ℕ, suc, ◌==◌, Bool, false, ◌&&◌, ◌||◌, Option, None, Some, List, [], ◌∷◌, ◌++◌}
+use Rattle.std.specs.Prelude.{length, nat_lt, if◌then◌else◌}
 use Rattle.vp_esc.specs.declared.reading.Reading.TheVariants.{Whole}
 use Rattle.vp_esc.specs.Units.{is_unfinished}
 use Rattle.vp_esc.specs.Split.{split}

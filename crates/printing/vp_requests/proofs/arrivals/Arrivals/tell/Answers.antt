@@ -1,4 +1,4 @@
-use Rattle.std.proofs.Common.{refl, ◌≡◌, true, false, not, arith}
+use Rattle.std.proofs.Common.{refl, arith}
 use Rattle.vp_requests.proofs.RealTimes.{told}
 use Rattle.vp_requests.proofs.arrivals.Arrivals.tell.Goals as goal
 

@@ -1,4 +1,4 @@
-use Rattle.std.proofs.Common.{refl, sym, ap, ◌∙◌}
+use Rattle.std.proofs.Common.{refl, sym, ◌∙◌}
 use Rattle.vp_requests.proofs.Going.{none_list}
 use Rattle.vp_requests.proofs.BothKinds.{tells_arrival, tells_unit}
 use Rattle.vp_requests.proofs.receipts.Receipts.tell.Goals as goal

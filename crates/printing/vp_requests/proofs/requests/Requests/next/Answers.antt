@@ -1,5 +1,4 @@
-use Rattle.std.proofs.Common.{◌++◌, take, ◌∙◌, ap}
-use Rattle.std.specs.Prelude.{option_to_list}
+use Rattle.std.proofs.Common.{◌++◌, take, ◌∙◌}
 use Rattle.vp_requests.proofs.Arms.{of_receipt, of_label, of_receipts, of_labels, receipts_stand, labels_stand, receipts_first, labels_first, receipts_all, labels_all}
 use Rattle.vp_requests.proofs.requests.Requests.next.Goals as goal
 

@@ -1,4 +1,4 @@
-use Rattle.std.proofs.Common.{refl, sym, ap, ◌∙◌, ◌≡◌, true, false, arith}
+use Rattle.std.proofs.Common.{arith}
 use Rattle.vp_esc.specs.declared.reading.Reading.TheVariants.{Whole}
 use Rattle.vp_requests.proofs.UnitEnds.{goes_on, ends}
 use Rattle.vp_requests.proofs.units.Units.take.Goals as goal
