@@ -16,6 +16,7 @@ use Rattle.vp_requests.specs.declared.request.Request.{Request}
 use Rattle.vp_requests.specs.declared.labels.Labels.{Labels}
 use Rattle.vp_requests.specs.Labels.{ask_of, most_arguments, begins, is_dropped, begun_back, begun_at, full_by, short_by, full_request, short_request, label_request, last_request}
 use Rattle.vp_requests.specs.Standing.{LabelsStand, kept_full, kept_full_by, kept_short, kept_short_by, Divides, GoesOn, with_more}
+use Rattle.vp_requests.proofs.FirstBytes.{again}
 
 pub cut-push : (bytes : List ℕ) (c : ℕ) → cut (bytes ++ c ∷ []) ≡ with_byte (cut bytes) c
 unfolding cut
@@ -66,11 +67,6 @@ data_is s c e = front_is s.before s.open_one c e
 
 most_le : (ask : Ask) → most_arguments ask ≤ 1024
 most_le ask = grind arith
-
-again : (n : ℕ) (xs : List ℕ) (c : ℕ) → take n (take n xs ++ c ∷ []) ≡ take n (xs ++ c ∷ [])
-again zero xs c = refl
-again (suc n) [] c = refl
-again (suc n) (x ∷ xs) c = ap (λ ys. x ∷ ys) (again n xs c)
 
 longer_again : (n : ℕ) (xs : List ℕ) (c : ℕ) → take (suc n) (longer (take (suc n) xs) c) ≡ take (suc n) (longer xs c)
 longer_again n [] c = refl

@@ -13,7 +13,7 @@ use Rattle.vp_requests.specs.Requests.{behind, requests, receipt_request, receip
 use Rattle.vp_requests.specs.Laws.{Front, front_behind, found_in, passed, from_left}
 use Rattle.vp_requests.specs.Laws.Front.{Row, Open, NoRow}
 use Rattle.vp_requests.specs.Standing.{IsFront}
-use Rattle.vp_requests.proofs.RealTimes.{begun-push}
+use Rattle.vp_requests.proofs.RealTimes.{begun-push, part_nil, part_dle}
 
 behind-append : (known : List ℕ → ℕ → List Request) (before bytes more : List ℕ)
     → behind known before (bytes ++ more) ≡ behind known before bytes ++ behind known (before ++ bytes) more
@@ -115,14 +115,6 @@ ended b r c e n =
 part_other : (c : ℕ) → (c == 0x10) ≡ false → part_of (c ∷ []) ≡ Neither
 unfolding part_of
 part_other c e = rw e refl
-
-part_dle : (c : ℕ) → (c == 0x10) ≡ true → part_of (c ∷ []) ≡ Begun
-unfolding part_of
-part_dle c e = rw e refl
-
-part_nil : part_of [] ≡ Begun
-unfolding part_of
-part_nil = refl
 
 begun_nil : begun [] ≡ []
 unfolding begun begun_on

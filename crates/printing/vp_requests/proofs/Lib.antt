@@ -1,3 +1,4 @@
+pub mod FirstBytes
 pub mod Rows
 pub mod RealTimes
 pub mod UnitEnds

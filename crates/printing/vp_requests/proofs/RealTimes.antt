@@ -17,11 +17,11 @@ pub begun-push : (bytes : List ℕ) (c : ℕ) → begun (bytes ++ c ∷ []) ≡ 
 unfolding begun
 begun-push bytes c = on-push [] bytes c
 
-part_nil : part_of [] ≡ Begun
+pub part_nil : part_of [] ≡ Begun
 unfolding part_of
 part_nil = refl
 
-part_dle : (c : ℕ) → (c == 0x10) ≡ true → part_of (c ∷ []) ≡ Begun
+pub part_dle : (c : ℕ) → (c == 0x10) ≡ true → part_of (c ∷ []) ≡ Begun
 unfolding part_of
 part_dle c e = rw e refl
 

@@ -11,6 +11,7 @@ use Rattle.vp_requests.specs.declared.request.Ask.{Ask}
 use Rattle.vp_requests.specs.declared.units.Units.{Units}
 use Rattle.vp_requests.specs.Units.{ask_of, unit_request}
 use Rattle.vp_requests.specs.Standing.{UnitsStand, InUnit, unit_by, waiting_unit, ended_unit, ended_by}
+use Rattle.vp_requests.proofs.FirstBytes.{again}
 
 on-push : (s : Split) (bytes : List ℕ) (c : ℕ) → split_on Whole s (bytes ++ c ∷ []) ≡ with_byte Whole (split_on Whole s bytes) c
 unfolding split_on
@@ -23,12 +24,6 @@ rest bytes = (split Whole bytes).rest
 rest-push : (bytes : List ℕ) (c : ℕ) → rest (bytes ++ c ∷ []) ≡ (if is_unfinished Whole (rest bytes ++ c ∷ []) then rest bytes ++ c ∷ [] else [])
 unfolding split
 rest-push bytes c = grind (arith, on-push)
-
--- the first that are kept, and one more
-again : (n : ℕ) (xs : List ℕ) (c : ℕ) → take n (take n xs ++ c ∷ []) ≡ take n (xs ++ c ∷ [])
-again zero xs c = refl
-again (suc n) [] c = refl
-again (suc n) (x ∷ xs) c = ap (λ ys. x ∷ ys) (again n xs c)
 
 not_empty : (xs : List ℕ) (c : ℕ) → (xs ++ c ∷ []) ≢ []
 not_empty xs c h = omega (arith, ap {A = List ℕ} length h, length-append xs (c ∷ []))

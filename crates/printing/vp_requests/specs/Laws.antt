@@ -35,8 +35,8 @@ passed (Row row) bytes = length row - 1
 passed Open bytes = length bytes
 passed NoRow bytes = 0
 
--- From the left, where so many bytes are passed: a row at the front is a request, and what follows is looked at
--- behind it; where there is none, behind the first byte.
+-- From the left, where so many bytes are passed: a row at the front is a request, and what follows is looked
+-- at behind it; where there is none, behind the first byte.
 unfoldable pub from_left : ℕ → ℕ → List ℕ → List Request
 from_left pass place [] = []
 from_left (suc pass) place (c ∷ bytes) = from_left pass (suc place) bytes

@@ -87,8 +87,7 @@ ask_named b = if b == 0x04 then asks.Status else if b == 0x05 then asks.Recover 
 abbrev pub ask_of : List ℕ → Ask
 ask_of bytes = ask_named (slice_index bytes 1)
 
--- One more byte behind a request that is begun: where they are none together, only a DLE may begin another.
--- (No other byte of one that is still begun can be a DLE that begins one, but in DLE DC4 3, which any goes on.)
+-- one more byte behind a request that is begun: where they are none together, only a DLE may begin another
 abbrev pub begun_by : Part → List ℕ → ℕ → List ℕ
 begun_by Whole begun c = []
 begun_by Begun begun c = begun ++ c ∷ []

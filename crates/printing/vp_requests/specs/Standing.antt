@@ -1,5 +1,6 @@
 -- Where the readers of requests stand behind bytes, and what is still to be told of them.
-use Rattle.std.specs.Prelude.{◌≡◌, ℕ, ◌+◌, ◌-◌, ◌==◌, Bool, true, false, Option, None, Some, List, [], ◌∷◌, ◌++◌}
+use Rattle.std.specs.Prelude.{◌≡◌, ℕ, ◌+◌, ◌-◌, ◌==◌, Bool, true, false, Option, None, Some, List, [], ◌∷◌}
+use Rattle.std.specs.Prelude.{◌++◌}
 use Rattle.std.specs.Prelude.{length, take, nat_lt, if◌then◌else◌}
 use Rattle.vp_streams.specs.Count.{counted, grown}
 use Rattle.vp_esc.specs.declared.reading.Reading.TheVariants as readings
@@ -123,7 +124,8 @@ kept_short l = kept_short_by (labels.ask_of l.bytes.items) l
 
 -- behind a byte of the open command
 abbrev pub with_more : Labels → ℕ → Labels
-with_more l c = record l { bytes = record { items = take 1028 (longer l.bytes.items c) }; taken = grown l.taken 1 }
+with_more l c =
+    record l { bytes = record { items = take 1028 (longer l.bytes.items c) }; taken = grown l.taken 1 }
 
 pub record GoesOn (l : Labels) (c : ℕ) (asked : List Request) (new : Labels) : Type 0 where
   pub new_is : new ≡ with_more l c
@@ -138,8 +140,10 @@ pub record Divides (l : Labels) (c : ℕ) (asked : List Request) (new : Labels) 
   pub asks : asked ≡ (if is_line_end c then [] else kept_short l)
 
 abbrev pub told_by : Machine → Language → List ℕ → List Request → Type 0
-told_by (Label labels) language bytes told = (is_label language ≡ true) × LabelsTold labels bytes told
-told_by (Receipt receipts) language bytes told = (is_label language ≡ false) × ReceiptsTold receipts bytes told
+told_by (Label labels) language bytes told =
+    (is_label language ≡ true) × LabelsTold labels bytes told
+told_by (Receipt receipts) language bytes told =
+    (is_label language ≡ false) × ReceiptsTold receipts bytes told
 
 -- behind these bytes, of whose requests these were given
 unfoldable pub Told : Language → Requests → List ℕ → List Request → Type 0

@@ -1,5 +1,6 @@
 //! The commands of a label, byte by byte.
-ghost use Rattle.std.specs.Prelude.{◌≡◌, ◌≤◌, ◌<◌, ◌++◌, ◌∷◌, [], ℕ, List, None, Some, length, take, option_to_list};
+ghost use Rattle.std.specs.Prelude.{◌≡◌, ◌≤◌, ◌<◌, ◌++◌, ◌∷◌, [], ℕ, List, None, Some, length, take};
+ghost use Rattle.std.specs.Prelude.{option_to_list};
 ghost use Rattle.vp_requests.specs.Labels.{label_request};
 ghost use Rattle.vp_requests.specs.Requests.{label_requests};
 ghost use Rattle.vp_requests.specs.Standing.{LabelsStand, LabelsTold, kept_full, kept_short, Divides, GoesOn};
@@ -108,7 +109,8 @@ impl Labels {
     pub fn next(&mut self, input: &[u8]) -> Found
         ensures fits { result.taken ≤ length input.now }
         ensures told { (bytes : List ℕ) (told : List Request) → LabelsTold self.old bytes told →
-            LabelsTold self.new (bytes ++ take result.taken input.now) (told ++ option_to_list result.request) }
+            LabelsTold self.new (bytes ++ take result.taken input.now)
+            (told ++ option_to_list result.request) }
         ensures at_its_byte { (bytes : List ℕ) (told : List Request) (n : ℕ) →
             LabelsTold self.old bytes told → n < result.taken →
             label_requests (bytes ++ take n input.now) ≡ told }

@@ -2,8 +2,10 @@
 ghost use Rattle.std.specs.Prelude.{◌≡◌, ◌≤◌};
 ghost use Rattle.vp_zpl.specs.Spelling.{capital as capital_is, is_line_end as is_line_end_as};
 ghost use Rattle.vp_zpl.specs.Runs.{ends_data as ends_data_as};
-ghost use Rattle.vp_requests.specs.Labels.{tilde_h_ask as tilde_h_is, tilde_j_ask as tilde_j_is, tilde_p_ask as tilde_p_is};
-ghost use Rattle.vp_requests.specs.Labels.{tilde_ask as tilde_is, caret_ask as caret_is, ask_named as ask_named_is};
+ghost use Rattle.vp_requests.specs.Labels.{tilde_h_ask as tilde_h_is, tilde_j_ask as tilde_j_is};
+ghost use Rattle.vp_requests.specs.Labels.{tilde_p_ask as tilde_p_is};
+ghost use Rattle.vp_requests.specs.Labels.{tilde_ask as tilde_is, caret_ask as caret_is};
+ghost use Rattle.vp_requests.specs.Labels.{ask_named as ask_named_is};
 ghost use Rattle.vp_requests.specs.Labels.{ask_of as ask_is, most_arguments as most_is};
 
 use crate::request::{Ask, MOST_ARGUMENTS};

@@ -1,7 +1,9 @@
 //! Which bytes are real-time requests of a receipt.
 ghost use Rattle.std.specs.Prelude.{◌≡◌};
-ghost use Rattle.vp_requests.specs.RealTime.{begun_if as begun_if_as, whole_if as whole_if_as, is_within as is_within_as};
-ghost use Rattle.vp_requests.specs.RealTime.{status_part as status_is, recover_part as recover_is, pulse_part as pulse_is};
+ghost use Rattle.vp_requests.specs.RealTime.{begun_if as begun_if_as, whole_if as whole_if_as};
+ghost use Rattle.vp_requests.specs.RealTime.{is_within as is_within_as};
+ghost use Rattle.vp_requests.specs.RealTime.{status_part as status_is, recover_part as recover_is};
+ghost use Rattle.vp_requests.specs.RealTime.{pulse_part as pulse_is};
 ghost use Rattle.vp_requests.specs.RealTime.{buzzer_part as buzzer_is, state_part as state_is};
 ghost use Rattle.vp_requests.specs.RealTime.{row_part as row_is, action_part as action_is};
 ghost use Rattle.vp_requests.specs.RealTime.{part_of as part_is, ask_of as ask_is};

@@ -1,5 +1,6 @@
 //! The requests of a receipt.
-ghost use Rattle.std.specs.Prelude.{◌≡◌, ◌≤◌, ◌<◌, ◌++◌, ◌∷◌, [], ℕ, List, None, length, take, option_to_list};
+ghost use Rattle.std.specs.Prelude.{◌≡◌, ◌≤◌, ◌<◌, ◌++◌, ◌∷◌, [], ℕ, List, None, length, take};
+ghost use Rattle.std.specs.Prelude.{option_to_list};
 ghost use Rattle.vp_requests.specs.Requests.{receipt_requests};
 ghost use Rattle.vp_requests.specs.Standing.{ReceiptsTold, IsIdle};
 

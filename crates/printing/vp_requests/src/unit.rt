@@ -2,7 +2,8 @@
 ghost use Rattle.std.specs.Prelude.{◌≡◌};
 ghost use Rattle.vp_requests.specs.Units.{asks_for_graphics as graphics_is, asks_for_size as size_is};
 ghost use Rattle.vp_requests.specs.Units.{function_ask as function_is, counted_ask as counted_is};
-ghost use Rattle.vp_requests.specs.Units.{esc_ask as esc_is, gs_ask as gs_is, ask_of as ask_is, name_len as name_is};
+ghost use Rattle.vp_requests.specs.Units.{esc_ask as esc_is, gs_ask as gs_is, ask_of as ask_is};
+ghost use Rattle.vp_requests.specs.Units.{name_len as name_is};
 
 use crate::request::Ask;
 

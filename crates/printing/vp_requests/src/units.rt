@@ -60,7 +60,8 @@ impl Units {
         }
     }
 
-    /// What the unit asks that the last byte made whole, where it isn't told yet; it ends behind so many bytes.
+    /// What the unit asks that the last byte made whole, where it isn't told yet; it ends behind so many
+    /// bytes.
     pub fn tell(&mut self, end: u64) -> Option<Request>
         ensures told { option_to_list result ≡ waiting_unit self.old end }
         ensures all { self.new.ask ≡ None }
