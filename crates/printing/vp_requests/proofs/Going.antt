@@ -8,7 +8,7 @@ use Rattle.vp_requests.specs.Labels.{label_request}
 use Rattle.vp_requests.specs.Requests.{behind, receipt_request, receipt_requests, label_requests}
 use Rattle.vp_requests.specs.Standing.{LabelsTold, LabelsStand}
 
-behind-push : (known : List ℕ → ℕ → List Request) (before bytes : List ℕ) (c : ℕ)
+pub behind-push : (known : List ℕ → ℕ → List Request) (before bytes : List ℕ) (c : ℕ)
     → behind known before (bytes ++ c ∷ []) ≡ behind known before bytes ++ known (before ++ bytes) c
 behind-push known before [] c = append-nil (known before c) ∙ ap (λ (xs : List ℕ). known xs c) (sym (append-nil before))
 behind-push known before (b ∷ bytes) c =

@@ -7,3 +7,4 @@ pub mod Going
 pub mod BothKinds
 pub mod Arms
 pub mod Lefts
+pub mod EachUnit

@@ -18,6 +18,14 @@ unfolding split_on
 on-push s [] c = refl
 on-push s (b ∷ bytes) c = on-push (with_byte Whole s b) bytes c
 
+pub split-push : (bytes : List ℕ) (c : ℕ) → split Whole (bytes ++ c ∷ []) ≡ with_byte Whole (split Whole bytes) c
+unfolding split
+split-push bytes c = on-push (record { units = []; rest = [] }) bytes c
+
+pub split_nil : split Whole [] ≡ record { units = []; rest = [] }
+unfolding split split_on
+split_nil = refl
+
 abbrev rest : List ℕ → List ℕ
 rest bytes = (split Whole bytes).rest
 

@@ -1,4 +1,4 @@
--- The requests in real time, found from the left.
+-- Words of the laws: requests in real time, found from the left, and those of units one behind the other.
 use Rattle.std.specs.Prelude.{ℕ, zero, suc, ◌+◌, ◌-◌, List, [], ◌∷◌, ◌++◌, length}
 use Rattle.vp_streams.specs.Count.{counted}
 use Rattle.vp_requests.specs.declared.real_time.Part.{Part}
@@ -6,6 +6,7 @@ use Rattle.vp_requests.specs.declared.real_time.Part.TheVariants.{Whole, Begun, 
 use Rattle.vp_requests.specs.declared.request.Request.{Request}
 use Rattle.vp_requests.specs.Request.{request_of}
 use Rattle.vp_requests.specs.RealTime.{part_of, ask_of}
+use Rattle.vp_requests.specs.Units.{if_asked, ask_of as unit_ask}
 
 -- what stands at the front of bytes: a row of the table, a front of one up to their end, or none
 pub data Front : Type 0 where
@@ -43,3 +44,9 @@ from_left (suc pass) place (c ∷ bytes) = from_left pass (suc place) bytes
 from_left zero place (c ∷ bytes) =
     found_in (front_behind [] (c ∷ bytes)) place
     ++ from_left (passed (front_behind [] (c ∷ bytes)) bytes) (suc place) bytes
+
+-- what units ask that stand one behind the other from a place on
+unfoldable pub units_ask : ℕ → List (List ℕ) → List Request
+units_ask place [] = []
+units_ask place (unit ∷ units) =
+    if_asked (unit_ask unit) unit (place + length unit) ++ units_ask (place + length unit) units

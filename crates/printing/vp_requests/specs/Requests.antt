@@ -23,9 +23,12 @@ receipt_requests bytes = behind receipt_request [] bytes
 unfoldable pub label_requests : List ℕ → List Request
 label_requests bytes = behind label_request [] bytes
 
--- of a receipt's, those in real time alone
+-- of a receipt's, those in real time alone, and those of units alone
 unfoldable pub real_time_requests : List ℕ → List Request
 real_time_requests bytes = behind real_time_request [] bytes
+
+unfoldable pub unit_requests : List ℕ → List Request
+unit_requests bytes = behind unit_request [] bytes
 
 abbrev pub is_label : Language → Bool
 is_label languages.Label = true
