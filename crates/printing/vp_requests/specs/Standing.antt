@@ -15,6 +15,8 @@ use Rattle.vp_requests.specs.declared.request.Request.{Request}
 use Rattle.vp_requests.specs.declared.arrivals.Arrivals.{Arrivals}
 use Rattle.vp_requests.specs.declared.units.Units.{Units}
 use Rattle.vp_requests.specs.declared.labels.Labels.{Labels}
+use Rattle.vp_requests.specs.declared.labels.TheConstants.{KEPT as COMMAND_BYTES}
+use Rattle.vp_requests.specs.declared.units.TheConstants.{KEPT as UNIT_BYTES}
 use Rattle.vp_requests.specs.Request.{request_of}
 use Rattle.vp_requests.specs.RealTime.{part_of, begun, ask_of}
 use Rattle.vp_requests.specs.Units.{name_len}
@@ -47,7 +49,7 @@ begun_anew a c taken =
 
 -- the front of a unit, as far as it is kept
 pub record InUnit (u : Units) (rest : List ℕ) (taken : ℕ) : Type 0 where
-  pub kept : u.bytes.items ≡ take 22 rest
+  pub kept : u.bytes.items ≡ take UNIT_BYTES rest
   pub start : u.start ≡ counted (taken - length rest)
 
 -- or a whole one, which is still to be told
@@ -95,7 +97,7 @@ pub record IsIdle (r : Receipts) : Type 0 where
 -- the open command, as far as it is kept
 pub record LabelsStand (l : Labels) (bytes : List ℕ) : Type 0 where
   pub reads : ZplStands l.reader bytes
-  pub kept : l.bytes.items ≡ take 1028 (cut bytes).open_one
+  pub kept : l.bytes.items ≡ take COMMAND_BYTES (cut bytes).open_one
   pub start : l.start ≡ counted (begun_at bytes)
   pub taken : l.taken ≡ counted (length bytes)
 
@@ -125,7 +127,7 @@ kept_short l = kept_short_by (labels.ask_of l.bytes.items) l
 -- behind a byte of the open command
 abbrev pub with_more : Labels → ℕ → Labels
 with_more l c =
-    record l { bytes = record { items = take 1028 (longer l.bytes.items c) }; taken = grown l.taken 1 }
+    record l { bytes = record { items = take COMMAND_BYTES (longer l.bytes.items c) }; taken = grown l.taken 1 }
 
 pub record GoesOn (l : Labels) (c : ℕ) (asked : List Request) (new : Labels) : Type 0 where
   pub new_is : new ≡ with_more l c

@@ -9,10 +9,13 @@ use crate::real_time::{DLE, Part, ask_of, part_of};
 use crate::request::Request;
 use arrayvec::ArrayVec;
 
+/// How many bytes the longest request has.
+const LONGEST: usize = 10;
+
 /// The request that is begun, or has become whole and is still to be told.
 #[derive(Drop)]
 pub struct Arrivals {
-    bytes: ArrayVec<u8, 10>,
+    bytes: ArrayVec<u8, LONGEST>,
     start: u64,
     is_whole: bool,
 }

@@ -14,11 +14,14 @@ use vp_zpl::ZplReader;
 /// How many bytes a name has.
 const NAME: usize = 3;
 
+/// How many bytes of a command are kept: one more than a name and the most arguments.
+const KEPT: usize = 1028;
+
 /// The command that stands open, as far as its bytes are kept, and how many bytes were taken.
 #[derive(Drop)]
 pub struct Labels {
     reader: ZplReader,
-    bytes: ArrayVec<u8, 1028>,
+    bytes: ArrayVec<u8, KEPT>,
     start: u64,
     taken: u64,
 }

@@ -11,11 +11,14 @@ use arrayvec::ArrayVec;
 use vp_esc::laws::the_profile_is_within;
 use vp_esc::{EscReader, Reading};
 
+/// How many bytes of a unit are kept: one more than one that asks can have.
+const KEPT: usize = 22;
+
 /// The unit that is begun, as far as its bytes are kept, or one that is whole, asks and is still to be told.
 #[derive(Drop)]
 pub struct Units {
     reader: EscReader,
-    bytes: ArrayVec<u8, 22>,
+    bytes: ArrayVec<u8, KEPT>,
     start: u64,
     ask: Option<Ask>,
 }
