@@ -1,6 +1,6 @@
 //! What is asked, and where.
 ghost use Rattle.std.specs.Prelude.{◌≡◌, ◌≤◌, ◌∷◌, drop, length};
-ghost use Rattle.vp_requests.specs.Request.{request_of};
+ghost use Rattle.vp_requests.specs.Request.{request_of, name_of};
 
 use arrayvec::ArrayVec;
 
@@ -116,4 +116,51 @@ impl Request {
 pub struct Found {
     pub taken: usize,
     pub request: Option<Request>,
+}
+
+#[tactic(auto, unfolding(crate::specs::Request::name_of))]
+impl Ask {
+    /// The command's name, as its manual writes it: at most seven characters.
+    pub fn name(self) -> &'static str
+        ensures value { result.now ≡ name_of self }
+        ensures few { length result.now ≤ 7 }
+    {
+        match self {
+            Ask::Status => "DLE EOT",
+            Ask::Recover => "DLE ENQ",
+            Ask::RealTime => "DLE DC4",
+            Ask::Sensor => "GS r",
+            Ask::PrinterId => "GS I",
+            Ask::AutomaticStatus => "GS a",
+            Ask::Drawer => "ESC u",
+            Ask::Paper => "ESC v",
+            Ask::Maintenance => "GS g",
+            Ask::Ink => "GS j",
+            Ask::Response => "GS ( H",
+            Ask::Setup => "GS ( E",
+            Ask::Graphics => "GS ( L",
+            Ask::SymbolSize => "GS ( k",
+            Ask::HostStatus => "~HS",
+            Ask::HostIdentification => "~HI",
+            Ask::HostMemory => "~HM",
+            Ask::HostAlerts => "~HU",
+            Ask::HeadDiagnostic => "~HD",
+            Ask::BatteryStatus => "~HB",
+            Ask::HostQuery => "~HQ",
+            Ask::Configuration => "^HH",
+            Ask::HostVerification => "^HV",
+            Ask::HostDirectory => "^HW",
+            Ask::DisplayDescription => "^HZ",
+            Ask::HostFormat => "^HF",
+            Ask::HostGraphic => "^HG",
+            Ask::UploadGraphics => "^HY",
+            Ask::LinkedFonts => "^HT",
+            Ask::Pause => "~PP",
+            Ask::PrintStart => "~PS",
+            Ask::CancelAll => "~JA",
+            Ask::PowerOnReset => "~JR",
+            Ask::CancelFormat => "~JX",
+            Ask::SetDarkness => "~SD",
+        }
+    }
 }
