@@ -147,6 +147,36 @@ uint32_t vp_memory(vp *printer, size_t *bytes);
 /* Frees the printer, where there is one, and leaves {0}: a second call does nothing. */
 void vp_free(vp *printer);
 
+/* What finds the requests of a stream: what it asks of its printer, its state, its name, its settings. It prints
+ * nothing and takes no fault: beside a printer it is fed the same bytes. Its handle is kept as a vp is. */
+typedef struct vp_requests {
+    void *requests;
+} vp_requests;
+
+typedef struct vp_request {
+    char name[8];            /* as its manual writes it: "DLE EOT", "GS ( H", "~HQ"; "" where there is none */
+    uint64_t start;          /* how many bytes of the stream come before its first */
+    uint64_t end;            /* and before the one behind its last */
+    uint32_t count;          /* bytes of arguments, behind the name; a receipt's are at most 16 */
+    uint8_t arguments[1024]; /* and zeros behind them */
+} vp_request;
+
+/* Makes one of a vp_language; the paper says nothing here, nor does the profile: all commands are read. It takes
+ * one block of at most VP_BLOCK, and nothing later. Where the answer isn't VP_OK, *made is {0}. */
+uint32_t vp_new_requests(uint32_t language, vp_requests *made);
+
+/* Takes input up to the byte that makes the next request known, and tells that; call it again with the rest.
+ * Where there is none all input is taken. VP_OK, or VP_NO_PRINTER, with nothing taken. */
+uint32_t vp_next_request(vp_requests *requests, const uint8_t *input, size_t length, size_t *taken,
+                         vp_request *request);
+
+/* Tells what the stream asks if it ends here: a label's last request, whose arguments could go on; else none.
+ * More bytes may follow. VP_OK, or VP_NO_PRINTER, with none. */
+uint32_t vp_last_request(vp_requests *requests, vp_request *request);
+
+/* Frees it, where there is one, and leaves {0}. */
+void vp_free_requests(vp_requests *requests);
+
 /* Room for any text of the calls below. */
 #define VP_LINE 96
 
