@@ -175,6 +175,41 @@ static void expect(int holds, const char *what) {
     if (!holds) stop(7, what);
 }
 
+/* Whether a request has this name, place and first argument. */
+static int is(const vp_request *it, const char *name, uint64_t start, uint64_t end, uint32_t count, uint8_t first) {
+    return strcmp(it->name, name) == 0 && it->start == start && it->end == end && it->count == count && it->arguments[0] == first;
+}
+
+static void requests(void) {
+    vp_requests none = {0}, asked = {0};
+    vp_request request = {"GS r", 9, 9, 9, {9}};
+    size_t took = 9;
+    expect(vp_next_request(&none, NULL, 0, &took, &request) == VP_NO_PRINTER && took == 0, "requests of none");
+    expect(is(&request, "", 0, 0, 0, 0), "no request of none");
+    expect(vp_last_request(&none, &request) == VP_NO_PRINTER && is(&request, "", 0, 0, 0, 0), "no last request of none");
+    vp_free_requests(&none);
+    expect(vp_new_requests(5, &asked) == VP_NO_LANGUAGE && asked.requests == NULL, "requests of no language");
+    const uint8_t receipt[] = "A\20\4\1\35v0\0\1\0\4\0\20\4\2\0\35r\1", label[] = "~hqES~SD1";
+    expect(vp_new_requests(VP_RECEIPT, &asked) == VP_OK, "requests of a receipt");
+    expect(vp_next_request(&asked, receipt, 19, &took, &request) == VP_OK && took == 4, "up to the first request");
+    expect(is(&request, "DLE EOT", 1, 4, 1, 1), "the first request");
+    expect(vp_next_request(&asked, receipt + 4, 10, &took, &request) == VP_OK && took == 10, "within a picture");
+    expect(is(&request, "", 0, 0, 0, 0), "none yet");
+    expect(vp_next_request(&asked, receipt + 14, 5, &took, &request) == VP_OK && took == 1, "and within its data");
+    expect(is(&request, "DLE EOT", 12, 15, 1, 2), "the one within a picture's data");
+    expect(vp_next_request(&asked, receipt + 15, 4, &took, &request) == VP_OK && took == 4, "behind the picture");
+    expect(is(&request, "GS r", 16, 19, 1, 1), "the one behind it");
+    expect(vp_last_request(&asked, &request) == VP_OK && is(&request, "", 0, 0, 0, 0), "a receipt's end asks nothing");
+    vp_free_requests(&asked);
+    vp_free_requests(&asked);
+    expect(asked.requests == NULL && vp_new_requests(VP_LABEL, &asked) == VP_OK, "requests of a label");
+    expect(vp_next_request(&asked, label, 9, &took, &request) == VP_OK && took == 5, "a label's");
+    expect(is(&request, "~HQ", 0, 5, 2, 'E'), "its request");
+    expect(vp_next_request(&asked, label + 5, 4, &took, &request) == VP_OK && took == 4 && request.name[0] == 0, "an open one");
+    expect(vp_last_request(&asked, &request) == VP_OK && is(&request, "~SD", 5, 9, 1, '1'), "what its end asks");
+    vp_free_requests(&asked);
+}
+
 static int bad(void) {
     vp none = {0}, printer = {0};
     vp_progress done;
@@ -218,6 +253,7 @@ static int bad(void) {
     vp_free(&printer);
     vp_free(&printer);
     expect(printer.printer == NULL && vp_pending(&printer) == VP_NO_PRINTER, "a printer that was freed");
+    requests();
     return 0;
 }
 
