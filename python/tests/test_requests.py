@@ -29,8 +29,8 @@ RECEIPTS: List[Tuple[bytes, List[Tuple[int, str, bytes]]]] = [
         (5, 'DLE DC4', b'\x01\0\x01'), (8, 'GS r', b'1'), (18, 'DLE DC4', b'\x08\x01\x03\x14\x01\x06\x02\x08'),
         (23, 'DLE DC4', b'\x02\x01\x08'), (27, 'DLE DC4', b'\x07\x01')]),
     (b'\x10\x10\x04\x07\x01\x10\x04\x12\x02', [(5, 'DLE EOT', b'\x07\x01'), (9, 'DLE EOT', b'\x12\x02')]),
-    # a buzzer of another make, whose bytes are passed by
-    (b'\x1bB\x1dr\x1dr\x02', [(7, 'GS r', b'\x02')]),
+    # no command of the manual, so that its two bytes are passed over
+    (b'\x1bB\x1dr\x1dr\x02', [(5, 'GS r', b'\x1d')]),
 ]
 LABELS = [
     (b'^XA^FO1,1^FDab~HScd^FS~HI^HH^HV1,9,a,b^XZ~hs', [

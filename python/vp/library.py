@@ -41,6 +41,15 @@ class CHeld(ctypes.Structure):
                                                ('fields', 'line_rows', 'page_rows', 'band_rows'))]
 
 
+class CRequests(ctypes.Structure):
+    _fields_ = [('requests', ctypes.c_void_p)]
+
+
+class CRequest(ctypes.Structure):
+    _fields_ = [('name', ctypes.c_char * 8), ('start', ctypes.c_uint64), ('end', ctypes.c_uint64),
+                ('count', ctypes.c_uint32), ('arguments', ctypes.c_ubyte * 1024)]
+
+
 class Held(NamedTuple):
     """What a printer holds of what isn't printed yet."""
 
@@ -66,6 +75,7 @@ def place() -> str:
 def library() -> ctypes.CDLL:
     pointer, size, u32 = ctypes.c_void_p, ctypes.c_size_t, ctypes.c_uint32
     printer = ctypes.POINTER(CPrinter)
+    requests, request = ctypes.POINTER(CRequests), ctypes.POINTER(CRequest)
     calls = {
         'vp_new': (u32, [u32, ctypes.c_char_p, size, ctypes.c_char_p, size, printer]),
         'vp_new_listing': (u32, [u32, u32, printer]),
@@ -74,6 +84,10 @@ def library() -> ctypes.CDLL:
         'vp_held': (u32, [printer, ctypes.POINTER(CHeld)]),
         'vp_memory': (u32, [printer, ctypes.POINTER(size)]),
         'vp_free': (None, [printer]),
+        'vp_new_requests': (u32, [u32, requests]),
+        'vp_next_request': (u32, [requests, pointer, size, ctypes.POINTER(size), request]),
+        'vp_last_request': (u32, [requests, request]),
+        'vp_free_requests': (None, [requests]),
         'vp_fault_line': (size, [ctypes.POINTER(CFault), ctypes.c_uint64, ctypes.c_char_p, size]),
         'vp_answer_text': (size, [u32, ctypes.c_char_p, size]),
         'vp_version': (size, [ctypes.c_char_p, size]),
