@@ -175,7 +175,47 @@ static void expect(int holds, const char *what) {
     if (!holds) stop(7, what);
 }
 
+/* What a stream asks, in pieces of so many bytes, as "NAME START END ARGUMENTS;". */
+static void asked(uint32_t language, const char *stream, size_t length, size_t size, const char *wanted) {
+    vp_requests requests = {0};
+    vp_request request;
+    char found[256] = "";
+    long before = taken - given;
+    if (vp_new_requests(language, &requests) != VP_OK) stop(7, "vp_new_requests");
+    for (size_t at = 0, took = 0; at < length; at += took) {
+        size_t rest = length - at < size ? length - at : size;
+        if (vp_next_request(&requests, (const uint8_t *)stream + at, rest, &took, &request) != VP_OK || took > rest)
+            stop(7, "vp_next_request");
+        if (request.name[0] == 0 && took != rest) stop(7, "input is left where nothing is asked");
+        if (request.name[0] != 0)
+            sprintf(found + strlen(found), "%s %d %d %.*s;", request.name, (int)request.start, (int)request.end,
+                    (int)request.count, (const char *)request.arguments);
+    }
+    if (vp_last_request(&requests, &request) != VP_OK) stop(7, "vp_last_request");
+    if (request.name[0] != 0) sprintf(found + strlen(found), "%s at the end;", request.name);
+    vp_free_requests(&requests);
+    vp_free_requests(&requests);
+    if (COUNTS && taken - given != before) stop(9, "memory of requests isn't given back");
+    if (strcmp(found, wanted) != 0) stop(7, found);
+}
+
+static void requests_are_told(void) {
+    vp_requests none = {0};
+    vp_request request = {"x", 9, 9, 9, {9}};
+    size_t took = 9;
+    expect(vp_next_request(&none, NULL, 0, &took, &request) == VP_NO_PRINTER && took == 0 && request.name[0] == 0,
+           "a request of none");
+    expect(vp_last_request(&none, &request) == VP_NO_PRINTER && request.end == 0, "the last request of none");
+    vp_free_requests(&none);
+    expect(vp_new_requests(5, &none) == VP_NO_LANGUAGE && none.requests == NULL, "requests of no language");
+    for (size_t size = 1; size < 9; size++) {
+        asked(VP_RECEIPT, "a\x1d(H\4\0" "00ab\x1brx\x1dI" "C", 16, size, "GS ( H 1 10 00ab;GS I 13 16 C;");
+        asked(VP_LABEL, "^XA~HS^HV1,9^XZ~HQ", 18, size, "~HS 3 6 ;^HV 6 12 1,9;~HQ at the end;");
+    }
+}
+
 static int bad(void) {
+    requests_are_told();
     vp none = {0}, printer = {0};
     vp_progress done;
     vp_fault fault = {9, 9, 9, 9};
