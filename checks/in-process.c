@@ -175,42 +175,49 @@ static void expect(int holds, const char *what) {
     if (!holds) stop(7, what);
 }
 
-/* Whether a request has this name, place and first argument. */
-static int is(const vp_request *it, const char *name, uint64_t start, uint64_t end, uint32_t count, uint8_t first) {
-    return strcmp(it->name, name) == 0 && it->start == start && it->end == end && it->count == count && it->arguments[0] == first;
+/* What a stream asks, in pieces of so many bytes, as "NAME START END ARGUMENTS;". */
+static void asked(uint32_t language, const char *stream, size_t length, size_t size, const char *wanted) {
+    vp_requests requests = {0};
+    vp_request request;
+    char found[256] = "";
+    long before = taken - given;
+    if (vp_new_requests(language, &requests) != VP_OK) stop(7, "vp_new_requests");
+    for (size_t at = 0, took = 0; at < length; at += took) {
+        size_t rest = length - at < size ? length - at : size;
+        if (vp_next_request(&requests, (const uint8_t *)stream + at, rest, &took, &request) != VP_OK || took > rest)
+            stop(7, "vp_next_request");
+        if (request.name[0] == 0 && took != rest) stop(7, "input is left where nothing is asked");
+        if (request.name[0] != 0)
+            sprintf(found + strlen(found), "%s %d %d %.*s;", request.name, (int)request.start, (int)request.end,
+                    (int)request.count, (const char *)request.arguments);
+    }
+    if (vp_last_request(&requests, &request) != VP_OK) stop(7, "vp_last_request");
+    if (request.name[0] != 0) sprintf(found + strlen(found), "%s at the end;", request.name);
+    vp_free_requests(&requests);
+    vp_free_requests(&requests);
+    if (COUNTS && taken - given != before) stop(9, "memory of requests isn't given back");
+    if (strcmp(found, wanted) != 0) stop(7, found);
 }
 
-static void requests(void) {
-    vp_requests none = {0}, asked = {0};
-    vp_request request = {"GS r", 9, 9, 9, {9}};
+static void requests_are_told(void) {
+    vp_requests none = {0};
+    vp_request request = {"x", 9, 9, 9, {9}};
     size_t took = 9;
-    expect(vp_next_request(&none, NULL, 0, &took, &request) == VP_NO_PRINTER && took == 0, "requests of none");
-    expect(is(&request, "", 0, 0, 0, 0), "no request of none");
-    expect(vp_last_request(&none, &request) == VP_NO_PRINTER && is(&request, "", 0, 0, 0, 0), "no last request of none");
+    expect(vp_next_request(&none, NULL, 0, &took, &request) == VP_NO_PRINTER && took == 0 && request.name[0] == 0,
+           "a request of none");
+    expect(vp_last_request(&none, &request) == VP_NO_PRINTER && request.end == 0, "the last request of none");
     vp_free_requests(&none);
-    expect(vp_new_requests(5, &asked) == VP_NO_LANGUAGE && asked.requests == NULL, "requests of no language");
-    const uint8_t receipt[] = "A\20\4\1\35v0\0\1\0\4\0\20\4\2\0\35r\1", label[] = "~hqES~SD1";
-    expect(vp_new_requests(VP_RECEIPT, &asked) == VP_OK, "requests of a receipt");
-    expect(vp_next_request(&asked, receipt, 19, &took, &request) == VP_OK && took == 4, "up to the first request");
-    expect(is(&request, "DLE EOT", 1, 4, 1, 1), "the first request");
-    expect(vp_next_request(&asked, receipt + 4, 10, &took, &request) == VP_OK && took == 10, "within a picture");
-    expect(is(&request, "", 0, 0, 0, 0), "none yet");
-    expect(vp_next_request(&asked, receipt + 14, 5, &took, &request) == VP_OK && took == 1, "and within its data");
-    expect(is(&request, "DLE EOT", 12, 15, 1, 2), "the one within a picture's data");
-    expect(vp_next_request(&asked, receipt + 15, 4, &took, &request) == VP_OK && took == 4, "behind the picture");
-    expect(is(&request, "GS r", 16, 19, 1, 1), "the one behind it");
-    expect(vp_last_request(&asked, &request) == VP_OK && is(&request, "", 0, 0, 0, 0), "a receipt's end asks nothing");
-    vp_free_requests(&asked);
-    vp_free_requests(&asked);
-    expect(asked.requests == NULL && vp_new_requests(VP_LABEL, &asked) == VP_OK, "requests of a label");
-    expect(vp_next_request(&asked, label, 9, &took, &request) == VP_OK && took == 5, "a label's");
-    expect(is(&request, "~HQ", 0, 5, 2, 'E'), "its request");
-    expect(vp_next_request(&asked, label + 5, 4, &took, &request) == VP_OK && took == 4 && request.name[0] == 0, "an open one");
-    expect(vp_last_request(&asked, &request) == VP_OK && is(&request, "~SD", 5, 9, 1, '1'), "what its end asks");
-    vp_free_requests(&asked);
+    expect(vp_new_requests(5, &none) == VP_NO_LANGUAGE && none.requests == NULL, "requests of no language");
+    for (size_t size = 1; size < 9; size++) {
+        asked(VP_RECEIPT, "a\x1d(H\4\0" "00ab\x1brx\x1dI" "C", 16, size, "GS ( H 1 10 00ab;GS I 13 16 C;");
+        asked(VP_RECEIPT, "A\20\4\1\35v0\0\1\0\4\0\20\4\2\0\35r\1", 19, size,
+              "DLE EOT 1 4 \1;DLE EOT 12 15 \2;GS r 16 19 \1;");
+        asked(VP_LABEL, "^XA~HS^HV1,9^XZ~HQ", 18, size, "~HS 3 6 ;^HV 6 12 1,9;~HQ at the end;");
+    }
 }
 
 static int bad(void) {
+    requests_are_told();
     vp none = {0}, printer = {0};
     vp_progress done;
     vp_fault fault = {9, 9, 9, 9};
@@ -253,7 +260,6 @@ static int bad(void) {
     vp_free(&printer);
     vp_free(&printer);
     expect(printer.printer == NULL && vp_pending(&printer) == VP_NO_PRINTER, "a printer that was freed");
-    requests();
     return 0;
 }
 
