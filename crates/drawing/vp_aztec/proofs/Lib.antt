@@ -1,1 +1,7 @@
-
+mod FirstFrom
+mod Codes
+mod RunWords
+mod StepWords
+mod StuffWords
+mod SizeWords
+mod InkLines

@@ -65,10 +65,10 @@ mark_value byte =
 -- two characters that are one of punctuation: a new line, and a full stop, a comma or a colon with a blank
 unfoldable pub pair_value : ℕ → ℕ → Option ℕ
 pair_value a b =
-    if a == 13 && b == 10 then Some 2
-    else if a == 46 && b == 32 then Some 3
-    else if a == 44 && b == 32 then Some 4
-    else if a == 58 && b == 32 then Some 5
+    if b == 10 && a == 13 then Some 2
+    else if b == 32 && a == 46 then Some 3
+    else if b == 32 && a == 44 then Some 4
+    else if b == 32 && a == 58 then Some 5
     else None
 
 -- the mode of a character that punctuation hasn't

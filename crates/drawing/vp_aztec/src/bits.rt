@@ -1,6 +1,7 @@
 //! Bits as they are written.
 
-ghost use Rattle.std.specs.Prelude.{◌≡◌, ◌≤◌, [], length, None, Some, IfSome, IfNone};
+ghost use Rattle.std.specs.Prelude.{◌≡◌, ◌==◌, ◌<◌, ◌≤◌, [], length, None, Some, IfSome, IfNone};
+ghost use Rattle.std.specs.Int.{bit_at};
 ghost use Rattle.vp_aztec.specs.Written.{pushed};
 
 use arrayvec::ArrayVec;
@@ -26,6 +27,14 @@ impl Model for Bits {
     ghost invariant = { λ s. length s.items.items ≤ 19968 };
 }
 
+/// Bit `k` of a number.
+fn bit(value: u16, k: usize) -> bool
+    requires { k < 16 }
+    ensures { result ≡ (bit_at value k == 1) }
+{
+    value >> k & 1 == 1
+}
+
 impl Bits {
     /// None yet.
     pub fn new() -> Self
@@ -48,7 +57,7 @@ impl Bits {
             return;
         }
         for k in 0..n {
-            self.items.push(value >> (n - 1 - k) & 1 == 1);
+            self.items.push(bit(value, n - 1 - k));
         }
     }
 

@@ -1,6 +1,6 @@
 //! Check codewords, and the mode message.
 
-ghost use Rattle.std.specs.Prelude.{◌≡◌, ℕ, ◌+◌, ◌<◌, ◌≤◌, ◌*◌, ◌^◌, length, slice_index};
+ghost use Rattle.std.specs.Prelude.{◌≡◌, ℕ, ◌+◌, ◌<◌, ◌≤◌, ◌*◌, ◌^◌, length, slice_index, true};
 ghost use Rattle.arrayvec.specs.ArrayVec.{array_vec_len};
 ghost use Rattle.vp_reed_solomon.specs.declared.field.Field.TheVariants.{Gf16};
 ghost use Rattle.vp_reed_solomon.specs.Fields.{AreElements};
@@ -32,13 +32,13 @@ fn check_words(field: Field, words: &[u16], checks: &mut [u16])
 
 /// The codewords of a size: data and check.
 #[tactic(auto, unfolding(crate::specs::Codewords::codewords))]
-pub fn codewords(size: Size, data: Words) -> Words
+pub fn codewords(size: Size, stuffed: Words) -> Words
     requires sound { IsSound size }
-    requires room { array_vec_len data < total size }
-    requires elements { AreElements (field_of size.layers) data.items }
-    ensures { result.items ≡ codewords size data.items }
+    requires room { array_vec_len stuffed < total size }
+    requires elements { AreElements (field_of size.layers) stuffed.items }
+    ensures { result.items ≡ codewords size stuffed.items }
 {
-    let mut words = data;
+    let mut words = stuffed;
     let mut checks = [0; 1664];
     let n = size.total() - words.len();
     check_words(size.field(), words.as_slice(), &mut checks[..n]);

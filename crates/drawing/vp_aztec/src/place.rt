@@ -90,7 +90,8 @@ pub fn ring_place(c: usize, r: usize, x: usize, y: usize) -> usize
     requires r { r ≤ 10 }
     requires x { x ≤ 200 }
     requires y { y ≤ 200 }
-    ensures { result ≡ ring_place c r x y }
+    ensures place { result ≡ ring_place c r x y }
+    ensures most { result ≤ 400 }
 {
     if y + r == c && x < c + r {
         (x + r).saturating_sub(c)
@@ -133,5 +134,9 @@ pub fn bit_place(base: usize, u: usize, v: usize) -> usize
 {
     let layer = u.min(v).min((base - 1 - u).min(base - 1 - v)) / 2;
     8 * layer * (base - 2 * layer)
-        + in_layer(base - 4 * layer - 2, u - 2 * layer, v - 2 * layer)
+        + in_layer(
+            (base - 4 * layer).saturating_sub(2),
+            u - 2 * layer,
+            v - 2 * layer,
+        )
 }

@@ -1,6 +1,6 @@
 //! The data codewords of bits.
 
-ghost use Rattle.std.specs.Prelude.{◌≡◌, ℕ, ◌+◌, ◌<◌, ◌≤◌, ◌^◌, length, slice_index};
+ghost use Rattle.std.specs.Prelude.{◌≡◌, ℕ, ◌+◌, ◌<◌, ◌≤◌, ◌^◌, length, slice_index, slice_index_or, true, if◌then◌else◌};
 ghost use Rattle.arrayvec.specs.ArrayVec.{array_vec_len};
 ghost use Rattle.vp_aztec.specs.Stuffing.{value, word, taken, words_from, stuffed};
 
@@ -8,6 +8,14 @@ use arrayvec::ArrayVec;
 
 /// As many codewords as a symbol holds.
 pub type Words = ArrayVec<u16, 1664>;
+
+/// Bit number `k`, or a one behind the last.
+fn bit(bits: &[bool], k: usize) -> u16
+    ensures bit { result ≡ (if slice_index_or bits.now k true then 1 else 0) }
+    ensures small { result ≤ 1 }
+{
+    if k >= bits.len() || bits[k] { 1 } else { 0 }
+}
 
 /// The number that `n` bits from place `i` on make; ones stand behind the last bit.
 fn value(bits: &[bool], i: usize, n: usize) -> u16
@@ -18,7 +26,7 @@ fn value(bits: &[bool], i: usize, n: usize) -> u16
 {
     let mut value = 0;
     for k in 0..n {
-        value = 2 * value + u16::from(i + k >= bits.len() || bits[i + k]);
+        value = 2 * value + bit(bits, i + k);
     }
     value
 }

@@ -72,7 +72,7 @@ fn data_bit(size: Size, words: &[u16], k: usize) -> bool
 
 /// Bit `p` of side `k` of the mode message.
 fn said_place(size: Size, k: usize, p: usize) -> usize
-    requires k { k ≤ 100 }
+    requires k { k ≤ 400 }
     requires p { 2 ≤ p }
     requires p_most { p ≤ 100 }
     ensures { result ≡ said_place size k p }
@@ -87,7 +87,7 @@ fn said_place(size: Size, k: usize, p: usize) -> usize
 /// Module `p` of side `k` of the ring around the finder.
 #[tactic(auto, unfolding(crate::specs::Modules::ring_module))]
 fn ring_module(size: Size, mode: &[u16], k: usize, p: usize) -> bool
-    requires k { k ≤ 100 }
+    requires k { k ≤ 400 }
     requires p { p ≤ 100 }
     ensures { result ≡ ring_module size mode.now k p }
 {
