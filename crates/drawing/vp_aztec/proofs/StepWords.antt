@@ -2,7 +2,8 @@
 use Rattle.std.proofs.Common.{◌≡◌, ℕ, zero, suc, ◌+◌, ◌-◌, ◌<◌, ◌≤◌, List, [], ◌∷◌, ◌++◌, length, take, drop, refl, sym, ap, ◌∙◌, arith, get_or, Some, None}
 use Rattle.std.proofs.lemmas.List.{take_rest}
 use Rattle.vp_aztec.specs.declared.mode.Mode.{Mode}
-use Rattle.vp_aztec.specs.Messages.{step, steps}
+use Rattle.vp_aztec.specs.declared.mode.Mode.TheVariants.{Upper, Lower, Mixed, Punct, Digit}
+use Rattle.vp_aztec.specs.Messages.{pair_in, step, steps}
 use Rattle.vp_aztec.specs.Characters.{pair_value}
 
 steps_more : (n k : ℕ) (mode : Mode) (xs : List ℕ) → k < n → 0 < length xs
@@ -31,15 +32,19 @@ steps_end n k mode xs h =
     let e : n - k ≡ 0 = omega arith in
     rw e refl
 
+none_some : (v : ℕ) → None ≡ Some v → ⊥
+none_some v e = grind arith
+
 -- a pair is of two bytes
 pub pair_long : (xs : List ℕ) (v : ℕ) → pair_value (get_or xs 0 0) (get_or xs 1 0) ≡ Some v → 2 ≤ length xs
 unfolding pair_value
 pair_long [] v e = absurd (none_some v e)
-  where
-    none_some : (v : ℕ) → None ≡ Some v → ⊥
-    none_some v e = grind arith
 pair_long (x ∷ []) v e = absurd (none_some v e)
-  where
-    none_some : (v : ℕ) → None ≡ Some v → ⊥
-    none_some v e = grind arith
 pair_long (x ∷ y ∷ xs) v e = omega arith
+
+pub pair_in_long : (mode : Mode) (xs : List ℕ) (v : ℕ) → pair_in mode (get_or xs 0 0) (get_or xs 1 0) ≡ Some v → 2 ≤ length xs
+pair_in_long Upper xs v e = absurd (none_some v e)
+pair_in_long Lower xs v e = absurd (none_some v e)
+pair_in_long Mixed xs v e = absurd (none_some v e)
+pair_in_long Punct xs v e = pair_long xs v e
+pair_in_long Digit xs v e = absurd (none_some v e)

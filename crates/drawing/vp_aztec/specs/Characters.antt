@@ -1,7 +1,7 @@
 -- The characters of the modes and their values (ISO/IEC 24778, character encodation).
-use Rattle.std.specs.Prelude.{ℕ, ◌+◌, ◌-◌, ◌*◌, ◌==◌, ◌&&◌, ◌||◌, nat_le, Bool, true, false, Option, Some, None, if◌then◌else◌}
+use Rattle.std.specs.Prelude.{ℕ, ◌+◌, ◌-◌, ◌*◌, ◌==◌, ◌&&◌, ◌||◌, nat_le, not, Bool, true, false, Option, Some, None, is_none, if◌then◌else◌}
 use Rattle.vp_aztec.specs.declared.mode.Mode.{Mode}
-use Rattle.vp_aztec.specs.declared.mode.Mode.TheVariants.{Upper, Lower, Mixed, Digit}
+use Rattle.vp_aztec.specs.declared.mode.Mode.TheVariants.{Upper, Lower, Mixed, Punct, Digit}
 
 abbrev pub capital : ℕ → Bool
 capital byte = nat_le 65 byte && nat_le byte 90
@@ -21,6 +21,7 @@ abbrev pub width : Mode → ℕ
 width Upper = 5
 width Lower = 5
 width Mixed = 5
+width Punct = 5
 width Digit = 4
 
 -- the value of a character in mixed
@@ -43,13 +44,6 @@ digit_value byte =
     else if byte == 46 then Some 13
     else None
 
--- and in one that has it
-unfoldable pub value_in : Mode → ℕ → Option ℕ
-value_in Upper byte = if byte == 32 then Some 1 else if capital byte then Some (byte - 63) else None
-value_in Lower byte = if byte == 32 then Some 1 else if small byte then Some (byte - 95) else None
-value_in Mixed byte = if byte == 32 then Some 1 else mixed_value byte
-value_in Digit byte = if byte == 32 then Some 1 else digit_value byte
-
 -- in punctuation
 unfoldable pub mark_value : ℕ → Option ℕ
 mark_value byte =
@@ -62,6 +56,17 @@ mark_value byte =
     else if byte == 125 then Some 30
     else None
 
+abbrev pub is_mark : ℕ → Bool
+is_mark byte = not (is_none (mark_value byte))
+
+-- in a mode that has it
+unfoldable pub value_in : Mode → ℕ → Option ℕ
+value_in Upper byte = if byte == 32 then Some 1 else if capital byte then Some (byte - 63) else None
+value_in Lower byte = if byte == 32 then Some 1 else if small byte then Some (byte - 95) else None
+value_in Mixed byte = if byte == 32 then Some 1 else mixed_value byte
+value_in Punct byte = mark_value byte
+value_in Digit byte = if byte == 32 then Some 1 else digit_value byte
+
 -- two characters that are one of punctuation: a new line, and a full stop, a comma or a colon with a blank
 unfoldable pub pair_value : ℕ → ℕ → Option ℕ
 pair_value a b =
@@ -73,37 +78,41 @@ pair_value a b =
 
 -- the mode of a character that punctuation hasn't
 abbrev pub home : ℕ → Mode
-home byte = if capital byte then Upper else if small byte then Lower else if digit byte then Digit else Mixed
+home byte =
+    if capital byte || byte == 32 then Upper else if small byte then Lower else if digit byte then Digit else Mixed
 
--- the latch from a mode to another, by its bits and as a number: one value or two, where upper stands between
+-- the latch from a mode to another, by its bits and as a number: one value, or more where others are between
 abbrev pub latch : Mode → Mode → ℕ × ℕ
-latch Upper Upper = (0, 0)
 latch Upper Lower = (5, 28)
 latch Upper Mixed = (5, 29)
+latch Upper Punct = (10, 29 * 32 + 30)
 latch Upper Digit = (5, 30)
 latch Lower Upper = (9, 30 * 16 + 14)
-latch Lower Lower = (0, 0)
 latch Lower Mixed = (5, 29)
+latch Lower Punct = (10, 29 * 32 + 30)
 latch Lower Digit = (5, 30)
 latch Mixed Upper = (5, 29)
 latch Mixed Lower = (5, 28)
-latch Mixed Mixed = (0, 0)
+latch Mixed Punct = (5, 30)
 latch Mixed Digit = (10, 29 * 32 + 30)
+latch Punct Upper = (5, 31)
+latch Punct Lower = (10, 31 * 32 + 28)
+latch Punct Mixed = (10, 31 * 32 + 29)
+latch Punct Digit = (10, 31 * 32 + 30)
 latch Digit Upper = (4, 14)
 latch Digit Lower = (9, 14 * 32 + 28)
 latch Digit Mixed = (9, 14 * 32 + 29)
-latch Digit Digit = (0, 0)
+latch Digit Punct = (14, (14 * 32 + 29) * 32 + 30)
+latch mode same = (0, 0)
 
--- lower and digit can shift to upper for one character
+-- lower and digit have a shift to upper for one character
 abbrev pub can_shift : Mode → Bool
 can_shift Upper = false
 can_shift Lower = true
 can_shift Mixed = false
+can_shift Punct = false
 can_shift Digit = true
 
--- and do so by these
 abbrev pub shift : Mode → ℕ × ℕ
-shift Upper = (5, 28)
-shift Lower = (5, 28)
-shift Mixed = (5, 28)
 shift Digit = (4, 15)
+shift mode = (5, 28)

@@ -3,12 +3,12 @@ use Rattle.std.specs.Prelude.{ℕ, zero, suc, ◌+◌, ◌-◌, nat_le, List, []
 use Rattle.std.specs.List.{list_all}
 use Rattle.vp_aztec.specs.Characters.{is_text}
 
--- how long a run is: to where four characters follow, or where all that are left are characters, and at most
+-- how long a run is: to where five characters follow, or where all that are left are characters, and at most
 -- n bytes
 unfoldable pub run : ℕ → List ℕ → ℕ
 run zero src = 0
 run (suc n) [] = 0
-run (suc n) (byte ∷ rest) = if list_all is_text (take 4 (byte ∷ rest)) then 0 else 1 + run n rest
+run (suc n) (byte ∷ rest) = if list_all is_text (take 5 (byte ∷ rest)) then 0 else 1 + run n rest
 
 -- the most bytes whose number can be said
 abbrev pub longest : ℕ

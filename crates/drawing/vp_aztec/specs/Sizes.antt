@@ -37,9 +37,9 @@ pub record IsSound (s : Size) : Type 0 where
 abbrev pub percent : Asked → ℕ
 percent asked = unwrap_or asked.percent 23
 
--- that part of all codewords and three more are the fewest check codewords
+-- that part of all codewords, rounded down, and three more are the fewest check codewords
 abbrev pub least_check : Asked → Size → ℕ
-least_check asked s = (total s * percent asked + 99) / 100 + 3
+least_check asked s = total s * percent asked / 100 + 3
 
 -- a size is asked for
 abbrev pub is_asked : Layers → Size → Bool

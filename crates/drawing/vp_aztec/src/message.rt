@@ -2,11 +2,11 @@
 
 ghost use Rattle.std.specs.Prelude.{◌≡◌, ◌<◌, ◌≤◌, [], length, slice_index, None, Some, true, false};
 ghost use Rattle.vp_aztec.specs.Characters.{is_text, value_in, pair_value, mark_value};
-ghost use Rattle.vp_aztec.specs.Messages.{is_shifted, elsewhere, character, from_mode, binary, step, steps, message};
+ghost use Rattle.vp_aztec.specs.Messages.{is_shifted, begins_marks, elsewhere, mark_of, pair_in, character, from_mode, binary, step, steps, message};
 ghost use Rattle.vp_aztec.specs.Written.{written};
 
 use crate::bits::Bits;
-use crate::mode::{Mode, is_capital, is_text, mark_value, pair_value};
+use crate::mode::{Mode, is_capital, is_mark, is_text, mark_value, pair_value};
 use crate::run::{count, push_bytes, run};
 
 /// The mode in force behind a step, and of how many bytes it was.
@@ -24,7 +24,9 @@ fn at(src: &[u8], k: usize) -> u8
 fn is_shifted(mode: Mode, src: &[u8]) -> bool
     ensures { result ≡ is_shifted mode src.now }
 {
-    mode.can_shift() && is_capital(at(src, 0)) && !(is_capital(at(src, 1)) && is_capital(at(src, 2)))
+    mode.can_shift()
+        && is_capital(at(src, 0))
+        && !(is_capital(at(src, 1)) && is_capital(at(src, 2)))
 }
 
 /// Writes a character of another mode.
@@ -48,7 +50,52 @@ fn push_elsewhere(bits: &mut Bits, mode: Mode, src: &[u8]) -> Behind
     (home, 1)
 }
 
-/// Writes a character, or two that are one of punctuation.
+/// Whether four characters of punctuation stand together.
+#[tactic(auto, unfolding(crate::specs::Messages::begins_marks))]
+fn begins_marks(src: &[u8]) -> bool
+    ensures { result ≡ begins_marks src.now }
+{
+    is_mark(at(src, 0)) && is_mark(at(src, 1)) && is_mark(at(src, 2)) && is_mark(at(src, 3))
+}
+
+/// Writes a character that the mode in force hasn't, or two that are one of punctuation.
+#[tactic(auto, unfolding(crate::specs::Messages::mark_of))]
+fn push_mark(bits: &mut Bits, mode: Mode, src: &[u8]) -> Behind
+    requires { 0 < length src.now }
+    ensures written { bits.new ≡ written bits.old (mark_of mode src.now).codes }
+    ensures mode { result.0 ≡ (mark_of mode src.now).mode }
+    ensures taken { result.1 ≡ (mark_of mode src.now).taken }
+    ensures within { result.1 ≤ length src.now }
+{
+    if let Some(value) = pair_value(at(src, 0), at(src, 1)) {
+        bits.push((mode.width(), 0));
+        bits.push((5, value));
+        return (mode, 2);
+    }
+    let Some(value) = mark_value(at(src, 0)) else {
+        return push_elsewhere(bits, mode, src);
+    };
+    if begins_marks(src) {
+        bits.push(mode.latch(Mode::Punct));
+        bits.push((5, value));
+        return (Mode::Punct, 1);
+    }
+    bits.push((mode.width(), 0));
+    bits.push((5, value));
+    (mode, 1)
+}
+
+/// The value of two characters that are one in the mode in force.
+fn pair_in(mode: Mode, a: u8, b: u8) -> Option<u16>
+    ensures { result ≡ pair_in mode a b }
+{
+    match mode {
+        Mode::Punct => pair_value(a, b),
+        Mode::Upper | Mode::Lower | Mode::Mixed | Mode::Digit => None,
+    }
+}
+
+/// Writes a character, or two that are one.
 #[tactic(auto, unfolding(crate::specs::Messages::character))]
 fn push_character(bits: &mut Bits, mode: Mode, src: &[u8]) -> Behind
     requires { 0 < length src.now }
@@ -57,21 +104,15 @@ fn push_character(bits: &mut Bits, mode: Mode, src: &[u8]) -> Behind
     ensures taken { result.1 ≡ (character mode src.now).taken }
     ensures within { result.1 ≤ length src.now }
 {
+    if let Some(value) = pair_in(mode, at(src, 0), at(src, 1)) {
+        bits.push((mode.width(), value));
+        return (mode, 2);
+    }
     if let Some(value) = mode.value(at(src, 0)) {
         bits.push((mode.width(), value));
         return (mode, 1);
     }
-    if let Some(value) = pair_value(at(src, 0), at(src, 1)) {
-        bits.push((mode.width(), 0));
-        bits.push((5, value));
-        return (mode, 2);
-    }
-    if let Some(value) = mark_value(at(src, 0)) {
-        bits.push((mode.width(), 0));
-        bits.push((5, value));
-        return (mode, 1);
-    }
-    push_elsewhere(bits, mode, src)
+    push_mark(bits, mode, src)
 }
 
 /// The mode from which bytes can be written.
@@ -82,7 +123,7 @@ fn from_mode(mode: Mode) -> Mode
         Mode::Upper => Mode::Upper,
         Mode::Lower => Mode::Lower,
         Mode::Mixed => Mode::Mixed,
-        Mode::Digit => Mode::Upper,
+        Mode::Punct | Mode::Digit => Mode::Upper,
     }
 }
 

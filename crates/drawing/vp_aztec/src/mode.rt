@@ -1,14 +1,15 @@
 //! The modes and their characters.
 
 ghost use Rattle.std.specs.Prelude.{◌≡◌, ◌<◌, ◌≤◌, IfSome};
-ghost use Rattle.vp_aztec.specs.Characters.{capital, is_text, width, mixed_value, digit_value, value_in, mark_value, pair_value, home, latch, can_shift, shift};
+ghost use Rattle.vp_aztec.specs.Characters.{capital, is_text, width, mixed_value, digit_value, value_in, mark_value, is_mark, pair_value, home, latch, can_shift, shift};
 
-/// A mode that is latched to. Punctuation always stands behind a shift.
+/// A mode.
 #[derive(Clone, Copy)]
 pub enum Mode {
     Upper,
     Lower,
     Mixed,
+    Punct,
     Digit,
 }
 
@@ -76,6 +77,13 @@ pub fn mark_value(byte: u8) -> Option<u16>
     }
 }
 
+/// A character of punctuation.
+pub fn is_mark(byte: u8) -> bool
+    ensures { result ≡ is_mark byte }
+{
+    mark_value(byte).is_some()
+}
+
 /// The value of two characters that are one of punctuation.
 #[tactic(auto, unfolding(crate::specs::Characters::pair_value))]
 pub fn pair_value(a: u8, b: u8) -> Option<u16>
@@ -97,7 +105,7 @@ impl Mode {
         ensures most { result ≤ 5 }
     {
         match self {
-            Mode::Upper | Mode::Lower | Mode::Mixed => 5,
+            Mode::Upper | Mode::Lower | Mode::Mixed | Mode::Punct => 5,
             Mode::Digit => 4,
         }
     }
@@ -107,7 +115,7 @@ impl Mode {
     pub fn value(self, byte: u8) -> Option<u16>
         ensures { result ≡ value_in self byte }
     {
-        if byte == b' ' {
+        if byte == b' ' && !matches!(self, Mode::Punct) {
             return Some(1);
         }
         match self {
@@ -120,6 +128,7 @@ impl Mode {
                 _ => None,
             },
             Mode::Mixed => mixed_value(byte),
+            Mode::Punct => mark_value(byte),
             Mode::Digit => digit_value(byte),
         }
     }
@@ -129,39 +138,40 @@ impl Mode {
         ensures { result ≡ home byte }
     {
         match byte {
-            b'A'..=b'Z' => Mode::Upper,
+            b'A'..=b'Z' | b' ' => Mode::Upper,
             b'a'..=b'z' => Mode::Lower,
             b'0'..=b'9' => Mode::Digit,
             _ => Mode::Mixed,
         }
     }
 
-    /// The latch to another mode: one value or two.
+    /// The latch to another mode: one value, or more where others are between.
     pub fn latch(self, to: Mode) -> Code
         ensures latch { result ≡ latch self to }
-        ensures most { result.0 ≤ 10 }
+        ensures most { result.0 ≤ 14 }
     {
         match (self, to) {
-            (Mode::Upper, Mode::Upper) => (0, 0),
-            (Mode::Upper, Mode::Lower) => (5, 28),
-            (Mode::Upper, Mode::Mixed) => (5, 29),
-            (Mode::Upper, Mode::Digit) => (5, 30),
+            (Mode::Upper | Mode::Mixed, Mode::Lower) => (5, 28),
+            (Mode::Upper | Mode::Lower, Mode::Mixed) => (5, 29),
+            (Mode::Upper | Mode::Lower, Mode::Digit) => (5, 30),
+            (Mode::Upper | Mode::Lower, Mode::Punct) => (10, 29 * 32 + 30),
             (Mode::Lower, Mode::Upper) => (9, 30 * 16 + 14),
-            (Mode::Lower, Mode::Lower) => (0, 0),
-            (Mode::Lower, Mode::Mixed) => (5, 29),
-            (Mode::Lower, Mode::Digit) => (5, 30),
             (Mode::Mixed, Mode::Upper) => (5, 29),
-            (Mode::Mixed, Mode::Lower) => (5, 28),
-            (Mode::Mixed, Mode::Mixed) => (0, 0),
+            (Mode::Mixed, Mode::Punct) => (5, 30),
             (Mode::Mixed, Mode::Digit) => (10, 29 * 32 + 30),
+            (Mode::Punct, Mode::Upper) => (5, 31),
+            (Mode::Punct, Mode::Lower) => (10, 31 * 32 + 28),
+            (Mode::Punct, Mode::Mixed) => (10, 31 * 32 + 29),
+            (Mode::Punct, Mode::Digit) => (10, 31 * 32 + 30),
             (Mode::Digit, Mode::Upper) => (4, 14),
             (Mode::Digit, Mode::Lower) => (9, 14 * 32 + 28),
             (Mode::Digit, Mode::Mixed) => (9, 14 * 32 + 29),
-            (Mode::Digit, Mode::Digit) => (0, 0),
+            (Mode::Digit, Mode::Punct) => (14, (14 * 32 + 29) * 32 + 30),
+            _ => (0, 0),
         }
     }
 
-    /// Whether it can shift to upper for one character.
+    /// Whether it has a shift to upper for one character.
     pub fn can_shift(self) -> bool
         ensures { result ≡ can_shift self }
     {
@@ -174,8 +184,8 @@ impl Mode {
         ensures most { result.0 ≤ 5 }
     {
         match self {
-            Mode::Upper | Mode::Lower | Mode::Mixed => (5, 28),
             Mode::Digit => (4, 15),
+            _ => (5, 28),
         }
     }
 }

@@ -12,14 +12,14 @@ use crate::mode::{Code, is_text};
 /// The most bytes whose number can be said.
 const LONGEST: usize = 2078;
 
-/// Whether the first four bytes, or all where there are fewer, are characters.
+/// Whether the first five bytes, or all where there are fewer, are characters.
 fn begins_text(src: &[u8]) -> bool
-    ensures { result ≡ list_all is_text (take 4 src.now) }
+    ensures { result ≡ list_all is_text (take 5 src.now) }
 {
-    if src.len() < 4 {
+    if src.len() < 5 {
         src.iter().all(|byte| is_text(*byte))
     } else {
-        src[..4].iter().all(|byte| is_text(*byte))
+        src[..5].iter().all(|byte| is_text(*byte))
     }
 }
 

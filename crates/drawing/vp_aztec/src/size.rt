@@ -21,7 +21,7 @@ pub enum Layers {
 /// What is asked for.
 #[derive(Clone, Copy, Debug, PartialEq, Eq)]
 pub struct Asked {
-    /// How many percent of the codewords, 5 to 95, are to be check codewords at least, beside three more: 23
+    /// How many percent of the codewords, 5 to 95, are to be check codewords, beside three more at least: 23
     /// where it isn't said.
     pub percent: Option<usize>,
     pub layers: Layers,
@@ -140,7 +140,7 @@ impl Asked {
         ensures check { result ≡ least_check self size }
         ensures most { result ≤ 2000 }
     {
-        (size.total() * self.percent() + 99) / 100 + 3
+        size.total() * self.percent() / 100 + 3
     }
 
     /// Whether size number `k` is asked for and has room for bits.
