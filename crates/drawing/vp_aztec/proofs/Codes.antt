@@ -8,22 +8,17 @@ use Rattle.vp_aztec.specs.Messages.{message}
 use Rattle.vp_aztec.specs.Encoding.{bits}
 
 -- a bit of n, the highest first
-pub number_more : (n k value : ℕ) → k < n → number (n - k) value ≡ eqb (bit_at value (n - 1 - k)) 1 ∷ number (n - (k + 1)) value
+number_more : (n k value : ℕ) → k < n → number (n - k) value ≡ eqb (bit_at value (n - 1 - k)) 1 ∷ number (n - (k + 1)) value
 number_more n k value h =
     let e : n - k ≡ suc (n - 1 - k) = omega arith in
     let f : n - 1 - k ≡ n - (k + 1) = omega arith in
     rw e (ap (λ m. eqb (bit_at value (n - 1 - k)) 1 ∷ number m value) f)
 
-pub number_none : (n k value : ℕ) → n ≤ k → number (n - k) value ≡ []
-number_none n k value h =
-    let e : n - k ≡ 0 = omega arith in
-    rw e refl
-
-pub length_number : (n value : ℕ) → length (number n value) ≡ n
+length_number : (n value : ℕ) → length (number n value) ≡ n
 length_number zero value = refl
 length_number (suc n) value = ap suc (length_number n value)
 
-pub written_append : (w : Option (List Bool)) (xs ys : List (ℕ × ℕ)) → written w (xs ++ ys) ≡ written (written w xs) ys
+written_append : (w : Option (List Bool)) (xs ys : List (ℕ × ℕ)) → written w (xs ++ ys) ≡ written (written w xs) ys
 written_append w [] ys = refl
 written_append w (x ∷ xs) ys = written_append (pushed w x) xs ys
 

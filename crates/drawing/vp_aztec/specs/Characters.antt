@@ -79,7 +79,10 @@ pair_value a b =
 -- the mode of a character that punctuation hasn't
 abbrev pub home : ℕ → Mode
 home byte =
-    if capital byte || byte == 32 then Upper else if small byte then Lower else if digit byte then Digit else Mixed
+    if capital byte || byte == 32 then Upper
+    else if small byte then Lower
+    else if digit byte then Digit
+    else Mixed
 
 -- the latch from a mode to another, by its bits and as a number: one value, or more where others are between
 abbrev pub latch : Mode → Mode → ℕ × ℕ

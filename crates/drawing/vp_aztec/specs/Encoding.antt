@@ -13,8 +13,8 @@ use Rattle.vp_aztec.specs.Codewords.{codewords, mode_message, rune_message}
 unfoldable pub bits : List ℕ → List Bool
 bits src = bits_of (message src)
 
--- why bytes have no symbol: there are none; there is no such percentage, or number of layers; they have more bits
--- than any symbol, or than the sizes that are asked for
+-- why bytes have no symbol: there are none; there is no such percentage, or number of layers; they have more
+-- bits than any symbol, or than the sizes that are asked for
 abbrev pub refusal : Asked → List ℕ → Option Refusal
 refusal asked src =
     if length src == 0 then Some Empty

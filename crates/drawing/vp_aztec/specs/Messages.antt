@@ -1,7 +1,7 @@
--- The bits of bytes (ISO/IEC 24778, character encodation). A message begins in upper. A character stands in the
--- mode in force if this has it; else, of punctuation, behind a shift, two at once where they are a pair, or behind a
--- latch where four stand together; else in the mode that has it, behind a shift to upper where that is enough, or a
--- latch. Bytes that no mode has are in runs.
+-- The bits of bytes (ISO/IEC 24778, character encodation). A message begins in upper. A character stands in
+-- the mode in force if this has it; else, of punctuation, behind a shift, two at once where they are a pair,
+-- or behind a latch where four stand together; else in the mode that has it, behind a shift to upper where
+-- that is enough, or a latch. Bytes that no mode has are in runs.
 use Rattle.std.specs.Prelude.{ℕ, zero, suc, ◌-◌, ◌&&◌, not, Bool, List, [], ◌∷◌, ◌++◌, Option, Some, None, unwrap_or, take, drop, length, slice_index, if◌then◌else◌}
 use Rattle.vp_aztec.specs.declared.mode.Mode.{Mode}
 use Rattle.vp_aztec.specs.declared.mode.Mode.TheVariants.{Upper, Lower, Mixed, Punct, Digit}
@@ -74,9 +74,11 @@ character_by None None mode src = mark_of mode src
 
 unfoldable pub character : Mode → List ℕ → Step
 character mode src =
-    character_by (pair_in mode (slice_index src 0) (slice_index src 1)) (value_in mode (slice_index src 0)) mode src
+    character_by (pair_in mode (slice_index src 0) (slice_index src 1)) (value_in mode (slice_index src 0))
+    mode src
 
--- bytes behind a shift, 31, and their number; punctuation and digit have no such shift, and are left for upper
+-- bytes behind a shift, 31, and their number; punctuation and digit have no such shift: they are left for
+-- upper
 abbrev pub from_mode : Mode → Mode
 from_mode Upper = Upper
 from_mode Lower = Lower

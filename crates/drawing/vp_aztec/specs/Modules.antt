@@ -19,16 +19,16 @@ data_bit s words k =
 abbrev pub said_place : Size → ℕ → ℕ → ℕ
 said_place s k p = if s.compact then 7 * k + (p - 2) else 10 * k + (p - 2 - (p - 2) / 6)
 
--- module p of side k of the ring: orientation marks at the corners, three dark modules at the first, two at the
--- second and one before the third, and the mode message between them
+-- module p of side k of the ring: orientation marks at the corners, three dark modules at the first, two at
+-- the second and one before the third, and the mode message between them
 unfoldable pub ring_module : Size → List ℕ → ℕ → ℕ → Bool
 ring_module s mode k p =
     if nat_le p 1 then nat_lt k 2
     else if p == 2 * core s - 1 then k % 2 == 1
     else bit_of 4 mode (said_place s k p)
 
--- whether a module of the symbol is dark: the rings of the finder, of which each second one is, the grid, of which
--- each second module is, the ring around the finder, and the layers
+-- whether a module of the symbol is dark: the rings of the finder, of which each second one is, the grid, of
+-- which each second module is, the ring around the finder, and the layers
 unfoldable pub module_of : Size → List ℕ → List ℕ → ℕ → ℕ → Bool
 module_of s words mode x y =
     let c = centre s in

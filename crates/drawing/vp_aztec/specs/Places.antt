@@ -1,5 +1,5 @@
 -- Where modules lie (ISO/IEC 24778, symbol structure), with x from the left and y from the top.
-use Rattle.std.specs.Prelude.{ℕ, ◌+◌, ◌-◌, ◌*◌, ◌/◌, ◌%◌, ◌==◌, ◌&&◌, ◌||◌, nat_le, nat_lt, not, min, max, Bool, if◌then◌else◌}
+use Rattle.std.specs.Prelude.{ℕ, ◌+◌, ◌-◌, ◌*◌, ◌/◌, ◌%◌, ◌==◌, ◌&&◌, ◌||◌, nat_le, nat_lt, not, min, Bool, if◌then◌else◌}
 use Rattle.vp_aztec.specs.declared.size.Size.{Size}
 
 -- how far the ring with the mode message is from the centre
@@ -40,9 +40,9 @@ ring_place c r x y =
     else if y == c + r && nat_lt c (x + r) then 4 * r + (c + r - x)
     else 6 * r + (c + r - y)
 
--- the number of a bit in a layer whose sides take n bits twice, by its column and row in the layer: a layer is two
--- modules wide, and its bits go in pairs from the outer to the inner module, down the left side, along the lower
--- one, up the right side and back along the upper one
+-- the number of a bit in a layer whose sides take n bits twice, by its column and row in the layer: a layer
+-- is two modules wide, and its bits go in pairs from the outer to the inner module, down the left side, along
+-- the lower one, up the right side and back along the upper one
 unfoldable pub in_layer : ℕ → ℕ → ℕ → ℕ
 in_layer n a b =
     if nat_lt a 2 && nat_lt b n then 2 * b + a

@@ -15,7 +15,10 @@ word_bits layers =
 
 abbrev pub field_of : ℕ → Field
 field_of layers =
-    if nat_le layers 2 then Gf64 else if nat_le layers 8 then Gf256 else if nat_le layers 22 then Gf1024 else Gf4096
+    if nat_le layers 2 then Gf64
+    else if nat_le layers 8 then Gf256
+    else if nat_le layers 22 then Gf1024
+    else Gf4096
 
 -- how many bits the layers hold, and how many codewords
 abbrev pub capacity : Size → ℕ
@@ -26,7 +29,9 @@ total s = capacity s / word_bits s.layers
 
 -- the sizes: compact ones of 1 to 4 layers, and full ones of 1 to 32
 abbrev pub size_at : ℕ → Size
-size_at k = if nat_lt k 4 then record { compact = true; layers = k + 1 } else record { compact = false; layers = k - 3 }
+size_at k =
+    if nat_lt k 4 then record { compact = true; layers = k + 1 }
+    else record { compact = false; layers = k - 3 }
 
 -- a size's numbers are within these
 pub record IsSound (s : Size) : Type 0 where

@@ -1,8 +1,8 @@
 //! Aztec symbols, exact to the module (ISO/IEC 24778).
 //!
 //! `encode` gives the symbol of some bytes, in the layers and with the error correction that are asked for,
-//! `rune` that of a number, and `Aztec::scaled` is a symbol as ink. There are no ECI, FNC1, joined symbols and
-//! symbols that set a reader.
+//! `rune` that of a number, and `Aztec::scaled` is a symbol as ink. There are no ECI, no FNC1, no joined
+//! symbols, and none that set a reader.
 //!
 //! - `bits`: bits as they are written
 //! - `mode`: the modes and their characters

@@ -173,7 +173,7 @@ fn symbol_in(size: Size, bits: &[bool]) -> Aztec
 }
 
 /// The symbol of bytes (ISO/IEC 24778), in the layers and with the error correction that are asked for: the
-/// smallest one that has room, compact where that is enough. All room that the data leave is filled with check
+/// smallest one that has room, compact where that is enough. All room that the data leave has check
 /// codewords.
 ///
 /// Bytes without a symbol are refused: none at all, those for which there is no such percentage or no such

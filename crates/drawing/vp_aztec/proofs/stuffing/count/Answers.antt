@@ -1,5 +1,4 @@
 use Rattle.std.proofs.Common.{arith, ap, length, ◌-◌}
-use Rattle.vp_aztec.specs.Stuffing.{stuffed}
 use Rattle.vp_aztec.proofs.StuffWords.{count_more, words_past, words_end}
 use Rattle.vp_aztec.proofs.stuffing.count.Goals as goal
 

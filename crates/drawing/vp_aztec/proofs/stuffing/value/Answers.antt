@@ -1,4 +1,4 @@
-use Rattle.std.proofs.Common.{arith, subst, sym, ap, ℕ, ◌≡◌, ◌<◌, ◌^◌, ◌∙◌}
+use Rattle.std.proofs.Common.{arith, subst, sym, ℕ, ◌≡◌, ◌<◌, ◌^◌}
 use Rattle.vp_aztec.specs.Stuffing.{value}
 use Rattle.vp_aztec.proofs.StuffWords.{value_none, value_small, value_below, value_more}
 use Rattle.vp_aztec.proofs.stuffing.value.Goals as goal

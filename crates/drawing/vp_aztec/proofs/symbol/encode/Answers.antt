@@ -1,6 +1,5 @@
-use Rattle.std.proofs.Common.{◌≡◌, ℕ, Bool, List, Option, ◌<◌, ◌≤◌, length, arith, sym, ap, subst, unwrap_or, ◌∙◌}
-use Rattle.vp_aztec.specs.Sizes.{size_at, smallest}
-use Rattle.vp_aztec.specs.Encoding.{bits, symbol_in}
+use Rattle.std.proofs.Common.{◌≡◌, arith, sym, ◌∙◌}
+use Rattle.vp_aztec.specs.Encoding.{bits}
 use Rattle.vp_aztec.proofs.Codes.{bits_all, bits_many}
 use Rattle.vp_aztec.proofs.SizeWords.{fits_room, fits_compact}
 use Rattle.vp_aztec.proofs.symbol.encode.Goals as goal

@@ -1,5 +1,5 @@
 use Rattle.std.proofs.Common.{arith}
-use Rattle.vp_aztec.proofs.Codes.{bit_written, number_none}
+use Rattle.vp_aztec.proofs.Codes.{bit_written}
 use Rattle.vp_aztec.proofs.bits.Bits.push.Goals as goal
 
 pub loop-k-preserved : goal.loop-k-preserved
