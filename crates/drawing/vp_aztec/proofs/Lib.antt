@@ -4,4 +4,5 @@ mod RunWords
 mod StepWords
 mod StuffWords
 mod SizeWords
+mod OwnBits
 mod InkLines

@@ -1,6 +1,7 @@
 -- Where modules lie (ISO/IEC 24778, symbol structure), with x from the left and y from the top.
-use Rattle.std.specs.Prelude.{ℕ, ◌+◌, ◌-◌, ◌*◌, ◌/◌, ◌%◌, ◌==◌, ◌&&◌, ◌||◌, nat_le, nat_lt, not, min, Bool, if◌then◌else◌}
+use Rattle.std.specs.Prelude.{◌≡◌, ℕ, ◌+◌, ◌-◌, ◌*◌, ◌/◌, ◌%◌, ◌==◌, ◌&&◌, ◌||◌, nat_le, nat_lt, ◌<◌, not, min, Bool, if◌then◌else◌}
 use Rattle.vp_aztec.specs.declared.size.Size.{Size}
+use Rattle.vp_aztec.specs.Sizes.{capacity}
 
 -- how far the ring with the mode message is from the centre
 abbrev pub core : Size → ℕ
@@ -50,8 +51,24 @@ in_layer n a b =
     else if nat_le n a && nat_le 2 b then 4 * n + 2 * (n + 1 - b) + (n + 1 - a)
     else 6 * n + 2 * (n + 1 - a) + b
 
+-- the layer of a module, the outermost one's first
+abbrev pub layer_of : ℕ → ℕ → ℕ → ℕ
+layer_of b u v = min (min u v) (min (b - 1 - u) (b - 1 - v)) / 2
+
 -- the number of a module's bit, the outermost layer's first
 unfoldable pub bit_place : ℕ → ℕ → ℕ → ℕ
 bit_place b u v =
-    let layer = min (min u v) (min (b - 1 - u) (b - 1 - v)) / 2 in
+    let layer = layer_of b u v in
     8 * layer * (b - 2 * layer) + in_layer (b - 4 * layer - 2) (u - 2 * layer) (v - 2 * layer)
+
+-- a module of the layers, by its column and row without those of the grid
+pub record IsInLayers (s : Size) (u v : ℕ) : Type 0 where
+  pub column : u < base s
+  pub row : v < base s
+  pub layer : layer_of (base s) u v < s.layers
+
+-- each has a bit of its own, which the layers hold
+pub record HaveBits (s : Size) : Type 0 where
+  pub within : (u v : ℕ) → IsInLayers s u v → bit_place (base s) u v < capacity s
+  pub own : (u v x y : ℕ) → IsInLayers s u v → IsInLayers s x y → bit_place (base s) u v ≡ bit_place (base s) x y
+      → (u ≡ x) × (v ≡ y)
