@@ -5,4 +5,5 @@ mod StepWords
 mod StuffWords
 mod SizeWords
 mod OwnBits
+mod AlongWords
 mod InkLines

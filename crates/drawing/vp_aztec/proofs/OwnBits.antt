@@ -1,5 +1,5 @@
 -- Each module of the layers has a bit of its own.
-use Rattle.std.proofs.Common.{◌≡◌, ℕ, zero, suc, ◌+◌, ◌-◌, ◌*◌, ◌/◌, ◌<◌, ◌≤◌, Bool, true, false, min, refl, sym, ap, ◌∙◌, arith, subst, ◌⊎◌, inl, inr}
+use Rattle.std.proofs.Common.{◌≡◌, ℕ, zero, suc, ◌+◌, ◌-◌, ◌*◌, ◌<◌, ◌≤◌, refl, sym, ap, ◌∙◌, arith, subst, ◌⊎◌, inl, inr}
 use Rattle.std.proofs.lemmas.Bool.{lt-ltb, le-ltb, lt-leb, le-leb, cases_lt}
 use Rattle.std.proofs.Math.Nat.{mul-add, add-mul}
 use Rattle.vp_aztec.specs.Places.{in_layer, layer_of, bit_place}
@@ -53,7 +53,7 @@ sides_within : (n a b k : ℕ) → 2 ≤ n → sides n a b k → k < 8 * n
 sides_within n a b k some h = grind arith
 
 -- how many bits the layers outside have
-abbrev before : ℕ → ℕ → ℕ
+abbrev pub before : ℕ → ℕ → ℕ
 before b i = 8 * i * (b - 2 * i)
 
 before_next : (b i : ℕ) → 4 * i + 2 ≤ b → before b (i + 1) ≡ before b i + 8 * (b - 4 * i - 2)

@@ -3,7 +3,7 @@ use Rattle.std.specs.Prelude.{ℕ, ◌+◌, ◌-◌, ◌*◌, ◌/◌, ◌%◌, 
 use Rattle.std.specs.Int.{bit_at}
 use Rattle.vp_aztec.specs.declared.size.Size.{Size}
 use Rattle.vp_aztec.specs.Sizes.{word_bits, capacity}
-use Rattle.vp_aztec.specs.Places.{core, base, side, centre, far, on_grid, along, ring_place, bit_place}
+use Rattle.vp_aztec.specs.Places.{core, side, centre, far, on_grid, ring_place, place_of}
 
 -- bit k of words of w bits each, the highest bit of each first
 unfoldable pub bit_of : ℕ → List ℕ → ℕ → Bool
@@ -37,7 +37,7 @@ module_of s words mode x y =
     if nat_lt ring (core s) then ring % 2 == 0
     else if on_grid s x y then (far x c + far y c) % 2 == 0
     else if ring == core s then ring_module s mode (place / (2 * core s)) (place % (2 * core s))
-    else data_bit s words (bit_place (base s) (along s x) (along s y))
+    else data_bit s words (place_of s x y)
 
 -- and that it is on the symbol
 abbrev pub dark : Size → List ℕ → List ℕ → ℕ → ℕ → Bool

@@ -1,5 +1,5 @@
 -- Where modules lie (ISO/IEC 24778, symbol structure), with x from the left and y from the top.
-use Rattle.std.specs.Prelude.{◌≡◌, ℕ, ◌+◌, ◌-◌, ◌*◌, ◌/◌, ◌%◌, ◌==◌, ◌&&◌, ◌||◌, nat_le, nat_lt, ◌<◌, not, min, Bool, if◌then◌else◌}
+use Rattle.std.specs.Prelude.{◌≡◌, ℕ, ◌+◌, ◌-◌, ◌*◌, ◌/◌, ◌%◌, ◌==◌, ◌&&◌, ◌||◌, nat_le, nat_lt, ◌<◌, not, min, max, Bool, false, if◌then◌else◌}
 use Rattle.vp_aztec.specs.declared.size.Size.{Size}
 use Rattle.vp_aztec.specs.Sizes.{capacity}
 
@@ -61,14 +61,18 @@ bit_place b u v =
     let layer = layer_of b u v in
     8 * layer * (b - 2 * layer) + in_layer (b - 4 * layer - 2) (u - 2 * layer) (v - 2 * layer)
 
--- a module of the layers, by its column and row without those of the grid
-pub record IsInLayers (s : Size) (u v : ℕ) : Type 0 where
-  pub column : u < base s
-  pub row : v < base s
-  pub layer : layer_of (base s) u v < s.layers
+abbrev pub place_of : Size → ℕ → ℕ → ℕ
+place_of s x y = bit_place (base s) (along s x) (along s y)
 
--- each has a bit of its own, which the layers hold
+-- a module of the layers: outside of the ring around the finder, and not on the grid
+pub record IsInLayers (s : Size) (x y : ℕ) : Type 0 where
+  pub column : x < side s
+  pub row : y < side s
+  pub outside : core s < max (far x (centre s)) (far y (centre s))
+  pub off_grid : on_grid s x y ≡ false
+
+-- each of them has a bit of its own, of as many as the layers hold
 pub record HaveBits (s : Size) : Type 0 where
-  pub within : (u v : ℕ) → IsInLayers s u v → bit_place (base s) u v < capacity s
-  pub own : (u v x y : ℕ) → IsInLayers s u v → IsInLayers s x y → bit_place (base s) u v ≡ bit_place (base s) x y
-      → (u ≡ x) × (v ≡ y)
+  pub within : (x y : ℕ) → IsInLayers s x y → place_of s x y < capacity s
+  pub own : (x y v w : ℕ) → IsInLayers s x y → IsInLayers s v w → place_of s x y ≡ place_of s v w
+      → (x ≡ v) × (y ≡ w)

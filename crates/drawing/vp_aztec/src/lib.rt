@@ -11,7 +11,7 @@
 //! - `stuffing`: the data codewords of bits
 //! - `size`: layers, codewords, and which size is taken
 //! - `codewords`: check codewords, and the mode message
-//! - `place`: where modules lie
+//! - `place`: where modules lie, and that each one of the layers has a bit of its own
 //! - `symbol`: the symbol, and its modules
 //! - `ink`: their dots
 #![tactic(auto)]
@@ -28,5 +28,6 @@ mod stuffing;
 mod symbol;
 
 pub use ink::AztecInk;
+pub use place::bits_law;
 pub use size::{Asked, Layers, Size};
 pub use symbol::{Aztec, Refusal, encode, rune};

@@ -2,7 +2,7 @@
 
 ghost use Rattle.std.specs.Prelude.{◌≡◌, ◌+◌, ◌-◌, ◌*◌, ◌/◌, ◌%◌, ◌<◌, ◌≤◌};
 ghost use Rattle.vp_aztec.specs.Sizes.{IsSound};
-ghost use Rattle.vp_aztec.specs.Places.{core, base, side, centre, far, on_grid, along, ring_place, in_layer, bit_place};
+ghost use Rattle.vp_aztec.specs.Places.{core, base, side, centre, far, on_grid, along, ring_place, in_layer, bit_place, HaveBits};
 
 use crate::size::Size;
 
@@ -140,3 +140,8 @@ pub fn bit_place(base: usize, u: usize, v: usize) -> usize
             v - 2 * layer,
         )
 }
+
+/// Each module of the layers has a bit of its own, of as many as the layers hold.
+pub fn bits_law(size: Size)
+    ensures { HaveBits size }
+{}
