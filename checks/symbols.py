@@ -1,9 +1,9 @@
 #!/usr/bin/env python3
-"""symbols.py [PROGRAM [NUMBER [SEED]]]: draws so many random payloads, 60 where none is said, as Data Matrix symbols
-of all sizes and leads, and as many as PDF417 symbols of all levels and shapes, and has ZXingReader, and of Data Matrix
-dmtxread too, read them back. As many are drawn of each linear code that no printer draws with: ZXingReader and zbarimg
-read those that they know, and each has the modules that zint draws. PROGRAM is vp_draw_symbols as the gate builds
-it."""
+"""symbols.py [PROGRAM [NUMBER [SEED]]]: draws so many random payloads, 60 where none is said, as Data Matrix
+symbols of all sizes and leads, and as many as PDF417 symbols of all levels and shapes and as Aztec symbols of all
+layers, and has ZXingReader, and of Data Matrix dmtxread too, read them back. Each rune has the modules that zint
+draws. As many are drawn of each linear code that no printer draws with: ZXingReader and zbarimg read those that they
+know, and each has the modules that zint draws. PROGRAM is vp_draw_symbols as the gate builds it."""
 import os
 import random
 import shutil
@@ -23,7 +23,10 @@ SIZES = [(10, 10, 3), (12, 12, 5), (14, 14, 8), (16, 16, 12), (18, 18, 18), (20,
 HEADS = {b"5": b"[)>\x1e05\x1d", b"6": b"[)>\x1e06\x1d"}
 COMMANDS = {"ZXingReader": ["ZXingReader", "-format", "DataMatrix", "-ispure", "-bytes"],
             "dmtxread": ["dmtxread", "-N1", "-m", "5000"],
-            "ZXingReader of PDF417": ["ZXingReader", "-format", "PDF417", "-ispure", "-bytes"]}
+            "ZXingReader of PDF417": ["ZXingReader", "-format", "PDF417", "-ispure", "-bytes"],
+            "ZXingReader of Aztec": ["ZXingReader", "-format", "Aztec", "-ispure", "-bytes"]}
+# what each of them reads, by the letter of vp_draw_symbols
+READS = {"ZXingReader": b"D", "dmtxread": b"D", "ZXingReader of PDF417": b"FC", "ZXingReader of Aztec": b"A"}
 # kinds of text, each of which another encodation takes in the fewest codewords, and how many of its characters a
 # codeword has at most
 CAPITALS = b"ABCDEFGHIJKLMNOPQRSTUVWXYZ"
@@ -35,6 +38,11 @@ KINDS = ["digits", "text", "bytes", "parts", *LETTERS]
 STACKED = {"digits": b"0123456789", "capitals": CAPITALS + b" ", "words": CAPITALS[:2] + CAPITALS.lower() + b"  ,.",
            "mixed": b"0123456789&#+%=^,:-.$/* \r\t", "marks": b";<>@[\\]_`~!\r\t,:\n-.$/\"|*()?{}' aB1",
            "text": bytes(range(32, 127)) + b"\t\n\r", "bytes": bytes(range(256)), "high": CAPITALS + b"\xe9\xff"}
+# and of Aztec: of each mode
+MODES = {"digits": b"0123456789,. ", "capitals": CAPITALS + b" ", "words": STACKED["words"],
+         "mixed": bytes(range(1, 14)) + bytes(range(27, 32)) + b"@\\^_`|~\x7f Aa0", "text": STACKED["text"],
+         "marks": b"\r\n.,:; !?[]{}()<>=+-*/$%&#'\" aB1", "bytes": bytes(range(256)),
+         "high": CAPITALS + b"\0\x1a\xe9\xff"}
 # the linear codes by the letters of vp_draw_symbols: zint's arguments, the dots of a wide element, and the words by
 # which ZXingReader and zbarimg know them
 DIGITS = "0123456789"
@@ -109,6 +117,26 @@ def stacked(number: int) -> List[Case]:
         data = data[:length]
         some.append((random.choice(b"FFC").to_bytes(1, "big") + (b"%d" % level if level < 9 else b"-"),
                      rows, columns, data))
+    return some
+
+
+def layered(number: int) -> List[Case]:
+    """Returns what is asked for of Aztec: each number of layers by turns, compact and full, or the fewest, and a
+    percentage of check codewords, or the default."""
+    some = []
+    for at in range(number):
+        layers = at % 37
+        form = min(layers, 1) + (layers > 4)
+        layers -= 4 * (layers > 4)
+        percent = random.choice([0, 0, 5, 10, 36, 50])
+        bits = layers * (88 + 24 * (form - 1) + 16 * layers) if form else random.choice([400, 4000, 9000])
+        # a character takes nine bits or so at most
+        length = random.randint(1, max(1, int(bits * (1 - (percent or 23) / 100 - 0.25)) // 11))
+        data = b""
+        while len(data) < length:
+            run = random.choice([length, random.randint(1, 30), random.randint(1, 5)])
+            data += bytes(random.choices(MODES[random.choice(list(MODES))], k=run))
+        some.append((b"A" + bytes([percent]), form, layers, data[:length]))
     return some
 
 
@@ -250,7 +278,7 @@ def said(tool: str, room: str, rows: List[str]) -> bytes:
         with open(png, "wb") as image:
             subprocess.run(["pnmtopng", "-quiet", name], stdout=image, check=True)
         text = read(COMMANDS[tool] + [png])
-        if not text and tool.endswith("PDF417"):
+        if not text and tool.endswith(("PDF417", "Aztec")):
             text = read([word for word in COMMANDS[tool] if word != "-ispure"] + [png])
         if text:
             break
@@ -263,17 +291,38 @@ def wanted(lead: bytes, data: bytes) -> bytes:
     return data if head is None else head + data + b"\x1e\x04"
 
 
+def is_read(text: bytes, data: bytes) -> bool:
+    """Returns whether data were read. The reader leaves out a GS at the front, and takes ten ones that fill up the
+    last codeword for a run of 31 bytes, which it reads behind the data."""
+    return any(text[:len(it)] == it and len(text) - len(it) in (0, 31) for it in (data, data[data[:1] == b"\x1d":]))
+
+
+def runes_offences(program: str) -> List[str]:
+    """Returns the runes that have other modules than zint's."""
+    symbols = drawn(program, [(b"R" + bytes([number]), 0, 0, b"") for number in range(256)])
+    wrong = []
+    for number, rows in enumerate(symbols):
+        ran = subprocess.run(["zint", "-b", "AZRUNE", "-d", str(number), "--dump"], stdout=subprocess.PIPE,
+                             check=True)
+        lines = [bin(int("1" + line.replace(" ", ""), 16))[3:14] for line in ran.stdout.decode().split("\n") if line]
+        if lines != rows:
+            wrong.append(f"zint: rune {number}")
+    return wrong
+
+
 def offences(room: str, some: List[Case], symbols: List[List[str]], tools: List[str]) -> List[str]:
     """Returns what a reader reads otherwise."""
     wrong = []
     for at, ((lead, _, _, data), rows) in enumerate(zip(some, symbols)):
         for tool in tools:
-            if (lead[:1] == b"D") == tool.endswith("PDF417"):
+            if lead[:1] not in READS[tool]:
                 continue
             # libdmtx gives the check codewords of 144 by 144 modules another order than the standard
             if tool == "dmtxread" and len(rows) == 144:
                 continue
             text = said(tool, room, rows)
+            if lead[:1] == b"A" and is_read(text, data):
+                continue
             if text != wanted(lead, data) and not (lead == b"DG" and text.lstrip(b"\x1d") == data):
                 wrong.append(f"{tool}: symbol {at} of {len(rows)} rows, {some[at]}: {text!r}")
     return wrong
@@ -292,18 +341,20 @@ def main() -> int:
         if "VP_LEFT_OUT" in os.environ:
             with open(os.environ["VP_LEFT_OUT"], "a", encoding="utf-8") as left:
                 left.write(f"symbols {tool}\n")
-    some = cases(number) + stacked(number)
+    some = cases(number) + stacked(number) + layered(number)
     symbols = drawn(program, some)
     if len(symbols) != len(some):
         print(f"checks/symbols: {len(symbols)} symbols of {len(some)}")
         return 1
     with tempfile.TemporaryDirectory() as room:
         wrong = offences(room, some, symbols, tools) + linear_offences(program, room, number, of_bars)
+    if "zint" in of_bars:
+        wrong += runes_offences(program)
     for it in wrong:
         print(f"checks/symbols: {it}")
     if not wrong:
-        print(f"{number} Data Matrix and {number} PDF417 symbols, and {number} of each linear code, are read back by "
-              f"{', '.join(tools + of_bars[1:]) or 'no reader: none is there'}: ok")
+        print(f"{number} Data Matrix, {number} PDF417 and {number} Aztec symbols, and {number} of each linear code, "
+              f"are read back by {', '.join(tools + of_bars[1:]) or 'no reader: none is there'}: ok")
     return 1 if wrong else 0
 
 

@@ -6,13 +6,18 @@
 //!   and 1 for a rectangle); a dot a module
 //! - `F` and `C`, PDF417, full and compact: the digit of the level, or another byte for the one that is
 //!   recommended, and the rows and columns, 0 where they are left open; a row is three dots high
+//! - `A`, Aztec: the percentage of check codewords, 0 where it is left open, and the number of layers, after 1 for
+//!   a compact and 2 for a full symbol, and 0 for any; a dot a module
+//! - `R`, a rune: its number; a dot a module
 //! - `L`, a linear symbol: a letter of its kind (`bars`), and the dots of a narrow and of a wide element; one
 //!   row of its bars
 //! - `E`, the same as `F`, but not drawn: its columns and rows alone, for bench/peers.sh
 #![tactic(auto)]
 
+mod aztec;
 mod bars;
 
+use crate::aztec::{draw_aztec, draw_rune};
 use crate::bars::draw_bars;
 use std::alloc::{AllocError, Global};
 use std::io::{Read, Write};
@@ -134,6 +139,12 @@ fn draw_one(
     }
     if kind == b'L' {
         return draw_bars(alloc, paper, first, rows, columns, bytes);
+    }
+    if kind == b'A' {
+        return draw_aztec(paper, first, rows, columns, bytes);
+    }
+    if kind == b'R' {
+        return draw_rune(paper, first);
     }
     match vp_pdf417::encode(bytes, asked_of(kind, first, rows, columns)) {
         Ok(symbol) => draw_stack(alloc, paper, &symbol, kind == b'E')?,

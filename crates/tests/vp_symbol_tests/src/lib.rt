@@ -3,6 +3,8 @@
 #![tactic(auto)]
 
 #[cfg(test)]
+mod aztec;
+#[cfg(test)]
 mod codewords;
 #[cfg(test)]
 mod data_matrix;

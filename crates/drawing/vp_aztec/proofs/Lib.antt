@@ -1,0 +1,9 @@
+mod FirstFrom
+mod Codes
+mod RunWords
+mod StepWords
+mod StuffWords
+mod SizeWords
+mod OwnBits
+mod AlongWords
+mod InkLines

@@ -1,0 +1,6 @@
+use Rattle.std.proofs.Common.{arith}
+use Rattle.vp_aztec.proofs.StepWords.{pair_long}
+use Rattle.vp_aztec.proofs.message.push_mark.Goals as goal
+
+pub returns-in-Some-clause-within : goal.returns-in-Some-clause-within
+returns-in-Some-clause-within c = grind (arith, pair_long)
