@@ -51,3 +51,9 @@ export function bytesOf(value) {
 
 export const number = value => value.toLocaleString('en');
 export const plural = (count, what) => `${number(count)} ${what}${count === 1 ? '' : 's'}`;
+
+/** Refuses what is no language. */
+export function checkLanguage(language) {
+  if (language === 'receipt' || language === 'label') return;
+  throw new VpError('argument', `a language is 'receipt' or 'label', and not ${named(language)}`);
+}

@@ -1,6 +1,7 @@
 // The package: what it gives to whom it is imported by.
 
 import { Fault } from '../../recipes/web/vp.js';
+import { requests } from './asking.js';
 import { VpError } from './errors.js';
 import { list } from './listing.js';
 import { version } from './module.js';
@@ -9,4 +10,4 @@ import { Picture } from './pictures.js';
 import { Label, Printer, Receipt } from './printers.js';
 import { PrinterWorker } from './worker.js';
 
-export { Fault, Label, Paper, Picture, Printer, PrinterWorker, Receipt, VpError, list, version };
+export { Fault, Label, Paper, Picture, Printer, PrinterWorker, Receipt, VpError, list, requests, version };

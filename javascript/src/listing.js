@@ -3,7 +3,7 @@
 import { latin } from '../../recipes/viewer/bytes.js';
 import { Listing as Machine } from '../../recipes/web/vp.js';
 import { Clock, Reached, boundsOf, fed, tooMuch } from './bounds.js';
-import { VpError, named, optionsOf } from './errors.js';
+import { checkLanguage, optionsOf } from './errors.js';
 import { ready } from './module.js';
 import { piecesOf } from './reading.js';
 
@@ -27,9 +27,7 @@ export async function listed(stream, { language, whole, offsets, mostSeconds }, 
 
 /** Lists a stream, 'receipt' or 'label': its items, each a text and, with offsets, how many bytes it ends behind. */
 export async function list(stream, language, options = {}) {
-  if (language !== 'receipt' && language !== 'label') {
-    throw new VpError('argument', `a language is 'receipt' or 'label', and not ${named(language)}`);
-  }
+  checkLanguage(language);
   const { offsets = false, whole = false } = optionsOf(options, OPTIONS, 'a list');
   const { mostBytes, mostSeconds } = boundsOf(options);
   const pieces = [];

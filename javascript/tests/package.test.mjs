@@ -8,7 +8,7 @@ import { Readable } from 'node:stream';
 import { test } from 'node:test';
 import vm from 'node:vm';
 import { inflateSync } from 'node:zlib';
-import { Label, Paper, PrinterWorker, Receipt, VpError, list, version } from 'virtual-receipt-printer';
+import { Label, Paper, PrinterWorker, Receipt, VpError, list, requests, version } from 'virtual-receipt-printer';
 
 const example = name => readFileSync(new URL(`../../examples/${name}`, import.meta.url));
 const BOX = '^XA^PW80^LL40^FO8,8^GB16,8,8^FS^XZ';
@@ -164,6 +164,22 @@ test('what is aborted, and clocks of tests', async () => {
     [globalThis.setTimeout] = kept;
     Reflect.set(performance, 'now', kept[1]);
   }
+});
+
+test('requests', async () => {
+  const asked = async (stream, language) => {
+    const found = [];
+    for await (const it of requests(stream, language)) found.push(`${it.start}..${it.end} ${it.name} ${[...it.arguments]}`);
+    return found;
+  };
+  const receipt = new TextEncoder().encode('A\x10\x04\x01\x1dv0\0\x01\0\x04\0\x10\x04\x02\0\x1dr\x01');
+  const [head, rest] = [receipt.subarray(0, 13), receipt.subarray(13)];
+  async function* pieces() { yield head; yield rest; }
+  const wanted = ['1..4 DLE EOT 1', '12..15 DLE EOT 2', '16..19 GS r 1'];
+  assert.deepEqual(await asked(receipt, 'receipt'), wanted);
+  assert.deepEqual(await asked(pieces(), 'receipt'), wanted);
+  assert.deepEqual(await asked('~HS^XA^XZ~HQES~SD1', 'label'), ['0..3 ~HS ', '9..14 ~HQ 69,83', '14..18 ~SD 49']);
+  await assert.rejects(asked('~HS', 'till'), { code: 'argument' });
 });
 
 test('a list', async () => {

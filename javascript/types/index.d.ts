@@ -191,4 +191,16 @@ export function list(stream: Stream, language: 'receipt' | 'label',
   options?: { offsets?: boolean; whole?: boolean; mostBytes?: number | null; mostSeconds?: number | null },
 ): Promise<{ items: { text: string; place: number | null }[]; fault: Fault | null }>;
 
+/** A request of a stream: its name as its manual writes it, the bytes behind the name, and how many bytes of the stream
+ * come before its first byte and before the one behind its last. */
+export interface Request {
+  readonly name: string;
+  readonly arguments: Uint8Array;
+  readonly start: number;
+  readonly end: number;
+}
+
+/** What a stream asks of its printer, its state, its name, its settings, each request as soon as it is known. */
+export function requests(stream: Stream, language: 'receipt' | 'label'): AsyncIterable<Request>;
+
 export const version: string;

@@ -12,6 +12,8 @@ const PIECE = 1 << 16;
 const PROGRESS = 8;
 const LINE = 32;
 const MOST_LINE = 96;
+// The bytes of a request as the library tells it.
+const REQUEST = 1056;
 
 // Whose the offence is that an answer tells, by its tens.
 const WHOSE = { 1: 'fontA: ', 2: 'fontB: ' };
@@ -33,6 +35,13 @@ function instance() {
   const one = ready ?? new WebAssembly.Instance(compiled, {});
   ready = null;
   return one.exports;
+}
+
+// Room of an instance.
+function roomIn(calls, length) {
+  const at = calls.malloc(length);
+  if (!at) throw new RangeError('out of memory');
+  return at;
 }
 
 // Why a stream is wrong: its number (F1 to F9), how many bytes of the stream were taken when it was known, its text.
@@ -57,11 +66,7 @@ class Machine {
   constructor(sheets, make) {
     if (!compiled) throw new Error('load() comes first');
     const calls = instance();
-    const room = length => {
-      const at = calls.malloc(length);
-      if (!at) throw new RangeError('out of memory');
-      return at;
-    };
+    const room = length => roomIn(calls, length);
     this.#calls = calls;
     this.#at = room(LINE + MOST_LINE);
     this.#input = room(PIECE);
@@ -148,6 +153,58 @@ export class Printer extends Machine {
 export class Listing extends Machine {
   constructor(language, { offsets = false, whole = false } = {}) {
     super([], (calls, _, made) => calls.vp_new_listing(known(language, 576, whole), Number(offsets), made));
+  }
+}
+
+// What a stream asks of its printer, its state, its name, its settings, each as soon as it is known: { name, arguments,
+// start, end }, places by bytes of the stream. Real-time requests of receipts (DLE) are found within pictures too.
+export class Requests {
+  #calls;
+  #at;
+  #input;
+  #request;
+
+  constructor(language) {
+    if (!compiled) throw new Error('load() comes first');
+    this.#calls = instance();
+    this.#at = roomIn(this.#calls, 16);
+    this.#input = roomIn(this.#calls, PIECE);
+    this.#request = roomIn(this.#calls, REQUEST);
+    if (this.#calls.vp_new_requests(known(language, 576, false), this.#at)) throw new RangeError('out of memory');
+  }
+
+  // Takes a piece of the stream, and gives the requests that it makes known.
+  feed(input) {
+    const found = [];
+    for (let from = 0; from < input.length; from += PIECE) {
+      const some = input.subarray(from, from + PIECE);
+      new Uint8Array(this.#calls.memory.buffer, this.#input, some.length).set(some);
+      for (let at = 0, it = true; it;) {
+        this.#calls.vp_next_request(this.#at, this.#input + at, BigInt(some.length - at), this.#at + 8, this.#request);
+        at += new DataView(this.#calls.memory.buffer).getUint32(this.#at + 8, true);
+        it = this.#told();
+        if (it) found.push(it);
+      }
+    }
+    return found;
+  }
+
+  // Gives what a stream asks that ends here: a label's last request, whose arguments could go on, else null.
+  end() {
+    this.#calls.vp_last_request(this.#at, this.#request);
+    return this.#told();
+  }
+
+  #told() {
+    const bytes = new Uint8Array(this.#calls.memory.buffer, this.#request, REQUEST);
+    if (!bytes[0]) return null;
+    const view = new DataView(bytes.buffer, bytes.byteOffset, REQUEST);
+    return {
+      name: String.fromCharCode(...bytes.subarray(0, bytes.indexOf(0))),
+      arguments: bytes.slice(28, 28 + view.getUint32(24, true)),
+      start: Number(view.getBigUint64(8, true)),
+      end: Number(view.getBigUint64(16, true)),
+    };
   }
 }
 
