@@ -42,16 +42,25 @@ pub record IsMade (number : ℕ) (a b : List ℕ) (p : Engine) : Type 0 where
   pub sheet_b_is : sheet_in b 9 17 ≡ Ok sheet_b
   pub stands : Stands (setup_of language (record { a = sheet_a; b = sheet_b })) p [] []
 
--- a sheet's first offence, or want of memory for it
-abbrev pub IsOffence : Result (Option Glyphs) SheetError → SheetError → Type 0
-IsOffence sheet error = (sheet ≡ Err error) ⊎ (error ≡ SheetMemory alloc_error)
+-- a sheet's first offence, or want of memory for one that has none
+abbrev pub IsSheet : Result (Option Glyphs) SheetError → Type 0
+IsSheet read = (sheet : Option Glyphs) × (read ≡ Ok sheet)
 
--- why there is none; memory may be refused at any time
+abbrev pub IsOffence : Result (Option Glyphs) SheetError → SheetError → Type 0
+IsOffence read error = (read ≡ Err error) ⊎ ((error ≡ SheetMemory alloc_error) × IsSheet read)
+
+abbrev pub IsLanguage : ℕ → Type 0
+IsLanguage number = (language : Language) × (language_of number ≡ Some language)
+
+-- Why there is none, the first in this order: no such language, font A's sheet, font B's sheet. Memory may be
+-- refused where all three are right.
 abbrev pub IsRefused : ℕ → List ℕ → List ℕ → Refusal → Type 0
-IsRefused number a b refusal.Memory = Unit {0}
 IsRefused number a b refusal.Language = language_of number ≡ None
-IsRefused number a b (refusal.SheetA error) = IsOffence (sheet_in a 12 24) error
-IsRefused number a b (refusal.SheetB error) = IsOffence (sheet_in b 9 17) error
+IsRefused number a b (refusal.SheetA error) = IsLanguage number × IsOffence (sheet_in a 12 24) error
+IsRefused number a b (refusal.SheetB error) =
+    IsLanguage number × IsSheet (sheet_in a 12 24) × IsOffence (sheet_in b 9 17) error
+IsRefused number a b refusal.Memory =
+    IsLanguage number × IsSheet (sheet_in a 12 24) × IsSheet (sheet_in b 9 17)
 
 -- What `vp_new` leaves behind the handle, and its answer: a printer and OK, or none and why.
 abbrev pub IsAnswered : ℕ → List ℕ → List ℕ → Option Engine → ℕ → Type 0
