@@ -112,8 +112,9 @@ typedef struct vp_held_now {
 } vp_held_now;
 
 /* Makes a printer of a vp_language, with the bytes of a sheet of font A (12 by 24 dots) and one of font B
- * (9 by 17), which are copied. No sheet is a length of 0: its characters are white. Where the answer isn't
- * VP_OK, *made is {0}. What *made held before isn't freed. */
+ * (9 by 17), which are copied. No sheet is a length of 0: its characters are white. Refused is the first of
+ * these that is wrong, in this order. Where the answer isn't VP_OK, *made is {0}. What *made held before isn't
+ * freed. */
 uint32_t vp_new(uint32_t language, const uint8_t *font_a, size_t font_a_length, const uint8_t *font_b,
                 size_t font_b_length, vp *made);
 
