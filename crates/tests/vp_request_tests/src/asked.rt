@@ -144,10 +144,7 @@ static LABELS: [Row; 8] = [
         ],
     ),
     // binary data of a picture
-    (
-        b"^GFB,4,4,1,~HS~~HS",
-        &[(Ask::HostStatus, b"", 15, 18)],
-    ),
+    (b"^GFB,4,4,1,~HS~~HS", &[(Ask::HostStatus, b"", 15, 18)]),
     (
         b"~HU~HB~PP~PS~JA~JR~JX^HZa^HFx^HGy^HYz^HTt^XZ",
         &[
