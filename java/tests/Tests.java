@@ -18,6 +18,8 @@ import virtualreceiptprinter.Paper;
 import virtualreceiptprinter.Printer;
 import virtualreceiptprinter.Printers;
 import virtualreceiptprinter.Receipt;
+import virtualreceiptprinter.Request;
+import virtualreceiptprinter.Requests;
 
 /** Tests of the package: Tests PROGRAM EXAMPLES STREAMS. It prints the streams, and compares with what the program prints. */
 final class Tests {
