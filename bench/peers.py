@@ -58,7 +58,8 @@ KINDS = {
     "ean13": (lambda: digits(12), HIGH, ean13),
     "ean13-row": (lambda: digits(12), LOW, ean13),
     "upca": (lambda: digits(11), HIGH, counted(65)),
-    "upce": (lambda: digits(6), HIGH, counted(66)),
+    # (zint takes none whose long form has a shorter one)
+    "upce": (lambda: digits(4) + b"57", HIGH, counted(66)),
     "ean8": (lambda: digits(7), HIGH, counted(68)),
     "interleaved": (lambda: digits(14), HIGH, counted(70)),
     "codabar": (lambda: b"A" + digits(10) + b"B", HIGH, counted(71)),

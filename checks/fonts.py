@@ -17,8 +17,8 @@ SAMPLE = (TOP / "crates/tests/vp_read_fonts/stdin").read_bytes()
 VALUES = [b"-1", b"-0", b"0", b"1", b"-", b"", b"7x", b"1024", b"1025", b"-1024", b"-1025", b"2048", b"2049", b"65535",
           b"65536", b"1114111", b"1114112", b"99999999999999999999", b"-2", b"64", b"66", b"67", b"+3"]
 LINES = [b"ENDCHAR", b"ENDFONT", b"BITMAP", b"STARTCHAR x", b"COMMENT ENDFONT", b"ENCODING -1", b"ENCODING 70", b"",
-         b" ", b"\tFF", b"DWIDTH 3 0", b"BBX 9 1 0 0", b"BBX 0 0 0 0", b"CHARS 2", b"CHARS 0", b"FONT_DESCENT -3", b"FFFF",
-         b"STARTFONT 2.2", b"SWIDTH -1 0", b"DEFAULT_CHAR 70", b"FONTBOUNDINGBOX 5 6 7 8", b"VVECTOR 1 2"]
+         b" ", b"\tFF", b"DWIDTH 3 0", b"BBX 9 1 0 0", b"BBX 0 0 0 0", b"CHARS 2", b"CHARS 0", b"FONT_DESCENT -3",
+         b"FFFF", b"STARTFONT 2.2", b"SWIDTH -1 0", b"DEFAULT_CHAR 70", b"FONTBOUNDINGBOX 5 6 7 8", b"VVECTOR 1 2"]
 
 
 class Refused(Exception):

@@ -63,7 +63,7 @@ test('sheets', async () => {
 
 test('the module is inside: nothing is to be loaded', () => {
   assert.deepEqual(Object.keys(all).filter(it => it !== 'default').sort(), ['Fault', 'Label', 'Paper', 'Picture',
-    'Printer', 'PrinterWorker', 'Receipt', 'VpError', 'list', 'version']);
+    'Printer', 'PrinterWorker', 'Receipt', 'VpError', 'list', 'requests', 'version']);
 });
 
 test('each print begins anew', async () => {

@@ -57,7 +57,8 @@ class Requests:
     def feed(self, data: Stream) -> List[Request]:
         part = bytes_of(data)
         start = ctypes.cast(ctypes.c_char_p(part), ctypes.c_void_p).value or 0
-        at, taken, request, found = 0, ctypes.c_size_t(), CRequest(), []
+        at, taken, request = 0, ctypes.c_size_t(), CRequest()
+        found: List[Request] = []
         with self._lock:
             while True:
                 library().vp_next_request(self._made, start + at, len(part) - at, taken, request)
