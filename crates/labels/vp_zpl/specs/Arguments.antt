@@ -13,6 +13,12 @@ use Rattle.vp_zpl.specs.declared.name.PrintCommand.{PrintCommand}
 use Rattle.vp_zpl.specs.declared.name.PrintCommand.TheVariants as prints
 use Rattle.vp_zpl.specs.declared.name.BarCommand.{BarCommand}
 use Rattle.vp_zpl.specs.declared.name.BarCommand.TheVariants as bars
+use Rattle.vp_zpl.specs.declared.name.LinearCommand.{LinearCommand}
+use Rattle.vp_zpl.specs.declared.name.LinearCommand.TheVariants as linear
+use Rattle.vp_bar_code.specs.declared.MsiChecks.{MsiChecks}
+use Rattle.vp_bar_code.specs.declared.MsiChecks.TheVariants as checks
+use Rattle.vp_zpl.specs.declared.item.LinearCode.{LinearCode}
+use Rattle.vp_zpl.specs.declared.item.LinearCode.TheVariants as codes
 use Rattle.vp_zpl.specs.declared.item.Orientation.{Orientation}
 use Rattle.vp_zpl.specs.declared.item.Orientation.TheVariants as turns
 use Rattle.vp_zpl.specs.declared.item.Colour.{Colour}
@@ -111,6 +117,16 @@ mode_of (Some c) =
     else if c == code "D" then Some modes.UccEan
     else None
 
+-- A, B, C, D
+abbrev pub msi_checks_of : Option ℕ → Option MsiChecks
+msi_checks_of None = None
+msi_checks_of (Some c) =
+    if c == code "A" then Some checks.None
+    else if c == code "B" then Some checks.Mod10
+    else if c == code "C" then Some checks.Mod10Twice
+    else if c == code "D" then Some checks.Mod11Mod10
+    else None
+
 -- L, C, R, J
 abbrev pub justification_of : Option ℕ → Option Justification
 justification_of None = None
@@ -195,11 +211,30 @@ bar_command_of bars.Code128 ps =
     (mode_of (letter_at 5 ps))
 bar_command_of bars.QrCode ps = commands.QrCode (number_at 1 ps) (number_at 2 ps)
 
+-- ^B in the whole language: the height is the second parameter, or the third behind check digits
+abbrev pub linear_symbol : LinearCode → List Kept → Command
+linear_symbol code ps = commands.Linear code (orientation_at 0 ps) (number_at 1 ps) (yes_at 2 ps) (yes_at 3 ps)
+
+abbrev pub late_symbol : LinearCode → List Kept → Command
+late_symbol code ps = commands.Linear code (orientation_at 0 ps) (number_at 2 ps) (yes_at 3 ps) (yes_at 4 ps)
+
+abbrev pub linear_command_of : LinearCommand → List Kept → Command
+linear_command_of linear.Code11 ps = late_symbol (codes.Code11 (yes_at 1 ps)) ps
+linear_command_of linear.Interleaved ps = linear_symbol (codes.Interleaved (yes_at 4 ps)) ps
+linear_command_of linear.Ean8 ps = linear_symbol codes.Ean8 ps
+linear_command_of linear.UpcE ps = linear_symbol codes.UpcE ps
+linear_command_of linear.Code93 ps = linear_symbol codes.Code93 ps
+linear_command_of linear.Codabar ps = late_symbol codes.Codabar ps
+linear_command_of linear.Msi ps = late_symbol (codes.Msi (msi_checks_of (letter_at 1 ps))) ps
+linear_command_of linear.AddOn ps = linear_symbol codes.AddOn ps
+linear_command_of linear.UpcA ps = linear_symbol codes.UpcA ps
+
 abbrev pub plain_command : Plain → List Kept → Command
 plain_command (plain.Field k) ps = field_command_of k ps
 plain_command (plain.Label k) ps = label_command_of k ps
 plain_command (plain.Print k) ps = print_command_of k ps
 plain_command (plain.Bar k) ps = bar_command_of k ps
+plain_command (plain.Linear k) ps = linear_command_of k ps
 plain_command plain.GraphicBox ps =
     commands.GraphicBox (number_at 0 ps) (number_at 1 ps) (number_at 2 ps) (colour_of (letter_at 3 ps))
 plain_command plain.Font ps = commands.Font (orientation_at 0 ps) (number_at 1 ps) (number_at 2 ps)

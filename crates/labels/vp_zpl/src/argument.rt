@@ -1,13 +1,16 @@
 //! What the parameters of a command mean.
 ghost use Rattle.std.specs.Prelude.{◌≡◌, ◌<◌, ℕ, Some, slice_get};
-ghost use Rattle.vp_zpl.specs.Arguments.{number_at as number_is, byte_at as byte_is, letter_at as letter_is, yes_at as yes_is, inverted_at as inverted_is, orientation_at as orientation_is, either_of, orientation_of as orientation_as, colour_of as colour_as, format_of as format_as, mode_of as mode_as, justification_of as justification_as, space_in, space_if, tenths_of as tenths_as, tenth_behind as tenth_as, tenths_if, field_command_of as field_is, label_command_of as label_is, print_command_of as print_is, bar_command_of as bar_is, plain_command as plain_is, command_of as command_is};
+ghost use Rattle.vp_zpl.specs.Arguments.{number_at as number_is, byte_at as byte_is, letter_at as letter_is, yes_at as yes_is, inverted_at as inverted_is, orientation_at as orientation_is, either_of, orientation_of as orientation_as, colour_of as colour_as, format_of as format_as, mode_of as mode_as, justification_of as justification_as, space_in, space_if, tenths_of as tenths_as, tenth_behind as tenth_as, tenths_if, field_command_of as field_is, label_command_of as label_is, print_command_of as print_is, bar_command_of as bar_is, msi_checks_of as msi_checks_as, linear_symbol as linear_is, late_symbol as late_is, linear_command_of as linear_command_is, plain_command as plain_is, command_of as command_is};
 ghost use Rattle.vp_zpl.specs.Shown.{shown_part, shown_parts};
 
 use crate::item::{
-    Code128Mode, Colour, Command, GraphicFormat, Justification, LineSpace, Orientation,
+    Code128Mode, Colour, Command, GraphicFormat, Justification, LineSpace, LinearCode, Orientation,
 };
-use crate::name::{BarCommand, FieldCommand, Kind, LabelCommand, Plain, PrintCommand};
+use crate::name::{
+    BarCommand, FieldCommand, Kind, LabelCommand, LinearCommand, Plain, PrintCommand,
+};
 use crate::part::{Part, capital, is_digit, number_in};
+use vp_bar_code::MsiChecks;
 
 fn number_at(n: usize, parameters: &[Part]) -> Option<u32>
     ensures { result ≡ number_is n (shown_parts parameters.now) }
@@ -92,6 +95,18 @@ fn mode_of(letter: Option<u8>) -> Option<Code128Mode>
         Some(b'U') => Some(Code128Mode::UccCase),
         Some(b'A') => Some(Code128Mode::Automatic),
         Some(b'D') => Some(Code128Mode::UccEan),
+        _ => None,
+    }
+}
+
+fn msi_checks_of(letter: Option<u8>) -> Option<MsiChecks>
+    ensures { result ≡ msi_checks_as letter }
+{
+    match letter {
+        Some(b'A') => Some(MsiChecks::None),
+        Some(b'B') => Some(MsiChecks::Mod10),
+        Some(b'C') => Some(MsiChecks::Mod10Twice),
+        Some(b'D') => Some(MsiChecks::Mod11Mod10),
         _ => None,
     }
 }
@@ -309,6 +324,58 @@ fn bar_command_of(command: BarCommand, sent: &[Part]) -> Command
     }
 }
 
+/// A symbol whose height is its second parameter.
+fn linear_symbol(code: LinearCode, sent: &[Part]) -> Command
+    ensures { result ≡ linear_is code (shown_parts sent.now) }
+{
+    Command::Linear {
+        code,
+        orientation: orientation_at(0, sent),
+        height: number_at(1, sent),
+        text: yes_at(2, sent),
+        above: yes_at(3, sent),
+    }
+}
+
+/// A symbol whose height is its third parameter, behind its check digits.
+fn late_symbol(code: LinearCode, sent: &[Part]) -> Command
+    ensures { result ≡ late_is code (shown_parts sent.now) }
+{
+    Command::Linear {
+        code,
+        orientation: orientation_at(0, sent),
+        height: number_at(2, sent),
+        text: yes_at(3, sent),
+        above: yes_at(4, sent),
+    }
+}
+
+/// ^B: what the whole language adds.
+fn linear_command_of(command: LinearCommand, sent: &[Part]) -> Command
+    ensures { result ≡ linear_command_is command (shown_parts sent.now) }
+{
+    match command {
+        LinearCommand::Code11 => {
+            let one_check = yes_at(1, sent);
+            late_symbol(LinearCode::Code11 { one_check }, sent)
+        }
+        LinearCommand::Interleaved => {
+            let check = yes_at(4, sent);
+            linear_symbol(LinearCode::Interleaved { check }, sent)
+        }
+        LinearCommand::Ean8 => linear_symbol(LinearCode::Ean8, sent),
+        LinearCommand::UpcE => linear_symbol(LinearCode::UpcE, sent),
+        LinearCommand::Code93 => linear_symbol(LinearCode::Code93, sent),
+        LinearCommand::Codabar => late_symbol(LinearCode::Codabar, sent),
+        LinearCommand::Msi => {
+            let checks = msi_checks_of(letter_at(1, sent));
+            late_symbol(LinearCode::Msi { checks }, sent)
+        }
+        LinearCommand::AddOn => linear_symbol(LinearCode::AddOn, sent),
+        LinearCommand::UpcA => linear_symbol(LinearCode::UpcA, sent),
+    }
+}
+
 fn plain_command(plain: Plain, sent: &[Part]) -> Command
     ensures { result ≡ plain_is plain (shown_parts sent.now) }
 {
@@ -317,6 +384,7 @@ fn plain_command(plain: Plain, sent: &[Part]) -> Command
         Plain::Label(command) => label_command_of(command, sent),
         Plain::Print(command) => print_command_of(command, sent),
         Plain::Bar(command) => bar_command_of(command, sent),
+        Plain::Linear(command) => linear_command_of(command, sent),
         Plain::GraphicBox => Command::GraphicBox {
             width: number_at(0, sent),
             height: number_at(1, sent),

@@ -5,6 +5,7 @@ ghost use Rattle.vp_zpl.specs.Shown.{data_bytes};
 use crate::name::Name;
 use crate::part::Part;
 use arrayvec::ArrayVec;
+use vp_bar_code::MsiChecks;
 
 /// How a field is turned, clockwise.
 #[derive(Clone, Copy, Debug, PartialEq, Eq)]
@@ -63,6 +64,29 @@ pub enum LineSpace {
     Added(u32),
     /// With `-` before the number.
     Deleted(u32),
+}
+
+/// A linear symbol that the whole language adds, with what it alone says.
+#[derive(Clone, Copy)]
+pub enum LinearCode {
+    /// ^B1: whether there is one check digit, in place of two.
+    Code11 { one_check: Option<bool> },
+    /// ^B2: whether there is a check digit.
+    Interleaved { check: Option<bool> },
+    /// ^B8
+    Ean8,
+    /// ^B9
+    UpcE,
+    /// ^BA
+    Code93,
+    /// ^BK
+    Codabar,
+    /// ^BM: A, B, C or D.
+    Msi { checks: Option<MsiChecks> },
+    /// ^BS
+    AddOn,
+    /// ^BU
+    UpcA,
 }
 
 /// A command with its arguments, by Zebra's names. An argument that is missing or can't be read is `None`:
@@ -160,6 +184,14 @@ pub enum Command {
         text: Option<bool>,
         above: Option<bool>,
         mode: Option<Code128Mode>,
+    },
+    /// ^B1, ^B2, ^B8, ^B9, ^BA, ^BK, ^BM, ^BS, ^BU
+    Linear {
+        code: LinearCode,
+        orientation: Option<Orientation>,
+        height: Option<u32>,
+        text: Option<bool>,
+        above: Option<bool>,
     },
     /// ^BQ: the model, and the dots of a module's side.
     QrCode {
