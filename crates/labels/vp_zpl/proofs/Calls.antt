@@ -12,13 +12,13 @@ use Rattle.vp_zpl.specs.Items.{name_of, given, given_named}
 use Rattle.vp_zpl.specs.Reader.{Named, StandsIn, Goes, in_phase, indicator_at, at_name, phase_behind, indicator_behind}
 use Rattle.vp_zpl.proofs.Phases.{at_indicator}
 
-name_gives : {reading : Reading} (k : Kind) (before : List (List ℕ)) (name : Name) → given_named reading k before name [] ≡ at_name k name
+name_gives : (reading : Reading) (k : Kind) (before : List (List ℕ)) (name : Name) → given_named reading k before name [] ≡ at_name k name
 unfolding is_whole
-name_gives k before name = grind arith
+name_gives reading k before name = grind arith
 
-behind_indicates : {reading : Reading} (k : Kind) (command : List ℕ) (before : List (List ℕ)) → indicator reading (command ∷ before) ≡ indicator_by (Some k) command (in_format reading before) (indicator reading before)
+behind_indicates : (reading : Reading) (k : Kind) (command : List ℕ) (before : List (List ℕ)) → indicator reading (command ∷ before) ≡ indicator_by (Some k) command (in_format reading before) (indicator reading before)
     → indicator_behind k (indicator reading before) ≡ indicator_at reading (phase_behind k) command before
-behind_indicates k command before e = grind arith
+behind_indicates reading k command before e = grind arith
 
 behind_phase : {reading : Reading} (k : Kind) (new : ZplReader) (command : List ℕ) → Named reading new k [] command → shown_parts new.sent.parameters.items ≡ [] → shown_part new.part ≡ kept []
     → in_phase reading (phase_behind k) new command

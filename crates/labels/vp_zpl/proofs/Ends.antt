@@ -35,7 +35,7 @@ parameters_end {reading} r new before command k sign stands p ends same opened p
     let o : new.in_format ≡ in_format_by (Some k) (in_format reading before) = opened ∙ stands.opened ∙ opened-is h.named before in
     record {
       gives = at_end-is h.named before ∙ (grind arith) ∙ ap (λ x. item_of k r.sent.name x ∷ []) (sym ps)
-          ∙ sym (ap (λ x. x ++ item_of k r.sent.name (shown_parts new.sent.parameters.items) ∷ []) (given-is h.named before ∙ none_given k before r.sent.name h.args h.takes h.not_whole));
+          ∙ sym (ap (λ x. x ++ item_of k r.sent.name (shown_parts new.sent.parameters.items) ∷ []) (given-is h.named before ∙ none_given reading k before r.sent.name h.args h.takes h.not_whole));
       stands = sign_stands new before command sign (same ∙ stands.reads) (opened ∙ stands.opened)
           (indicates ∙ ap (λ x. indicator_with k (shown_parts new.sent.parameters.items) x r.indicator) o ∙ ap (indicator_with k (shown_parts new.sent.parameters.items) (in_format_by (Some k) (in_format reading before))) i
           ∙ (grind arith)
@@ -43,8 +43,8 @@ parameters_end {reading} r new before command k sign stands p ends same opened p
           phase;
     }
 
-whole_ends : {reading : Reading} (before : List (List ℕ)) (name : Name) (args : List ℕ) → is_whole args ≡ true → at_end_named reading kinds.Graphic before name args ≡ given_named reading kinds.Graphic before name args ++ []
-whole_ends before name args w = rw w (sym (append-nil (graphic name args)))
+whole_ends : (reading : Reading) (before : List (List ℕ)) (name : Name) (args : List ℕ) → is_whole args ≡ true → at_end_named reading kinds.Graphic before name args ≡ given_named reading kinds.Graphic before name args ++ []
+whole_ends reading before name args w = rw w (sym (append-nil (graphic name args)))
 
 pub text_ends : (o : Option ℕ) (args : List ℕ) → text_at_end o args ≡ text_known o args ++ waiting o args
 text_ends o args = grind (arith, append-nil, at_the_end)
@@ -58,22 +58,22 @@ text_gives {reading} r before command left h i =
     ∙ ap (λ x. given reading before command ++ data_items x) h.waits
 
 -- what the phases leave over
-gives_in : {reading : Reading} (q : Phase) (r : ZplReader) (before : List (List ℕ)) (command : List ℕ) → in_phase reading q r command → ((k : Kind) → q ≡ Parameters k → ⊥)
+gives_in : (reading : Reading) (q : Phase) (r : ZplReader) (before : List (List ℕ)) (command : List ℕ) → in_phase reading q r command → ((k : Kind) → q ≡ Parameters k → ⊥)
     → r.indicator ≡ indicator_at reading q command before → at_end reading before command ≡ given reading before command ++ data_items (left_over q)
 unfolding at_end given
-gives_in Outside r before command h not i = rw h refl
-gives_in (AfterSign s) r before command h not i = rw h refl
-gives_in (AfterFirst s a) r before command h not i = rw h refl
-gives_in Skipping r before command h not i =
+gives_in reading Outside r before command h not i = rw h refl
+gives_in reading (AfterSign s) r before command h not i = rw h refl
+gives_in reading (AfterFirst s a) r before command h not i = rw h refl
+gives_in reading Skipping r before command h not i =
     at_end-is h.named before ∙ (grind arith) ∙ ap (λ x. x ++ []) (sym (given-is h.named before))
-gives_in (Parameters k) r before command h not i = absurd (not k refl)
-gives_in Text r before command h not i = text_gives r before command [] h i
-gives_in (AfterIndicator x) r before command h not i = text_gives r before command (x ∷ []) h.1 i
-gives_in (AfterDigit x d) r before command h not i = text_gives r before command (x ∷ d ∷ []) h.1 i
-gives_in Codes r before command h not i =
-    at_end-is h.named before ∙ whole_ends before r.sent.name h.args h.whole ∙ ap (λ x. x ++ []) (sym (given-is h.named before))
-gives_in (Binary n) r before command h not i =
-    at_end-is h.named before ∙ whole_ends before r.sent.name h.args h.whole ∙ ap (λ x. x ++ []) (sym (given-is h.named before))
+gives_in reading (Parameters k) r before command h not i = absurd (not k refl)
+gives_in reading Text r before command h not i = text_gives r before command [] h i
+gives_in reading (AfterIndicator x) r before command h not i = text_gives r before command (x ∷ []) h.1 i
+gives_in reading (AfterDigit x d) r before command h not i = text_gives r before command (x ∷ d ∷ []) h.1 i
+gives_in reading Codes r before command h not i =
+    at_end-is h.named before ∙ whole_ends reading before r.sent.name h.args h.whole ∙ ap (λ x. x ++ []) (sym (given-is h.named before))
+gives_in reading (Binary n) r before command h not i =
+    at_end-is h.named before ∙ whole_ends reading before r.sent.name h.args h.whole ∙ ap (λ x. x ++ []) (sym (given-is h.named before))
 
 pub others_end : {reading : Reading} (q : Phase) (r new : ZplReader) (before : List (List ℕ)) (command : List ℕ) (sign : ℕ) → StandsIn reading r before command → r.phase ≡ q
     → ((k : Kind) → q ≡ Parameters k → ⊥) → new.reading ≡ r.reading → new.in_format ≡ r.in_format → new.indicator ≡ r.indicator → new.phase ≡ AfterSign sign
@@ -81,7 +81,7 @@ pub others_end : {reading : Reading} (q : Phase) (r new : ZplReader) (before : L
 others_end {reading} q r new before command sign stands p not same opened indicates phase =
     let i : r.indicator ≡ indicator_at reading q command before = at_indicator r before command q stands p in
     record {
-      gives = gives_in q r before command (at_phase r before command q stands p) not i;
+      gives = gives_in reading q r before command (at_phase r before command q stands p) not i;
       stands = sign_stands new before command sign (same ∙ stands.reads) (opened ∙ stands.opened) (indicates ∙ i ∙ (grind arith))
           phase;
     }

@@ -41,9 +41,9 @@ abbrev pub is_indicator : Kind → Bool
 is_indicator kinds.FieldHex = true
 is_indicator _ = false
 
-pub wants_in : {reading : Reading} (p : Phase) (r : ZplReader) (o : List ℕ) → in_phase reading p r o → wants_binary reading o ≡ nat_lt 0 (left_of p)
+pub wants_in : (reading : Reading) (p : Phase) (r : ZplReader) (o : List ℕ) → in_phase reading p r o → wants_binary reading o ≡ nat_lt 0 (left_of p)
 unfolding wants_binary is_short
-wants_in p r o e = grind arith
+wants_in reading p r o e = grind arith
 
 -- a byte that the named command takes
 pub goes_named : {reading : Reading} {r : ZplReader} {k : Kind} {args : List ℕ} (shows : List Item) (new : ZplReader) (before : List (List ℕ)) (command : List ℕ) (c : ℕ) (q : Phase)

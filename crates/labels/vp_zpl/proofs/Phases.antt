@@ -62,9 +62,9 @@ text_more : (o : Option ℕ) (args : List ℕ) (c : ℕ)
 text_more None args c = (refl, refl)
 text_more (Some x) args c = let s = step x args c in (s.makes, s.leaves)
 
-text_items : {reading : Reading} (o : Option ℕ) (name : Name) (args more : List ℕ) (c : ℕ) (before : List (List ℕ)) → indicator reading before ≡ o → text_known o (args ++ c ∷ []) ≡ text_known o args ++ more
+text_items : (reading : Reading) (o : Option ℕ) (name : Name) (args more : List ℕ) (c : ℕ) (before : List (List ℕ)) → indicator reading before ≡ o → text_known o (args ++ c ∷ []) ≡ text_known o args ++ more
     → given_named reading kinds.FieldData before name (args ++ c ∷ []) ≡ given_named reading kinds.FieldData before name args ++ data_items more
-text_items o name args more c before e f = rw (e, f) (ap (λ d. item_of kinds.FieldData name [] ∷ d) (map-append Data (text_known o args) more))
+text_items reading o name args more c before e f = rw (e, f) (ap (λ d. item_of kinds.FieldData name [] ∷ d) (map-append Data (text_known o args) more))
 
 -- a byte of data: what it makes known, and where the reader then is
 pub text_goes : {reading : Reading} (r : ZplReader) (before : List (List ℕ)) (command was known now : List ℕ) (c : ℕ) (q : Phase)
@@ -74,11 +74,11 @@ pub text_goes : {reading : Reading} (r : ZplReader) (before : List (List ℕ)) (
     → in_phase reading q new (longer command c))
     → (out_of r.indicator was c ≡ known) × (left_in r.indicator was c ≡ now)
     → Goes reading (data_items known) (record r { phase = q; known = bytes }) before command c
-text_goes r before command was known now c q bytes stands h i at lands by =
+text_goes {reading} r before command was known now c q bytes stands h i at lands by =
     let t = text_more r.indicator h.args c in let new : ZplReader = record r { phase = q; known = bytes } in
     goes_named (data_items known) new before command c q h.named stands.reads stands.opened refl
     (i ∙ indicator_longer before command c h.named refl ∙ sym (at (longer command c)))
-    (text_items r.indicator r.sent.name h.args known c before (sym (i ∙ indicator-is h.named before))
+    (text_items reading r.indicator r.sent.name h.args known c before (sym (i ∙ indicator-is h.named before))
     (t.0 ∙ ap (λ k. text_known r.indicator h.args ++ k) (ap (λ w. out_of r.indicator w c) h.waits ∙ by.0)))
     refl
     (lands new refl (record {

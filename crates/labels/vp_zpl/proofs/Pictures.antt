@@ -39,8 +39,8 @@ binary_by {reading} r new before command more left c stands p same name opened i
     })
 
 pub behind_goes : {reading : Reading} (r : ZplReader) (before : List (List ℕ)) (command : List ℕ) (left c : ℕ) → StandsIn reading r before command → wants_binary reading command ≡ false → r.phase ≡ Binary left → Goes reading [] r before command c
-behind_goes r before command left c stands wants p =
-    let none = sym (wants_in (Binary left) r command (at_phase r before command (Binary left) stands p))
+behind_goes {reading} r before command left c stands wants p =
+    let none = sym (wants_in reading (Binary left) r command (at_phase r before command (Binary left) stands p))
     ∙ wants in
     let zero : left ≡ 0 = grind (arith, nat_tests, none) in
     binary_by r r before command [] left c stands p refl refl refl refl (p ∙ ap Binary (omega (arith, zero)))

@@ -1,6 +1,6 @@
 -- Data that are taken at once.
 use Rattle.std.proofs.lemmas.Grind.{common_steps}
-use Rattle.std.proofs.Common.{◌≡◌, ℕ, ◌+◌, ◌-◌, ◌<◌, ◌≤◌, Bool, true, zero, suc, Option, List, [], ◌∷◌, ◌++◌, length, take, refl, sym, ap, ◌∙◌, append_assoc, arith, subst}
+use Rattle.std.proofs.Common.{◌≡◌, ℕ, ◌-◌, ◌<◌, ◌≤◌, Bool, true, zero, suc, Option, List, [], ◌∷◌, ◌++◌, length, take, refl, sym, ap, ◌∙◌, append_assoc, arith, subst}
 use Rattle.std.proofs.lemmas.Bool.Decides.{nat_tests}
 use Rattle.std.specs.List.{prefix_len}
 use Rattle.std.proofs.lemmas.List.Sums.{prefix_len-le-length}
@@ -56,7 +56,7 @@ text_step : {reading : Reading} (r : ZplReader) → r.phase ≡ Text → (bytes 
 unfolding Stands
 text_step {reading} r p bytes c stands e =
     let s = cut reading bytes in let h = at_phase r s.before s.open_one Text stands p in
-    by_more _ r s c (wants_in Text r s.open_one h) (grind arith) (grind arith)
+    by_more _ r s c (wants_in reading Text r s.open_one h) (grind arith) (grind arith)
     (subst (λ z. Goes reading (data_items (c ∷ [])) (record r { phase = z }) s.before s.open_one c) (sym p)
     (text_goes r _ _ [] (c ∷ []) [] c Text r.known stands h (at_indicator r s.before s.open_one Text stands p)
     (λ t. refl) (λ _ _ t. t) (grind arith)))
@@ -64,16 +64,16 @@ text_step {reading} r p bytes c stands e =
 -- of ^GF A
 code_step : {reading : Reading} (r : ZplReader) → r.phase ≡ Codes → (bytes : List ℕ) (c : ℕ) → Stands reading r bytes → is_kept_code c ≡ true → Advances reading (data_items (c ∷ [])) r (cut reading bytes) c
 unfolding Stands
-code_step r p bytes c stands e =
-    by_more _ r _ c (wants_in Codes r _ (at_phase r _ _ Codes stands p)) (grind arith) (grind arith)
+code_step {reading} r p bytes c stands e =
+    by_more _ r _ c (wants_in reading Codes r _ (at_phase r _ _ Codes stands p)) (grind arith) (grind arith)
     (code_goes r r _ _ (c ∷ []) c stands p (grind arith) refl refl refl refl refl)
 
 -- of ^GF B
 binary_step : {reading : Reading} (r : ZplReader) (left : ℕ) → r.phase ≡ Binary left → 0 < left → (bytes : List ℕ) (c : ℕ) → Stands reading r bytes
     → Advances reading (data_items (c ∷ [])) (record r { phase = Binary (left - 1) }) (cut reading bytes) c
 unfolding Stands
-binary_step r left p some bytes c stands =
-    by_binary _ _ _ c (wants_in (Binary left) r _ (at_phase r _ _ (Binary left) stands p)
+binary_step {reading} r left p some bytes c stands =
+    by_binary _ _ _ c (wants_in reading (Binary left) r _ (at_phase r _ _ (Binary left) stands p)
     ∙ (grind (arith, nat_tests)))
     (binary_goes r _ _ _ left c stands (ap Rattle.vp_zpl.specs.Reader.left_of p) some refl refl refl refl refl)
 
@@ -97,16 +97,16 @@ text_by : {reading : Reading} (r : ZplReader) (before : List (List ℕ)) (comman
 text_by r before command left input h i =
     front_of h.named before input ∙ ap (λ o. text_front (waiting o h.args) o input) (sym (i ∙ indicator-is h.named before)) ∙ ap (λ u. text_front u r.indicator input) h.waits
 
-pub front_is : {reading : Reading} (q : Phase) (r : ZplReader) (before : List (List ℕ)) (command input : List ℕ) → in_phase reading q r command → r.indicator ≡ indicator_at reading q command before
+pub front_is : (reading : Reading) (q : Phase) (r : ZplReader) (before : List (List ℕ)) (command input : List ℕ) → in_phase reading q r command → r.indicator ≡ indicator_at reading q command before
     → front_by q r.indicator input ≡ front_in reading before command input
 unfolding front_in
-front_is Outside r before command input h i = rw h refl
-front_is (AfterSign s) r before command input h i = rw h refl
-front_is (AfterFirst s a) r before command input h i = rw h refl
-front_is Text r before command input h i = sym (text_by r before command [] input h i)
-front_is (AfterIndicator x) r before command input h i = sym (text_by r before command (x ∷ []) input h.1 i)
-front_is (AfterDigit x d) r before command input h i = sym (text_by r before command (x ∷ d ∷ []) input h.1 i)
-front_is _ r before command input h i = grind (arith, front_of)
+front_is reading Outside r before command input h i = rw h refl
+front_is reading (AfterSign s) r before command input h i = rw h refl
+front_is reading (AfterFirst s a) r before command input h i = rw h refl
+front_is reading Text r before command input h i = sym (text_by r before command [] input h i)
+front_is reading (AfterIndicator x) r before command input h i = sym (text_by r before command (x ∷ []) input h.1 i)
+front_is reading (AfterDigit x d) r before command input h i = sym (text_by r before command (x ∷ d ∷ []) input h.1 i)
+front_is reading _ r before command input h i = grind (arith, front_of)
 
 pub fits : (q : Phase) (o : Option ℕ) (input : List ℕ) → front_by q o input ≤ length input
 fits q o input = grind (arith, prefix_len-le-length)

@@ -1,5 +1,5 @@
 -- The profile and the whole language read alike, but for what that adds.
-use Rattle.std.proofs.Common.{◌≡◌, ℕ, Bool, false, Option, Some, List, [], ◌∷◌, ◌++◌, map, reverse, refl, sym, ap, ◌∙◌, append_assoc, arith}
+use Rattle.std.proofs.Common.{◌≡◌, ℕ, Bool, true, false, not, ◌==◌, ◌&&◌, cond, Option, Some, List, [], ◌∷◌, ◌++◌, map, reverse, refl, sym, ap, ◌∙◌, append_assoc, arith}
 use Rattle.std.proofs.lemmas.List.{append-nil, map-append}
 use Rattle.vp_zpl.specs.declared.reading.Reading.TheVariants.{Profile, Whole}
 use Rattle.vp_zpl.specs.declared.name.Kind.{Kind}
@@ -10,8 +10,8 @@ use Rattle.vp_zpl.specs.declared.name.LinearCommand.{LinearCommand}
 use Rattle.vp_zpl.specs.declared.name.Name.{Name}
 use Rattle.vp_zpl.specs.Spelling.{Kept, capital, parameters, kept_of}
 use Rattle.vp_zpl.specs.Arguments.{command_of}
-use Rattle.vp_zpl.specs.Commands.{Cut, kind_of, kind_named, profile_kind, added_kind, or_added, kind, wants_binary, wants_binary_named, with_byte, cut_back, cut, in_format, in_format_by, indicator, indicator_by, is_whole, head}
-use Rattle.vp_zpl.specs.Items.{Item, items, items_in, item_of, data_items, graphic, picture, name_of, text_known, text_at_end, given, given_named, at_end, at_end_named, all_ended}
+use Rattle.vp_zpl.specs.Commands.{Cut, kind_of, kind_named, format_command, field_command, label_command, print_command, bar_command, graphic_command, profile_kind, added_kind, or_added, kind, wants_binary, wants_binary_named, with_byte, cut_back, cut, in_format, in_format_by, indicator, indicator_by, is_whole, head}
+use Rattle.vp_zpl.specs.Items.{items, items_in, item_of, data_items, graphic, picture, name_of, text_known, text_at_end, given, given_named, at_end, at_end_named, all_ended}
 use Rattle.vp_zpl.specs.Items.Item.{Data}
 use Rattle.vp_zpl.specs.Reader.{has_parameters}
 use Rattle.vp_zpl.specs.Laws.{narrowed, skipped_by, skipped_at_name}
@@ -22,8 +22,43 @@ abbrev less : Kind → Kind
 less (kinds.Plain (plain.Linear k)) = kinds.Skipped
 less k = k
 
-profile_has : (sign a b : ℕ) → less (profile_kind sign a b) ≡ profile_kind sign a b
-profile_has sign a b = grind arith
+abbrev IsProfiled : Kind → Type 0
+IsProfiled k = less k ≡ k
+
+in_format_command : (b : ℕ) → IsProfiled (format_command b)
+in_format_command b = grind arith
+
+in_field : (b : ℕ) → IsProfiled (field_command b)
+in_field b = grind arith
+
+in_label : (b : ℕ) → IsProfiled (label_command b)
+in_label b = grind arith
+
+in_print : (b : ℕ) → IsProfiled (print_command b)
+in_print b = grind arith
+
+in_bar : (b : ℕ) → IsProfiled (bar_command b)
+in_bar b = grind arith
+
+in_graphic : (b : ℕ) → IsProfiled (graphic_command b)
+in_graphic b = grind arith
+
+profile_by : (o x f l p q g t d : Bool) (b : ℕ) → IsProfiled (cond o kinds.Skipped (cond x (format_command b) (cond f (field_command b) (cond l (label_command b)
+    (cond p (print_command b) (cond q (bar_command b) (cond g (graphic_command b) (cond t (kinds.Plain plain.Font) (cond d (kinds.Plain plain.DefaultFont) kinds.Skipped)))))))))
+profile_by true x f l p q g t d b = refl
+profile_by false true f l p q g t d b = in_format_command b
+profile_by false false true l p q g t d b = in_field b
+profile_by false false false true p q g t d b = in_label b
+profile_by false false false false true q g t d b = in_print b
+profile_by false false false false false true g t d b = in_bar b
+profile_by false false false false false false true t d b = in_graphic b
+profile_by false false false false false false false true d b = refl
+profile_by false false false false false false false false true b = refl
+profile_by false false false false false false false false false b = refl
+
+profile_has : (sign a b : ℕ) → IsProfiled (profile_kind sign a b)
+profile_has sign a b =
+    profile_by (not (sign == 0x5E)) (a == 0x58) (a == 0x46) (a == 0x4C) (a == 0x50) (a == 0x42) (a == 0x47) (a == 0x41) (a == 0x43 && b == 0x46) b
 
 added_skipped : (sign a b : ℕ) → less (added_kind sign a b) ≡ kinds.Skipped
 added_skipped sign a b = grind arith
@@ -117,13 +152,23 @@ graphic_same : (name : Name) (args : List ℕ) → map narrowed (graphic name ar
 unfolding command_of
 graphic_same name args = ap (λ is. item_of kinds.Graphic name (head args) ∷ is) (data_same (picture args))
 
+ended_graphic : (w : Bool) (name : Name) (args : List ℕ) (ps : List Kept)
+    → cond w (graphic name args) (item_of kinds.Graphic name ps ∷ []) ≡ map narrowed (cond w (graphic name args) (item_of kinds.Graphic name ps ∷ []))
+unfolding command_of
+ended_graphic true name args ps = sym (graphic_same name args)
+ended_graphic false name args ps = refl
+
+given_graphic : (w : Bool) (name : Name) (args : List ℕ) → cond w (graphic name args) [] ≡ map narrowed (cond w (graphic name args) []) ++ []
+given_graphic true name args = sym (append-nil _ ∙ graphic_same name args)
+given_graphic false name args = refl
+
 ended_by : (k : Kind) (before : List (List ℕ)) (name : Name) (args : List ℕ)
     → at_end_named Profile (less k) before name args ≡ map narrowed (at_end_named Whole k before name args)
 unfolding command_of
 ended_by kinds.FieldHex before name args = refl
 ended_by (kinds.Plain (plain.Linear k)) before name args = ap (λ i. i ∷ []) (sym (linear_skipped k name (kept_of (parameters args))))
 ended_by (kinds.Plain k) before name args = ap (λ i. i ∷ []) (sym (plain_same k name (kept_of (parameters args)) (grind arith)))
-ended_by kinds.Graphic before name args = grind (arith, graphic_same)
+ended_by kinds.Graphic before name args = ended_graphic (is_whole args) name args (kept_of (parameters args))
 ended_by kinds.FieldData before name args =
     ap (λ x. item_of kinds.FieldData name [] ∷ data_items (text_at_end x args)) (indicates_alike before)
     ∙ ap (λ is. item_of kinds.FieldData name [] ∷ is) (sym (data_same (text_at_end (indicator Whole before) args)))
@@ -142,7 +187,7 @@ unfolding command_of
 given_by kinds.FieldHex before name args = refl
 given_by (kinds.Plain (plain.Linear k)) before name args = refl
 given_by (kinds.Plain k) before name args = grind arith
-given_by kinds.Graphic before name args = grind (arith, graphic_same, append-nil)
+given_by kinds.Graphic before name args = given_graphic (is_whole args) name args
 given_by kinds.FieldData before name args =
     ap (λ x. item_of kinds.FieldData name [] ∷ data_items (text_known x args)) (indicates_alike before)
     ∙ ap (λ is. item_of kinds.FieldData name [] ∷ is) (sym (append-nil _ ∙ data_same (text_known (indicator Whole before) args)))
@@ -173,5 +218,5 @@ in_alike s =
 
 pub items_alike : (bytes : List ℕ) → items Profile bytes ≡ map narrowed (items Whole bytes) ++ skipped_at_name (cut Whole bytes).open_one
 items_alike bytes =
-    items-is bytes ∙ ap (items_in Profile) (cut_alike bytes) ∙ in_alike (cut Whole bytes)
-    ∙ ap (λ is. map narrowed is ++ skipped_at_name (cut Whole bytes).open_one) (sym (items-is bytes))
+    items-is Profile bytes ∙ ap (items_in Profile) (cut_alike bytes) ∙ in_alike (cut Whole bytes)
+    ∙ ap (λ is. map narrowed is ++ skipped_at_name (cut Whole bytes).open_one) (sym (items-is Whole bytes))

@@ -4,6 +4,9 @@ use Rattle.vp_zpl.specs.Reader.{Ends, at_sign}
 use Rattle.vp_zpl.proofs.Ends.{others_end}
 use Rattle.vp_zpl.proofs.reader.ZplReader.end.Goals as goal
 
+pub returns-in-Parameters : goal.returns-in-Parameters
+returns-in-Parameters c reading before command sign stands any = c.end_parameters.ensures reading before command sign stands c.in-Parameters.is
+
 pub returns-in_default : goal.returns-in_default
 returns-in_default c reading before command sign stands any =
     let new : ZplReader = at_sign c.undecided.new.self sign in

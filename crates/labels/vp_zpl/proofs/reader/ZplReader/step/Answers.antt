@@ -12,7 +12,7 @@ returns-then-is_line_end c reading s stands = grind (arith, nat_lt, nat_tests, b
 
 pub returns-then-is_sign : goal.returns-then-is_sign
 returns-then-is_sign c reading s stands =
-    by_sign _ _ s _ (wants_in _ _ _ stands.phase ∙ (grind (arith, nat_tests))) (sym c.is_line_end.ensures ∙ c.if-is_line_end.false) (sym c.is_sign.ensures ∙ c.if-is_sign.true)
+    by_sign _ _ s _ (wants_in reading _ _ _ stands.phase ∙ (grind (arith, nat_tests))) (sym c.is_line_end.ensures ∙ c.if-is_line_end.false) (sym c.is_sign.ensures ∙ c.if-is_sign.true)
     (c.end-event.ensures reading s.before s.open_one c.args.byte stands tt)
 
 pub returns : goal.returns
