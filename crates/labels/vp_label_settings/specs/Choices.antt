@@ -1,6 +1,8 @@
 -- Fonts, symbols and blocks, as a field asks for them.
 use Rattle.std.specs.Prelude.{ℕ, Bool, true, false, Option, Some, None, unwrap_or, min}
 use Rattle.vp_zpl.specs.declared.item.Orientation.{Orientation}
+use Rattle.vp_zpl.specs.declared.item.LinearCode.{LinearCode}
+use Rattle.vp_zpl.specs.declared.item.LinearCode.TheVariants as linear
 use Rattle.vp_zpl.specs.declared.item.Justification.{Justification}
 use Rattle.vp_zpl.specs.declared.item.Justification.TheVariants as sides
 use Rattle.vp_zpl.specs.declared.item.LineSpace.{LineSpace}
@@ -12,7 +14,11 @@ use Rattle.vp_bar_code.specs.declared.HriPosition.TheVariants as places
 use Rattle.vp_glyph.specs.declared.block.Alignment.{Alignment}
 use Rattle.vp_glyph.specs.declared.block.Alignment.TheVariants as aligned
 use Rattle.vp_bar_code.specs.declared.BarCode.{BarCode}
+use Rattle.vp_bar_code.specs.declared.BarCode.TheVariants as bars
 use Rattle.vp_bar_code.specs.declared.BarCode.TheVariants.{Code128}
+use Rattle.vp_bar_code.specs.declared.Code11Checks.{Code11Checks}
+use Rattle.vp_bar_code.specs.declared.Code11Checks.TheVariants.{One, Two}
+use Rattle.vp_bar_code.specs.declared.MsiChecks.TheVariants.{Mod10}
 use Rattle.vp_bar_code.specs.declared.Code128Data.TheVariants.{Invocations, Packed}
 use Rattle.vp_label_settings.specs.declared.choice.SymbolChoice.{SymbolChoice}
 use Rattle.vp_label_settings.specs.declared.choice.SymbolChoice.TheVariants.{Bars, NotDrawn, Qr}
@@ -42,6 +48,34 @@ code128_choice (Some Automatic) orientation height text above =
     bar_choice (Code128 Packed) orientation height text above
 code128_choice (Some UccCase) orientation height text above = NotDrawn
 code128_choice (Some UccEan) orientation height text above = NotDrawn
+
+-- ^B1: with one check character, or with two, as by default
+abbrev pub code11_checks : Bool → Code11Checks
+code11_checks true = One
+code11_checks false = Two
+
+-- ^B1, ^B2, ^B8, ^B9, ^BA, ^BK, ^BM, ^BS, ^BU: the bar code; by default ^B2 has no check digit, and ^BM
+-- one modulo 10
+abbrev pub linear_bars : LinearCode → BarCode
+linear_bars (linear.Code11 one_check) = bars.Code11 (code11_checks (unwrap_or one_check false))
+linear_bars (linear.Interleaved check) = bars.Interleaved (unwrap_or check false)
+linear_bars linear.Ean8 = bars.Ean8
+linear_bars linear.UpcE = bars.UpcE
+linear_bars linear.Code93 = bars.Code93
+linear_bars linear.Codabar = bars.Codabar
+linear_bars (linear.Msi checks) = bars.Msi (unwrap_or checks Mod10)
+linear_bars linear.AddOn = bars.AddOn
+linear_bars linear.UpcA = bars.UpcA
+
+-- the text of ^BS stands above where nothing is said
+abbrev pub stands_above : LinearCode → Bool
+stands_above linear.AddOn = true
+stands_above _ = false
+
+abbrev pub linear_choice : LinearCode → Option Orientation → Option ℕ → Option Bool → Option Bool →
+    SymbolChoice
+linear_choice code orientation height text above =
+    bar_choice (linear_bars code) orientation height text (Some (unwrap_or above (stands_above code)))
 
 -- ^BQ: the model, and the dots of a module's side
 abbrev pub qr_choice : Option ℕ → Option ℕ → SymbolChoice

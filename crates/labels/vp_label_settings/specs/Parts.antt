@@ -3,7 +3,7 @@
 use Rattle.std.specs.Prelude.{ℕ, Bool, true, false, Option, Some, None, option_map, unwrap_or, List, [], ◌∷◌, length}
 use Rattle.vp_zpl.specs.declared.item.Colour.TheVariants.{Black}
 use Rattle.vp_zpl.specs.declared.item.Command.{Command}
-use Rattle.vp_zpl.specs.declared.item.Command.TheVariants.{FormatEnd, FieldSeparator, FieldOrigin, FieldTypeset, Font, Code39, Ean13, Code128, QrCode, ReversePrint, FieldBlock as SetBlock, FieldData, GraphicBox as DrawBox, Graphic}
+use Rattle.vp_zpl.specs.declared.item.Command.TheVariants.{FormatEnd, FieldSeparator, FieldOrigin, FieldTypeset, Font, Code39, Ean13, Code128, Linear, QrCode, ReversePrint, FieldBlock as SetBlock, FieldData, GraphicBox as DrawBox, Graphic}
 use Rattle.vp_zpl.specs.Items.{Item}
 use Rattle.vp_bar_code.specs.declared.BarCode.TheVariants as codes
 use Rattle.vp_label_settings.specs.declared.choice.FontChoice.{FontChoice}
@@ -17,7 +17,7 @@ use Rattle.vp_label_settings.specs.declared.parts.OpenContent.TheVariants as con
 use Rattle.vp_label_settings.specs.declared.parts.FieldParts.{FieldParts}
 use Rattle.vp_label_settings.specs.Formats.{is_open, acting, stored}
 use Rattle.vp_label_settings.specs.Settings.{coordinate}
-use Rattle.vp_label_settings.specs.Choices.{bar_choice, code128_choice, qr_choice, field_block}
+use Rattle.vp_label_settings.specs.Choices.{bar_choice, code128_choice, linear_choice, qr_choice, field_block}
 use Rattle.vp_label_settings.specs.Graphics.{box_of, picture_head}
 
 -- ^FO, ^FT: where the field stands, counted from the home
@@ -44,7 +44,7 @@ abbrev pub font : List Item → Option FontChoice
 font [] = None
 font (item ∷ before) = acting font_by (is_open before) item (font before)
 
--- ^B3, ^BE, ^BC, ^BQ: the symbol that data are drawn as
+-- ^B3, ^BE, ^BC, ^BQ, and what the whole language adds: the symbol that data are drawn as
 abbrev pub symbol_by : Command → Option SymbolChoice → Option SymbolChoice
 symbol_by (Code39 orientation check height text above) old =
     Some (bar_choice (codes.Code39 (unwrap_or check false)) orientation height text above)
@@ -52,6 +52,8 @@ symbol_by (Ean13 orientation height text above) old =
     Some (bar_choice (codes.Ean13 true) orientation height text above)
 symbol_by (Code128 orientation height text above mode) old =
     Some (code128_choice mode orientation height text above)
+symbol_by (Linear code orientation height text above) old =
+    Some (linear_choice code orientation height text above)
 symbol_by (QrCode model dots) old = Some (qr_choice model dots)
 symbol_by FieldSeparator old = None
 symbol_by FormatEnd old = None

@@ -1,11 +1,12 @@
 //! Fonts, symbols and blocks, as a field asks for them.
 ghost use Rattle.std.specs.Prelude.{◌≡◌};
 ghost use Rattle.vp_label_settings.specs.Choices.{bar_text, bar_choice, code128_choice, qr_choice, line_space, alignment_of, field_block};
+ghost use Rattle.vp_label_settings.specs.Choices.{code11_checks, linear_bars, stands_above, linear_choice};
 
 use crate::range::ranged;
-use vp_bars::{BarCode, Code128Data, HriPosition};
+use vp_bars::{BarCode, Code11Checks, Code128Data, HriPosition, MsiChecks};
 use vp_glyph::Alignment;
-use vp_zpl::item::{Code128Mode, Justification, LineSpace, Orientation};
+use vp_zpl::item::{Code128Mode, Justification, LineSpace, LinearCode, Orientation};
 
 /// What ^A says; what it leaves out is the settings' matter when the field is closed.
 #[derive(Clone, Copy)]
@@ -28,7 +29,7 @@ pub struct BarChoice {
 /// The symbol that a field asks for.
 #[derive(Clone, Copy)]
 pub enum SymbolChoice {
-    /// ^B3, ^BE, ^BC
+    /// ^B3, ^BE, ^BC, and what the whole language adds.
     Bars(BarChoice),
     /// ^BC in its modes U and D, which aren't drawn.
     NotDrawn,
@@ -61,6 +62,50 @@ fn bar_text(text: Option<bool>, above: Option<bool>) -> HriPosition
     }
 }
 
+/// The check characters of ^B1.
+fn code11_checks(one_check: bool) -> Code11Checks
+    ensures { result ≡ code11_checks one_check }
+{
+    if one_check {
+        Code11Checks::One
+    } else {
+        Code11Checks::Two
+    }
+}
+
+/// The bar code of a symbol that the whole language adds.
+fn linear_bars(code: LinearCode) -> BarCode
+    ensures { result ≡ linear_bars code }
+{
+    match code {
+        LinearCode::Code11 { one_check } => BarCode::Code11 {
+            checks: code11_checks(one_check.unwrap_or(false)),
+        },
+        LinearCode::Interleaved { check } => BarCode::Interleaved {
+            check: check.unwrap_or(false),
+        },
+        LinearCode::Ean8 => BarCode::Ean8,
+        LinearCode::UpcE => BarCode::UpcE,
+        LinearCode::Code93 => BarCode::Code93,
+        LinearCode::Codabar => BarCode::Codabar,
+        LinearCode::Msi { checks } => BarCode::Msi {
+            checks: checks.unwrap_or(MsiChecks::Mod10),
+        },
+        LinearCode::AddOn => BarCode::AddOn,
+        LinearCode::UpcA => BarCode::UpcA,
+    }
+}
+
+/// Whether its text stands above where nothing is said.
+fn stands_above(code: LinearCode) -> bool
+    ensures { result ≡ stands_above code }
+{
+    match code {
+        LinearCode::AddOn => true,
+        _ => false,
+    }
+}
+
 impl SymbolChoice {
     /// Bars, with their text where it stands by default.
     pub fn bars(
@@ -78,6 +123,20 @@ impl SymbolChoice {
             height,
             place: bar_text(text, above),
         })
+    }
+
+    /// Bars of a symbol that the whole language adds.
+    pub fn linear(
+        code: LinearCode,
+        orientation: Option<Orientation>,
+        height: Option<u32>,
+        text: Option<bool>,
+        above: Option<bool>,
+    ) -> SymbolChoice
+        ensures { result ≡ linear_choice code orientation height text above }
+    {
+        let above = above.unwrap_or(stands_above(code));
+        SymbolChoice::bars(linear_bars(code), orientation, height, text, Some(above))
     }
 
     /// Bars of ^BC, unless its mode isn't drawn.

@@ -122,7 +122,7 @@ fn font_after(font: Option<FontChoice>, command: Command) -> Option<FontChoice>
     }
 }
 
-/// ^B3, ^BE, ^BC, ^BQ
+/// ^B3, ^BE, ^BC, ^BQ, and what the whole language adds.
 fn symbol_after(symbol: Option<SymbolChoice>, command: Command) -> Option<SymbolChoice>
     ensures { result ≡ symbol_by command symbol }
 {
@@ -158,6 +158,13 @@ fn symbol_after(symbol: Option<SymbolChoice>, command: Command) -> Option<Symbol
             above,
             mode,
         } => Some(SymbolChoice::code128(mode, orientation, height, text, above)),
+        Command::Linear {
+            code,
+            orientation,
+            height,
+            text,
+            above,
+        } => Some(SymbolChoice::linear(code, orientation, height, text, above)),
         Command::QrCode { model, module } => Some(SymbolChoice::qr(model, module)),
         Command::FieldSeparator | Command::FormatEnd => None,
         _ => symbol,

@@ -213,10 +213,12 @@ bar_command_of bars.QrCode ps = commands.QrCode (number_at 1 ps) (number_at 2 ps
 
 -- ^B in the whole language: the height is the second parameter, or the third behind check digits
 abbrev pub linear_symbol : LinearCode → List Kept → Command
-linear_symbol code ps = commands.Linear code (orientation_at 0 ps) (number_at 1 ps) (yes_at 2 ps) (yes_at 3 ps)
+linear_symbol code ps =
+    commands.Linear code (orientation_at 0 ps) (number_at 1 ps) (yes_at 2 ps) (yes_at 3 ps)
 
 abbrev pub late_symbol : LinearCode → List Kept → Command
-late_symbol code ps = commands.Linear code (orientation_at 0 ps) (number_at 2 ps) (yes_at 3 ps) (yes_at 4 ps)
+late_symbol code ps =
+    commands.Linear code (orientation_at 0 ps) (number_at 2 ps) (yes_at 3 ps) (yes_at 4 ps)
 
 abbrev pub linear_command_of : LinearCommand → List Kept → Command
 linear_command_of linear.Code11 ps = late_symbol (codes.Code11 (yes_at 1 ps)) ps

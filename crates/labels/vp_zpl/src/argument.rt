@@ -1,6 +1,8 @@
 //! What the parameters of a command mean.
 ghost use Rattle.std.specs.Prelude.{◌≡◌, ◌<◌, ℕ, Some, slice_get};
-ghost use Rattle.vp_zpl.specs.Arguments.{number_at as number_is, byte_at as byte_is, letter_at as letter_is, yes_at as yes_is, inverted_at as inverted_is, orientation_at as orientation_is, either_of, orientation_of as orientation_as, colour_of as colour_as, format_of as format_as, mode_of as mode_as, justification_of as justification_as, space_in, space_if, tenths_of as tenths_as, tenth_behind as tenth_as, tenths_if, field_command_of as field_is, label_command_of as label_is, print_command_of as print_is, bar_command_of as bar_is, msi_checks_of as msi_checks_as, linear_symbol as linear_is, late_symbol as late_is, linear_command_of as linear_command_is, plain_command as plain_is, command_of as command_is};
+ghost use Rattle.vp_zpl.specs.Arguments.{number_at as number_is, byte_at as byte_is, letter_at as letter_is, yes_at as yes_is, inverted_at as inverted_is, orientation_at as orientation_is, either_of, orientation_of as orientation_as, colour_of as colour_as, format_of as format_as, mode_of as mode_as, justification_of as justification_as, space_in, space_if, tenths_of as tenths_as, tenth_behind as tenth_as, tenths_if, field_command_of as field_is, label_command_of as label_is, print_command_of as print_is, bar_command_of as bar_is, plain_command as plain_is, command_of as command_is};
+ghost use Rattle.vp_zpl.specs.Arguments.{msi_checks_of as msi_checks_as, linear_symbol as linear_is};
+ghost use Rattle.vp_zpl.specs.Arguments.{late_symbol as late_is, linear_command_of as linear_command_is};
 ghost use Rattle.vp_zpl.specs.Shown.{shown_part, shown_parts};
 
 use crate::item::{

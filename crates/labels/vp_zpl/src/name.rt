@@ -1,6 +1,8 @@
 //! Which command a name is, and how it goes on.
 ghost use Rattle.std.specs.Prelude.{◌≡◌, Some};
-ghost use Rattle.vp_zpl.specs.Commands.{kind_of as kind_is, kind_named as kind_is_named, profile_kind as profile_is, added_kind as added_is, added_bar as added_bar_is, format_command as format_is, field_command as field_is, label_command as label_is, print_command as print_is, bar_command as bar_is, graphic_command as graphic_is, in_format_by};
+ghost use Rattle.vp_zpl.specs.Commands.{kind_of as kind_is, kind_named as kind_is_named, format_command as format_is, field_command as field_is, label_command as label_is, print_command as print_is, bar_command as bar_is, graphic_command as graphic_is, in_format_by};
+ghost use Rattle.vp_zpl.specs.Commands.{profile_kind as profile_is, added_kind as added_is};
+ghost use Rattle.vp_zpl.specs.Commands.{added_bar as added_bar_is};
 ghost use Rattle.vp_zpl.specs.Items.{name_of as name_is};
 ghost use Rattle.vp_zpl.specs.Reader.{indicator_behind as indicator_is};
 
