@@ -2,12 +2,13 @@
 use crate::checks::same;
 use std::process::Abort;
 use std::test::Fail;
-use vp_label_settings::{Home, InForce, Settings};
-use vp_zpl::{ZplItem, ZplReader};
+use vp_bars::{BarCode, Code11Checks, HriPosition, MsiChecks};
+use vp_label_settings::{BarChoice, Home, InForce, Settings, SymbolChoice};
+use vp_zpl::{Reading, ZplItem, ZplReader};
 
 /// What is in force behind a stream, of which no command is refused.
-fn in_force(stream: &[u8]) -> Option<InForce> {
-    let mut reader = ZplReader::new();
+fn in_force(reading: Reading, stream: &[u8]) -> Option<InForce> {
+    let mut reader = ZplReader::new(reading);
     let mut now = InForce::new();
     for byte in stream {
         if let Some(ZplItem::Command(sent)) = reader.take(*byte) {
@@ -24,7 +25,7 @@ fn in_force(stream: &[u8]) -> Option<InForce> {
 fn wrong_settings(rows: &[(&[u8], Settings)]) -> Option<usize> {
     for i in 0..rows.len() {
         let (stream, settings) = rows[i];
-        match in_force(stream) {
+        match in_force(Reading::Profile, stream) {
             Some(found) if found.settings == settings => {}
             _ => return Some(i),
         }
@@ -107,5 +108,81 @@ fn formats(rt: HostRuntime) -> Result<(), Fail> {
         (b"^XA^PQ999999999^FX".as_slice(), copies(99_999_999)),
     ];
     right(&rt, &rows);
+    Ok(())
+}
+
+/// The bars that the open field asks for behind a stream of the whole language.
+fn bars(stream: &[u8]) -> Option<BarChoice> {
+    match in_force(Reading::Whole, stream)?.parts.symbol {
+        Some(SymbolChoice::Bars(choice)) => Some(choice),
+        _ => None,
+    }
+}
+
+/// A command in a format and the sign behind it, the code that it asks for, and where its text stands.
+type Asked = (&'static [u8], BarCode, HriPosition);
+
+/// The first row whose stream doesn't ask for its symbol.
+fn wrong_bars(rows: &[Asked]) -> Option<usize> {
+    for i in 0..rows.len() {
+        let (stream, code, place) = rows[i];
+        match bars(stream) {
+            Some(choice) if choice.code == code && choice.place == place => {}
+            _ => return Some(i),
+        }
+    }
+    None
+}
+
+const TWO: BarCode = BarCode::Code11 {
+    checks: Code11Checks::Two,
+};
+
+const ONE: BarCode = BarCode::Code11 {
+    checks: Code11Checks::One,
+};
+
+const MOD_10: BarCode = BarCode::Msi {
+    checks: MsiChecks::Mod10,
+};
+
+const NO_CHECK: BarCode = BarCode::Msi {
+    checks: MsiChecks::None,
+};
+
+const BOTH: BarCode = BarCode::Msi {
+    checks: MsiChecks::Mod11Mod10,
+};
+
+static SYMBOLS: [Asked; 15] = [
+    (b"^XA^B1^", TWO, HriPosition::Below),
+    (b"^XA^B1N,Y,9,N^", ONE, HriPosition::None),
+    (
+        b"^XA^B2^",
+        BarCode::Interleaved { check: false },
+        HriPosition::Below,
+    ),
+    (
+        b"^XA^B2N,9,Y,Y,Y^",
+        BarCode::Interleaved { check: true },
+        HriPosition::Above,
+    ),
+    (b"^XA^B8^", BarCode::Ean8, HriPosition::Below),
+    (b"^XA^B9,,N^", BarCode::UpcE, HriPosition::None),
+    (b"^XA^BA,,Y,Y^", BarCode::Code93, HriPosition::Above),
+    (b"^XA^BK,,,N^", BarCode::Codabar, HriPosition::None),
+    (b"^XA^BM^", MOD_10, HriPosition::Below),
+    (b"^XA^BMN,A^", NO_CHECK, HriPosition::Below),
+    (b"^XA^BMN,d,,Y,Y^", BOTH, HriPosition::Above),
+    (b"^XA^BS^", BarCode::AddOn, HriPosition::Above),
+    (b"^XA^BS,,,N^", BarCode::AddOn, HriPosition::Below),
+    (b"^XA^BS,,N,Y^", BarCode::AddOn, HriPosition::None),
+    (b"^XA^BU^", BarCode::UpcA, HriPosition::Below),
+];
+
+/// The linear symbols of the whole language, and what stands where nothing is said.
+#[test]
+fn symbols(rt: HostRuntime) -> Result<(), Fail> {
+    same(&rt, &wrong_bars(&SYMBOLS), &None);
     Ok(())
 }
