@@ -23,11 +23,7 @@ fn list_items(reader: &mut ZplReader, bytes: &[u8], lines: &mut Vec<u8>) -> Resu
 }
 
 /// The lines of the bytes' items, and whether the reader is at rest.
-fn listing(
-    alloc: Global,
-    reading: Reading,
-    bytes: &[u8],
-) -> Result<(Vec<u8>, bool), AllocError> {
+fn listing(alloc: Global, reading: Reading, bytes: &[u8]) -> Result<(Vec<u8>, bool), AllocError> {
     let mut reader = ZplReader::new(reading);
     let mut lines = Vec::new(alloc);
     list_items(&mut reader, bytes, &mut lines)?;

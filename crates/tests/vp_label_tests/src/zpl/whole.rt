@@ -10,12 +10,7 @@ use vp_zpl::Reading;
 type Row = (&'static [u8], &'static [u8], &'static [u8]);
 
 /// Whether the bytes give these lines.
-fn gives(
-    alloc: Global,
-    reading: Reading,
-    bytes: &[u8],
-    lines: &[u8],
-) -> Result<bool, AllocError> {
+fn gives(alloc: Global, reading: Reading, bytes: &[u8], lines: &[u8]) -> Result<bool, AllocError> {
     let (found, _) = listing(alloc, reading, bytes)?;
     Ok(found.as_slice() == lines)
 }
@@ -44,7 +39,11 @@ static SYMBOLS: [Row; 9] = [
     (b"^B8,40^", b"^B8,40\n", b"^B8 skipped\n"),
     (b"^B9N,,N^", b"^B9N,,N\n", b"^B9 skipped\n"),
     (b"^BaN,30,Y,N,Y^", b"^BAN,30,Y,N,Y\n", b"^BA skipped\n"),
-    (b"^BKN,N,20,Y,N,A,B^", b"^BKN,N,20,Y,N,A,B\n", b"^BK skipped\n"),
+    (
+        b"^BKN,N,20,Y,N,A,B^",
+        b"^BKN,N,20,Y,N,A,B\n",
+        b"^BK skipped\n",
+    ),
     (b"^BMN,D^", b"^BMN,D\n", b"^BM skipped\n"),
     (b"^BS^", b"^BS\n", b"^BS skipped\n"),
     (b"^BUI,9,N^", b"^BUI,9,N\n", b"^BU skipped\n"),
@@ -58,12 +57,24 @@ fn symbols(rt: HostRuntime) -> Result<(), Fail> {
 
 static OTHERS: [Row; 6] = [
     (b"^XA^PW8^XZ", b"^XA\n^PW8\n^XZ\n", b"^XA\n^PW8\n^XZ\n"),
-    (b"^B4^BX^ZZ^", b"^B4 skipped\n^BX skipped\n^ZZ skipped\n", b"^B4 skipped\n^BX skipped\n^ZZ skipped\n"),
+    (
+        b"^B4^BX^ZZ^",
+        b"^B4 skipped\n^BX skipped\n^ZZ skipped\n",
+        b"^B4 skipped\n^BX skipped\n^ZZ skipped\n",
+    ),
     (b"~B2N^", b"~B2 skipped\n", b"~B2 skipped\n"),
     // an added command is given at the sign that ends it, and one that is skipped at its name
     (b"^XA^B2N,5", b"^XA\n", b"^XA\n^B2 skipped\n"),
-    (b"^B2N^FDa^", b"^B2N\n^FD\nbyte 61\n", b"^B2 skipped\n^FD\nbyte 61\n"),
-    (b"^FH^B2^FD_41^", b"^FH\n^B2\n^FD\nbyte 5f\nbyte 34\nbyte 31\n", b"^FH\n^B2 skipped\n^FD\nbyte 5f\nbyte 34\nbyte 31\n"),
+    (
+        b"^B2N^FDa^",
+        b"^B2N\n^FD\nbyte 61\n",
+        b"^B2 skipped\n^FD\nbyte 61\n",
+    ),
+    (
+        b"^FH^B2^FD_41^",
+        b"^FH\n^B2\n^FD\nbyte 5f\nbyte 34\nbyte 31\n",
+        b"^FH\n^B2 skipped\n^FD\nbyte 5f\nbyte 34\nbyte 31\n",
+    ),
 ];
 
 /// What is read alike, and where the readings part.
