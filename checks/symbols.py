@@ -145,13 +145,12 @@ def linear(letter: str) -> Tuple[str, str, str]:
         data = random.choice("ABCD") + some(DIGITS + "-$:/.+", 4, 30) + random.choice("ABCD")
         return data, data, data
     if letter == "9":
-        data = some(DIGITS + CAPITALS.decode() + "-. $/+%", 1, 30).strip() or "0"
+        data = some("".join(map(chr, range(33, 127))), 1, 30)
         return data, data, data
     if letter == "E":
-        system = random.choice("001")
-        long, six = short(system)
-        data = six if system == "0" and random.randrange(2) else long + random.choice(["", "0"])
-        return data, system + six, system + six + check_digit(long)
+        long, six = short("0")
+        data = random.choice([six, "0" + six, f"0{six}0", long, long + "0"])
+        return data, "0" + six, "0" + six + check_digit(long)
     if letter == "+":
         data = some(DIGITS, 2, 2) if random.randrange(2) else some(DIGITS, 5, 5)
         return data, data, data
@@ -197,8 +196,7 @@ def linear_offences(program: str, room: str, number: int, tools: List[str]) -> L
         if "zint" in tools and modules_of_zint(LINEAR[letter][0], for_zint) != row.rstrip("0"):
             wrong.append(f"zint: {letter} {data}: {row}")
         for tool in tools:
-            # zbarimg knows no UPC-E of number system 1
-            if tool == "zint" or tool == "zbarimg" and letter == "E" and text[0] == "1":
+            if tool == "zint":
                 continue
             said_text = read_linear(letter, tool, room, row, book[0])
             bare = text[1:-1] if letter == "B" and tool == "ZXingReader" else text
