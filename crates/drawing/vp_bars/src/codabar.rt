@@ -3,6 +3,7 @@
 ghost use Rattle.std.specs.Prelude.{◌≡◌, ◌≤◌, not, length, map, IfSome};
 ghost use Rattle.std.specs.List.{list_all};
 ghost use Rattle.std.specs.Option.{option_map};
+ghost use Rattle.vp_bar_code.specs.declared.CodabarEnds.TheVariants.{Around};
 ghost use Rattle.vp_bars.specs.Signs.{values_among};
 ghost use Rattle.vp_bars.specs.Codabar.{codabar_signs, codabar_pattern as pattern_for, is_end as is_end_value, between as between_ends, has_ends as has_both_ends, end_value as value_of_end, capital as capital_of, written, ended, codabar_of};
 
@@ -126,23 +127,35 @@ fn values_of(src: &[u8], ends: CodabarEnds) -> Option<ArrayVec<u8, 258>>
     }
 }
 
-/// Values with a start and a stop: with these, where they have none of their own.
-fn with_ends(values: &[u8], ends: CodabarEnds) -> ArrayVec<u8, 258>
+/// Values between a start and a stop, unless they have their own.
+fn put_around(values: &[u8], start: CodabarEnd, stop: CodabarEnd) -> ArrayVec<u8, 258>
     requires some { 1 ≤ length values.now }
     requires few { length values.now ≤ 255 }
-    ensures items { result.items ≡ ended ends values.now }
+    ensures items { result.items ≡ ended (Around start stop) values.now }
     ensures some { 1 ≤ length result.items }
 {
     let mut all = ArrayVec::new();
-    match ends {
-        CodabarEnds::Around { start, stop } if !has_ends(values) => {
-            all.push(end_value(start));
-            extend(&mut all, values);
-            all.push(end_value(stop));
-        }
-        _ => extend(&mut all, values),
+    if has_ends(values) {
+        extend(&mut all, values);
+        return all;
     }
+    all.push(end_value(start));
+    extend(&mut all, values);
+    all.push(end_value(stop));
     all
+}
+
+/// Values with their ends.
+fn with_ends(values: ArrayVec<u8, 258>, ends: CodabarEnds) -> ArrayVec<u8, 258>
+    requires some { 1 ≤ length values.items }
+    requires few { length values.items ≤ 255 }
+    ensures items { result.items ≡ ended ends values.items }
+    ensures some { 1 ≤ length result.items }
+{
+    match ends {
+        CodabarEnds::Data => values,
+        CodabarEnds::Around { start, stop } => put_around(values.as_slice(), start, stop),
+    }
 }
 
 /// The symbol of these bytes. The first and the last of them are its start and its stop, A, B, C or D or their
@@ -157,7 +170,7 @@ pub fn codabar_symbol(src: &[u8], ends: CodabarEnds) -> Result<Bars, Fault>
     let Some(values) = values_of(src, ends) else {
         return Err(Fault::Symbol(Why::Char));
     };
-    let values = with_ends(values.as_slice(), ends);
+    let values = with_ends(values, ends);
     if !has_ends(values.as_slice()) {
         return Err(Fault::Symbol(Why::Char));
     }
