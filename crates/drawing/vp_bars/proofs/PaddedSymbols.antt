@@ -1,6 +1,7 @@
 -- The symbol of data that are padded is that of the padded digits.
 use Rattle.std.proofs.Common.{◌≡◌, ℕ, zero, suc, ◌+◌, ◌-◌, ◌<◌, ◌≤◌, true, false, List, [], ◌∷◌, ◌++◌, length, take, replicate, refl, sym, ap, ◌∙◌, arith, Option, Some, None, Result, Ok}
 use Rattle.std.proofs.lemmas.Bool.{le-ltb}
+use Rattle.std.proofs.lemmas.Bool.Decides.{nat_tests}
 use Rattle.std.proofs.lemmas.List.{length-append, length-replicate, length-take-le}
 use Rattle.vp_dots.specs.declared.fault.Fault.{Fault}
 use Rattle.vp_bars.specs.Symbols.{Linear, within_length}
@@ -39,7 +40,7 @@ module _ (alphabet : List ℕ) where
       → length vs ≡ length (c ∷ cs)
   one_more c cs vs None r h e = cc
   one_more c cs vs (Some v) None h e = cc
-  one_more c cs vs (Some v) (Some ws) h e = let same : v ∷ ws ≡ vs = cc in ap length (sym same) ∙ ap suc (h ws refl)
+  one_more c cs vs (Some v) (Some ws) h e = let same : v ∷ ws ≡ vs = cc in let n : length vs ≡ length (v ∷ ws) = ap length (sym same) in omega (arith, h ws refl)
 
   pub values_counted : (cs vs : List ℕ) → values_among alphabet cs ≡ Some vs → length vs ≡ length cs
   values_counted [] [] e = refl
@@ -48,7 +49,7 @@ module _ (alphabet : List ℕ) where
 
 behind_zeros : (k : ℕ) (src ds : List ℕ) → values_among digits src ≡ Some ds → values_among digits (replicate k 48 ++ src) ≡ Some (replicate k 0 ++ ds)
 behind_zeros zero src ds e = e
-behind_zeros (suc k) src ds e = rw (behind_zeros k src ds e) refl
+behind_zeros (suc k) src ds e = ap (with_value (Some 0)) (behind_zeros k src ds e)
 
 pub filled_values : (count : ℕ) (src ds : List ℕ) → values_among digits src ≡ Some ds → values_among digits (filled count src) ≡ Some (padded true count ds)
 filled_values count src ds e =
@@ -62,17 +63,20 @@ filled_count count src = length-take-le count (replicate (count - length src) 48
 filled_within : (count : ℕ) (src : List ℕ) (r : Result Linear Fault) → 1 ≤ count → count ≤ 255 → within_length (filled count src) r ≡ r
 filled_within count src r h k = within_some (filled count src) r (omega (arith, filled_count count src)) (omega (arith, filled_count count src))
 
+count_fits : (n : ℕ) → (1 ≤ add_on_count n) × (add_on_count n ≤ 255)
+count_fits n = (grind (arith, nat_tests), grind (arith, nat_tests))
+
 module _ (src : List ℕ) (bars : Linear) where
   ean8_by : (o : Option (List ℕ)) → values_among digits src ≡ o → ean8_symbol true o ≡ Ok bars → ean8_of (filled 7 src) false ≡ Ok bars
   ean8_by None a e = cc
-  ean8_by (Some ds) a e = filled_within 7 src _ (omega arith) (omega arith) ∙ ap (ean8_symbol false) (filled_values 7 src ds a) ∙ e
+  ean8_by (Some ds) a e = filled_within 7 src (ean8_symbol false (values_among digits (filled 7 src))) (omega arith) (omega arith) ∙ ap (ean8_symbol false) (filled_values 7 src ds a) ∙ e
 
   pub ean8_padded : ean8_of src true ≡ Ok bars → ean8_of (filled 7 src) false ≡ Ok bars
   ean8_padded e = ean8_by (values_among digits src) refl (within_ok src (ean8_symbol true (values_among digits src)) bars e)
 
   upca_by : (o : Option (List ℕ)) → values_among digits src ≡ o → upca_symbol true o ≡ Ok bars → upca_of (filled 11 src) false ≡ Ok bars
   upca_by None a e = cc
-  upca_by (Some ds) a e = filled_within 11 src _ (omega arith) (omega arith) ∙ ap (upca_symbol false) (filled_values 11 src ds a) ∙ e
+  upca_by (Some ds) a e = filled_within 11 src (upca_symbol false (values_among digits (filled 11 src))) (omega arith) (omega arith) ∙ ap (upca_symbol false) (filled_values 11 src ds a) ∙ e
 
   pub upca_padded : upca_of src true ≡ Ok bars → upca_of (filled 11 src) false ≡ Ok bars
   upca_padded e = upca_by (values_among digits src) refl (within_ok src (upca_symbol true (values_among digits src)) bars e)
@@ -82,7 +86,7 @@ module _ (src : List ℕ) (bars : Linear) where
   add_on_by None a e = cc
   add_on_by (Some ds) a e =
       let n = add_on_count (length src) in
-      filled_within n src _ (grind arith) (grind arith)
+      filled_within n src (add_on_symbol false (values_among digits (filled n src))) (count_fits (length src)).0 (count_fits (length src)).1
       ∙ ap (add_on_symbol false) (filled_values n src ds a)
       ∙ ap (λ k. add_on_digits (padded true (add_on_count k) ds)) (sym (values_counted digits src ds a))
       ∙ e

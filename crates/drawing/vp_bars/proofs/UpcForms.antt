@@ -34,6 +34,14 @@ module _ (a b c d e f g h i j k : ℕ) where
   pub short_stands : (six : List ℕ) → short_form eleven ≡ Some six → long_form six ≡ eleven
   short_stands six h1 = stands_by six _ _ _ _ _ refl refl refl refl refl h1
 
+-- whether there is a short form, by the digits that are zeros
+by_zeros : (c d e f g h i j : Bool) (k l m n : List ℕ) → is_some (cond (c && (d && (e && (f && (g && true))))) (Some k)
+    (cond (d && (e && (f && (g && (h && true))))) (Some l) (cond (e && (f && (g && (h && (i && true))))) (Some m)
+    (cond (j && (f && (g && (h && (i && true))))) (Some n) None))))
+    ≡ cond (d && e) (cond c (f && (g && true)) (f && (g && (h && true))))
+    (cond e (f && (g && (h && (i && true)))) (j && (f && (g && (h && (i && true))))))
+by_zeros c d e f g h i j k l m n = grind arith
+
 -- an article's number by the zeros it begins with
 module _ (f g h i j : ℕ) (f_fits : f < 10) (g_fits : g < 10) (h_fits : h < 10) (i_fits : i < 10) (j_fits : j < 10) where
   abbrev article : ℕ
@@ -53,7 +61,8 @@ module _ (f g h i j : ℕ) (f_fits : f < 10) (g_fits : g < 10) (h_fits : h < 10)
 
   -- the articles that have a short form, by their maker's number
   pub articles_shortened : (a b c d e : ℕ) → is_some (short_form (0 ∷ a ∷ b ∷ c ∷ d ∷ e ∷ f ∷ g ∷ h ∷ i ∷ j ∷ [])) ≡ has_article c d e article
-  articles_shortened a b c d e = rw (below_thousand, below_hundred, below_ten, from_five) (grind (arith, nat_tests))
+  articles_shortened a b c d e = rw (below_thousand, below_hundred, below_ten, from_five)
+      (by_zeros (ltb c 3) (eqb d 0) (eqb e 0) (eqb f 0) (eqb g 0) (eqb h 0) (eqb i 0) (leb 5 j) _ _ _ _)
 
 -- behind the number system
 behind_value : (o : Option ℕ) (r : Option (List ℕ)) (vs : List ℕ) → with_value o r ≡ Some vs → r ≡ Some (drop 1 vs)
@@ -66,10 +75,14 @@ values_behind [] [] e = refl
 values_behind [] (v ∷ vs) e = cc
 values_behind (c ∷ cs) vs e = behind_value (value_among digits c) (values_among digits cs) vs e
 
+not_six : (n : ℕ) → is_count 7 n ≡ true → eqb n 6 ≡ false
+not_six n h1 = grind (arith, nat_tests)
+
 module _ (src : List ℕ) (bars : Linear) (count : is_count 7 (length src) ≡ true) where
   six_named : (vs : List ℕ) (b : Bool) → length vs ≡ length src → eqb (get_or vs 0 0) 0 ≡ b → upce_short (six_of_digits vs) ≡ Ok bars
       → upce_short (Some (take 6 (drop 1 vs))) ≡ Ok bars
-  six_named vs b h1 h2 h3 = grind (arith, nat_tests)
+  six_named vs true n m e = rw (not_six (length vs) (rw n count), rw n count, m) at e
+  six_named vs false n m e = let none : upce_short None ≡ Ok bars = rw (not_six (length vs) (rw n count), rw n count, m) at e in grind arith
 
   six_themselves : (ds : List ℕ) → length ds ≡ 6 → six_of_digits ds ≡ Some ds
   six_themselves ds h1 = rw h1 refl
@@ -84,7 +97,7 @@ module _ (src : List ℕ) (bars : Linear) (count : is_count 7 (length src) ≡ t
       let same = values_counted digits src vs a in
       let few : length (take 6 (drop 1 src)) ≡ 6 = length-take-le 6 (drop 1 src) (omega (arith, length-drop 1 src)) in
       let six : length (take 6 (drop 1 vs)) ≡ 6 = length-take-le 6 (drop 1 vs) (omega (arith, length-drop 1 vs)) in
-      within_some (take 6 (drop 1 src)) _ (omega arith) (omega arith)
+      within_some (take 6 (drop 1 src)) (upce_symbol Digits (values_among digits (take 6 (drop 1 src)))) (omega arith) (omega arith)
       ∙ ap (upce_symbol Digits) (values_taken digits 6 (drop 1 src) (drop 1 vs) (values_behind src vs a))
       ∙ ap upce_short (six_themselves (take 6 (drop 1 vs)) six)
       ∙ six_named vs (eqb (get_or vs 0 0) 0) same refl e

@@ -1,9 +1,10 @@
 //! Code 93.
 
-ghost use Rattle.std.specs.Prelude.{◌≡◌, ◌+◌, ◌*◌, ◌≤◌, ◌<◌, ◌++◌, length, true};
+ghost use Rattle.std.specs.Prelude.{◌≡◌, ◌+◌, ◌≤◌, ◌<◌, ◌++◌, length, true};
 ghost use Rattle.vp_bars.specs.declared.bars.TheConstants.{DATA_BYTES};
 ghost use Rattle.vp_bars.specs.Signs.{values_among};
-ghost use Rattle.vp_bars.specs.Code93.{code93_signs, code93_pattern as pattern_for, with_c, with_k, ascii_signs, spelled as spelled_signs, is_ascii as all_ascii, code93_symbol, code93_of, without_checks as checks_cut, code93_shown, letters_behind as letters_for, shown_behind as sign_behind, text_behind, shift_behind as next_shift, ascii_from, ascii_shown};
+ghost use Rattle.vp_bars.specs.Symbologies.{most_values};
+ghost use Rattle.vp_bars.specs.Code93.{code93_signs, code93_pattern as pattern_for, with_c, with_k, ascii_signs, spelled as spelled_signs, is_ascii as all_ascii, code93_symbol, code93_of, without_checks as checks_cut, code93_shown, letters_behind as letters_for, shown_behind as sign_behind, text_behind, shift_behind as next_shift, ascii_shown};
 
 use crate::bars::{Bars, DATA_BYTES, check_length};
 use crate::checks::weighed;
@@ -108,7 +109,8 @@ fn push_k(values: &mut ArrayVec<u8, 258>)
 
 /// The symbol of the values of signs, if there are any.
 fn symbol_of(symbology: Symbology, signs: &[u8]) -> Result<Bars, Fault>
-    requires { length signs.now ≤ DATA_BYTES }
+    requires kind { most_values symbology ≡ 258 }
+    requires few { length signs.now ≤ DATA_BYTES }
     ensures { result ≡ code93_symbol symbology (values_among code93_signs signs.now) }
 {
     let Some(mut values) = values_of_signs(SIGNS, signs) else {
@@ -141,7 +143,7 @@ fn push_signs(c: u8, signs: &mut ArrayVec<u8, 512>)
 }
 
 /// The signs of bytes of ASCII.
-#[tactic(auto, using(crate::proofs::Shown::spelled_more))]
+#[tactic(auto, using(crate::proofs::Shown::spelled_more, crate::proofs::Shown::ascii_at))]
 fn spelled(src: &[u8]) -> ArrayVec<u8, 512>
     requires few { length src.now ≤ DATA_BYTES }
     requires ascii { all_ascii src.now ≡ true }
