@@ -1,7 +1,9 @@
 -- What holds of the tables of patterns as a whole.
-use Rattle.std.specs.Prelude.{ℕ, ◌-◌, ◌==◌, Bool, true, false, not, ◌&&◌, ◌||◌, List, [], ◌∷◌, ◌++◌, length, map, take, replicate, nat_lt, nat_le, if◌then◌else◌}
+use Rattle.std.specs.Prelude.{ℕ, ◌-◌, ◌==◌, Bool, true, false, not, ◌&&◌, ◌||◌, List, [], ◌∷◌, ◌++◌, length, map, take, replicate, nat_lt, nat_le, slice_index, if◌then◌else◌}
 use Rattle.std.specs.List.{list_all}
 use Rattle.vp_bars.specs.Patterns.{set_a, set_b, set_c}
+use Rattle.vp_bar_code.specs.declared.CodabarEnd.{CodabarEnd}
+use Rattle.vp_bars.specs.Codabar.{codabar_signs, end_value}
 use Rattle.vp_bars.specs.Widths.{total}
 
 abbrev pub same : List ℕ → List ℕ → Bool
@@ -65,3 +67,10 @@ abbrev pub has_article : ℕ → ℕ → ℕ → ℕ → Bool
 has_article c d e article =
     if d == 0 && e == 0 then (if nat_lt c 3 then nat_le article 999 else nat_le article 99)
     else if e == 0 then nat_le article 9 else nat_le 5 article && nat_le article 9
+
+-- the letters that start and stop a symbol of Codabar
+abbrev pub is_letter : ℕ → Bool
+is_letter c = nat_le 65 c && nat_le c 68
+
+abbrev pub end_letter : CodabarEnd → ℕ
+end_letter letter = slice_index codabar_signs (end_value letter)

@@ -82,10 +82,10 @@ fn has_ends(values: &[u8]) -> bool
 }
 
 /// The value of a start or a stop.
-fn end_value(end: CodabarEnd) -> u8
-    ensures { result ≡ value_of_end end }
+fn end_value(letter: CodabarEnd) -> u8
+    ensures { result ≡ value_of_end letter }
 {
-    match end {
+    match letter {
         CodabarEnd::A => 16,
         CodabarEnd::B => 17,
         CodabarEnd::C => 18,

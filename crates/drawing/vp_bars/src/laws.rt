@@ -15,9 +15,10 @@ ghost use Rattle.vp_bar_code.specs.declared.BarCode.{BarCode};
 ghost use Rattle.vp_bars.specs.Symbologies.{symbol_of, text_of};
 ghost use Rattle.std.specs.List.{list_all, list_any};
 ghost use Rattle.vp_bars.specs.Patterns.{code39_table, code128_table};
-ghost use Rattle.vp_bars.specs.Laws.{distinct, three_of_nine, wide_of, codabar_elements, code11_elements, nine_modules, eleven_modules, thirteen_modules, digit_patterns, seven_modules, printed, filled, has_article};
+ghost use Rattle.vp_bars.specs.Laws.{distinct, three_of_nine, wide_of, codabar_elements, code11_elements, nine_modules, eleven_modules, thirteen_modules, digit_patterns, seven_modules, printed, filled, has_article, is_letter, end_letter};
 ghost use Rattle.vp_bars.specs.Interleaved.{two_of_five, pairs_table};
-ghost use Rattle.vp_bar_code.specs.declared.CodabarEnds.TheVariants.{Data};
+ghost use Rattle.vp_bar_code.specs.declared.CodabarEnd.{CodabarEnd};
+ghost use Rattle.vp_bar_code.specs.declared.CodabarEnds.TheVariants.{Data, Around};
 ghost use Rattle.vp_bar_code.specs.declared.Code93Data.TheVariants.{Signs, Ascii};
 ghost use Rattle.vp_bars.specs.Codabar.{codabar_table, capital, codabar_of};
 ghost use Rattle.vp_bars.specs.Code11.{code11_table, code11_end};
@@ -86,11 +87,15 @@ pub fn upc_sets_law()
     ensures five_apart { IsTrue (distinct five_sets) }
 {}
 
-/// A law: the text of a Codabar symbol is its data in capitals, with start and stop, and that of Code 93 its
-/// data, without the check characters; of ASCII a blank stands for a control character.
+/// A law: the text of a Codabar symbol is its data in capitals, with start and stop, also where these are put
+/// around data without letters, and that of Code 93 its data, without the check characters; of ASCII a blank
+/// stands for a control character.
 pub fn signs_text_law()
     ensures codabar { (src : List ℕ) (bars : Linear) → codabar_of src Data ≡ Ok bars
         → text_of bars ≡ map capital src }
+    ensures around { (start stop : CodabarEnd) (bars : Linear) (src : List ℕ) →
+        list_any is_letter src ≡ false → codabar_of src (Around start stop) ≡ Ok bars
+        → text_of bars ≡ end_letter start ∷ src ++ end_letter stop ∷ [] }
     ensures code93 { (src : List ℕ) (bars : Linear) → code93_of src Signs ≡ Ok bars → text_of bars ≡ src }
     ensures ascii { (src : List ℕ) (bars : Linear) → code93_of src Ascii ≡ Ok bars
         → text_of bars ≡ map printed src }
