@@ -1,5 +1,5 @@
 -- The text of a Code 93 symbol of ASCII is its characters.
-use Rattle.std.proofs.Common.{◌≡◌, ℕ, ◌<◌, Bool, true, false, not, eqb, ltb, ◌&&◌, List, [], ◌∷◌, ◌++◌, length, map, get_or, refl, sym, ap, ◌∙◌, append_assoc, arith, Option, Some, None, Result, Ok}
+use Rattle.std.proofs.Common.{◌≡◌, ℕ, ◌<◌, Bool, true, false, not, eqb, ltb, ◌&&◌, List, [], ◌∷◌, ◌++◌, length, map, get_or, refl, sym, ap, ◌∙◌, arith, Option, Some, None, Result, Ok}
 use Rattle.std.specs.List.{list_all, range_with_len}
 use Rattle.std.proofs.lemmas.Bool.{and_parts, eqb-true, ltb-true, not-true}
 use Rattle.std.proofs.lemmas.List.FromFn.{get_or-range_with_len}
@@ -34,7 +34,8 @@ shows (s ∷ t ∷ u ∷ ss) p = false
 
 shown_one : (c : ℕ) → c < 128 → shows (ascii_signs c) (printed c) ≡ true
 shown_one c h =
-    ap (λ n. shows (ascii_signs n) (printed n)) (sym (get_or-range_with_len 0 128 c 0 h))
+    let at : get_or (range_with_len 0 128) c 0 ≡ c = get_or-range_with_len 0 128 c 0 h ∙ omega arith in
+    ap (λ n. shows (ascii_signs n) (printed n)) (sym at)
     ∙ list_all_get (λ n. shows (ascii_signs n) (printed n)) (range_with_len 0 128) c 0 h refl
 
 -- the text of more characters behind one
@@ -46,7 +47,9 @@ module _ (p : ℕ) (text vs : List ℕ) where
   behind_sign (Some v) (Some ws) g h e =
       let same : v ∷ ws ≡ vs = cc in
       let parts = and_parts (ltb v 43) (eqb (get_or code93_signs v 0) p) g in
-      ap (ascii_from 0) (sym same) ∙ rw (parts.0, eqb-true (get_or code93_signs v 0) p parts.1) (ap (λ t. p ∷ t) (h ws refl))
+      let shown : ascii_from 0 (v ∷ ws) ≡ p ∷ text = rw parts.0
+      (ap (λ n. n ∷ ascii_from 0 ws) (eqb-true (get_or code93_signs v 0) p parts.1) ∙ ap (λ t. p ∷ t) (h ws refl)) in
+      ap (ascii_from 0) (sym same) ∙ shown
 
   behind_pair : (o q : Option ℕ) (r : Option (List ℕ)) → shows_two o q p ≡ true → ((ws : List ℕ) → r ≡ Some ws → ascii_from 0 ws ≡ text)
       → with_value o (with_value q r) ≡ Some vs → ascii_from 0 vs ≡ p ∷ text
@@ -57,8 +60,9 @@ module _ (p : ℕ) (text vs : List ℕ) where
       let same : s ∷ v ∷ ws ≡ vs = cc in
       let parts = and_parts (not (ltb s 43)) (ltb v 43 && eqb (shown_behind s v) p) g in
       let others = and_parts (ltb v 43) (eqb (shown_behind s v) p) parts.1 in
-      ap (ascii_from 0) (sym same)
-      ∙ rw (not-true (ltb s 43) parts.0, others.0, eqb-true (shown_behind s v) p others.1) (ap (λ t. p ∷ t) (h ws refl))
+      let shown : ascii_from 0 (s ∷ v ∷ ws) ≡ p ∷ text = rw (not-true (ltb s 43) parts.0, others.0)
+      (ap (λ n. n ∷ ascii_from 0 ws) (eqb-true (shown_behind s v) p others.1) ∙ ap (λ t. p ∷ t) (h ws refl)) in
+      ap (ascii_from 0) (sym same) ∙ shown
 
   behind_one : (ss rest : List ℕ) → shows ss p ≡ true → ((ws : List ℕ) → values_among code93_signs rest ≡ Some ws → ascii_from 0 ws ≡ text)
       → values_among code93_signs (ss ++ rest) ≡ Some vs → ascii_from 0 vs ≡ p ∷ text

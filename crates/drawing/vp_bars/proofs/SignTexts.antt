@@ -58,7 +58,7 @@ codabar_text src bars e = codabar_by (map capital src) bars (values_among codaba
 -- the values that start and stop a symbol are those of the letters
 end_is_letter : (v : ℕ) → v < 20 → (leb 16 v ≡ true) → is_letter (get_or codabar_signs v 0) ≡ true
 end_is_letter v l h =
-    let at : get_or (range_with_len 0 20) v 0 ≡ v = get_or-range_with_len 0 20 v 0 l in
+    let at : get_or (range_with_len 0 20) v 0 ≡ v = get_or-range_with_len 0 20 v 0 l ∙ omega arith in
     let all : (not (leb 16 (get_or (range_with_len 0 20) v 0)) || is_letter (get_or codabar_signs (get_or (range_with_len 0 20) v 0) 0)) ≡ true =
     list_all_get (λ n. not (leb 16 n) || is_letter (get_or codabar_signs n 0)) (range_with_len 0 20) v 0 l refl in
     rw (at, h) at all
