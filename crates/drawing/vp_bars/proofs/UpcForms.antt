@@ -14,21 +14,42 @@ use Rattle.vp_bars.specs.Laws.{has_article}
 use Rattle.vp_bars.proofs.PlainTexts.{within_ok}
 use Rattle.vp_bars.proofs.PaddedSymbols.{within_some, values_taken, values_counted}
 
+some_same : {x y : List ℕ} → Some x ≡ Some y → x ≡ y
+some_same h = cc
+
 module _ (a b c d e f g h i j k : ℕ) where
   abbrev eleven : List ℕ
   eleven = a ∷ b ∷ c ∷ d ∷ e ∷ f ∷ g ∷ h ∷ i ∷ j ∷ k ∷ []
+
+  -- where the zeros are, and what is left out there
+  module _ (system : leb 1 a ≡ false) where
+    by_first : (ltb d 3 && (eqb e 0 && (eqb f 0 && (eqb g 0 && (eqb h 0 && true))))) ≡ true → long_form (b ∷ c ∷ i ∷ j ∷ k ∷ d ∷ []) ≡ eleven
+    by_first h1 = grind (arith, nat_tests)
+
+    by_second : (eqb e 0 && (eqb f 0 && (eqb g 0 && (eqb h 0 && (eqb i 0 && true))))) ≡ true → long_form (b ∷ c ∷ d ∷ j ∷ k ∷ 3 ∷ []) ≡ eleven
+    by_second h1 = grind (arith, nat_tests)
+
+    by_third : (eqb f 0 && (eqb g 0 && (eqb h 0 && (eqb i 0 && (eqb j 0 && true))))) ≡ true → long_form (b ∷ c ∷ d ∷ e ∷ k ∷ 4 ∷ []) ≡ eleven
+    by_third h1 = grind (arith, nat_tests)
+
+    by_fourth : (leb 5 k && (eqb g 0 && (eqb h 0 && (eqb i 0 && (eqb j 0 && true))))) ≡ true → long_form (b ∷ c ∷ d ∷ e ∷ f ∷ k ∷ []) ≡ eleven
+    by_fourth h1 = grind (arith, nat_tests)
 
   stands_by : (six : List ℕ) (p q r s t : Bool) → leb 1 a ≡ p → (ltb d 3 && (eqb e 0 && (eqb f 0 && (eqb g 0 && (eqb h 0 && true))))) ≡ q
       → (eqb e 0 && (eqb f 0 && (eqb g 0 && (eqb h 0 && (eqb i 0 && true))))) ≡ r
       → (eqb f 0 && (eqb g 0 && (eqb h 0 && (eqb i 0 && (eqb j 0 && true))))) ≡ s
       → (leb 5 k && (eqb g 0 && (eqb h 0 && (eqb i 0 && (eqb j 0 && true))))) ≡ t
       → short_form eleven ≡ Some six → long_form six ≡ eleven
-  stands_by six true q r s t h1 h2 h3 h4 h5 h6 = grind (arith, nat_tests)
-  stands_by six false true r s t h1 h2 h3 h4 h5 h6 = grind (arith, nat_tests)
-  stands_by six false false true s t h1 h2 h3 h4 h5 h6 = grind (arith, nat_tests)
-  stands_by six false false false true t h1 h2 h3 h4 h5 h6 = grind (arith, nat_tests)
-  stands_by six false false false false true h1 h2 h3 h4 h5 h6 = grind (arith, nat_tests)
-  stands_by six false false false false false h1 h2 h3 h4 h5 h6 = grind (arith, nat_tests)
+  stands_by six true q r s t u v w x y z = let none : None ≡ Some six = rw u at z in cc
+  stands_by six false true r s t u v w x y z =
+      let some : Some (b ∷ c ∷ i ∷ j ∷ k ∷ d ∷ []) ≡ Some six = rw (u, v) at z in ap long_form (sym (some_same some)) ∙ by_first u v
+  stands_by six false false true s t u v w x y z =
+      let some : Some (b ∷ c ∷ d ∷ j ∷ k ∷ 3 ∷ []) ≡ Some six = rw (u, v, w) at z in ap long_form (sym (some_same some)) ∙ by_second u w
+  stands_by six false false false true t u v w x y z =
+      let some : Some (b ∷ c ∷ d ∷ e ∷ k ∷ 4 ∷ []) ≡ Some six = rw (u, v, w, x) at z in ap long_form (sym (some_same some)) ∙ by_third u x
+  stands_by six false false false false true u v w x y z =
+      let some : Some (b ∷ c ∷ d ∷ e ∷ f ∷ k ∷ []) ≡ Some six = rw (u, v, w, x, y) at z in ap long_form (sym (some_same some)) ∙ by_fourth u y
+  stands_by six false false false false false u v w x y z = let none : None ≡ Some six = rw (u, v, w, x, y) at z in cc
 
   -- six digits stand for the eleven whose short form they are
   pub short_stands : (six : List ℕ) → short_form eleven ≡ Some six → long_form six ≡ eleven
@@ -61,7 +82,7 @@ module _ (f g h i j : ℕ) (f_fits : f < 10) (g_fits : g < 10) (h_fits : h < 10)
 
   -- the articles that have a short form, by their maker's number
   pub articles_shortened : (a b c d e : ℕ) → is_some (short_form (0 ∷ a ∷ b ∷ c ∷ d ∷ e ∷ f ∷ g ∷ h ∷ i ∷ j ∷ [])) ≡ has_article c d e article
-  articles_shortened a b c d e = rw (below_thousand, below_hundred, below_ten, from_five)
+  articles_shortened a b c d e = rw (below_thousand, below_hundred, from_five, below_ten)
       (by_zeros (ltb c 3) (eqb d 0) (eqb e 0) (eqb f 0) (eqb g 0) (eqb h 0) (eqb i 0) (leb 5 j) _ _ _ _)
 
 -- behind the number system
