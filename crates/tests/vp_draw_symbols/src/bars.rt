@@ -3,7 +3,8 @@
 use std::alloc::{AllocError, Global};
 use std::io::Write;
 use vp_bars::{
-    BarCode, CodabarEnds, Code11Checks, Code93Data, Code128Data, HriPosition, MsiChecks, UpcEData, linear,
+    BarCode, CodabarEnds, Code11Checks, Code93Data, Code128Data, HriPosition, MsiChecks, UpcEData,
+    linear,
 };
 use vp_dots::{Ink, Op};
 use vp_glyph::{Font, Sheets};

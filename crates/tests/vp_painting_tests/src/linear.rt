@@ -1,7 +1,8 @@
 //! Worked symbols of the codes beside Code 39, EAN-13 and Code 128, and why there is none.
 use crate::checks::same;
 use vp_bars::{
-    BarCode, CodabarEnd, CodabarEnds, Code11Checks, Code93Data, HriPosition, MsiChecks, UpcEData, linear,
+    BarCode, CodabarEnd, CodabarEnds, Code11Checks, Code93Data, HriPosition, MsiChecks, UpcEData,
+    linear,
 };
 use vp_dots::{Fault, Ink, Op, Why};
 use vp_glyph::{Font, Sheets};
@@ -10,27 +11,38 @@ use vp_glyph::{Font, Sheets};
 const CODABAR: BarCode = BarCode::Codabar {
     ends: CodabarEnds::Data,
 };
+
 const CODABAR_AROUND: BarCode = BarCode::Codabar {
     ends: CodabarEnds::Around {
         start: CodabarEnd::A,
         stop: CodabarEnd::B,
     },
 };
+
 const EAN_8: BarCode = BarCode::Ean8 { padded: false };
+
 const EAN_8_PADDED: BarCode = BarCode::Ean8 { padded: true };
+
 const UPC_A: BarCode = BarCode::UpcA { padded: false };
+
 const UPC_A_PADDED: BarCode = BarCode::UpcA { padded: true };
+
 const UPC_E: BarCode = BarCode::UpcE {
     data: UpcEData::Digits,
 };
+
 const UPC_E_MAKER: BarCode = BarCode::UpcE {
     data: UpcEData::MakerArticle,
 };
+
 const ADD_ON: BarCode = BarCode::AddOn { padded: false };
+
 const ADD_ON_PADDED: BarCode = BarCode::AddOn { padded: true };
+
 const CODE_93: BarCode = BarCode::Code93 {
     data: Code93Data::Ascii,
 };
+
 const CODE_93_SIGNS: BarCode = BarCode::Code93 {
     data: Code93Data::Signs,
 };
@@ -63,12 +75,7 @@ static SYMBOLS: [Worked; 43] = [
         &[0, 0],
         b"0000",
     ),
-    (
-        CODABAR,
-        b"A40156B",
-        &[16, 4, 0, 1, 5, 6, 17],
-        b"A40156B",
-    ),
+    (CODABAR, b"A40156B", &[16, 4, 0, 1, 5, 6, 17], b"A40156B"),
     (
         CODABAR,
         b"C-$:/.+D",
@@ -232,12 +239,7 @@ static SYMBOLS: [Worked; 43] = [
         &[23, 15, 24, 2, 24, 14, 24, 9, 24, 5],
         b"52495",
     ),
-    (
-        CODABAR,
-        b"a40156B",
-        &[16, 4, 0, 1, 5, 6, 17],
-        b"A40156B",
-    ),
+    (CODABAR, b"a40156B", &[16, 4, 0, 1, 5, 6, 17], b"A40156B"),
     (
         CODABAR_AROUND,
         b"40156",
@@ -245,7 +247,12 @@ static SYMBOLS: [Worked; 43] = [
         b"A40156B",
     ),
     (CODABAR_AROUND, b"C1D", &[18, 1, 19], b"C1D"),
-    (CODE_93, b"TEST93", &[29, 14, 28, 29, 9, 3, 41, 6], b"TEST93"),
+    (
+        CODE_93,
+        b"TEST93",
+        &[29, 14, 28, 29, 9, 3, 41, 6],
+        b"TEST93",
+    ),
     (CODE_93, b"a", &[46, 10, 8, 25], b"a"),
     (CODE_93, b"\x01", &[43, 10, 2, 10], b" "),
     (CODE_93, b"\x7F", &[44, 29, 23, 25], b" "),
