@@ -70,6 +70,6 @@ pub use symbology::{Symbology, linear};
 pub use upc_a::upca;
 pub use upc_e::upce;
 pub use vp_bar_code::{
-    BarCode, CodabarEnd, CodabarEnds, Code11Checks, Code93Data, Code128Data, HriPosition, MsiChecks,
-    UpcEData,
+    BarCode, CodabarEnd, CodabarEnds, Code11Checks, Code93Data, Code128Data, HriPosition,
+    MsiChecks, UpcEData,
 };
