@@ -158,8 +158,8 @@ fn with_ends(values: ArrayVec<u8, 258>, ends: CodabarEnds) -> ArrayVec<u8, 258>
     }
 }
 
-/// The symbol of these bytes. The first and the last of them are its start and its stop, A, B, C or D or their
-/// small letters; or others are put around them, unless they have both, as capitals.
+/// The symbol of these bytes. The first and the last of them are its start and its stop, A, B, C or D or
+/// their small letters; or others are put around them, unless they have both, as capitals.
 ///
 /// Refused are, in this order: no bytes; more than 255 bytes (`SymbolTooLong`); a byte that isn't one of the
 /// 20 characters, and start and stop missing or elsewhere than at the ends; nothing between them.
