@@ -6,7 +6,7 @@ use Rattle.std.proofs.lemmas.Bool.Decides.{nat_tests}
 use Rattle.std.proofs.lemmas.Bool.{leb-true, eqb-true, lt-ltb}
 use Rattle.std.proofs.lemmas.List.{length-append, length-take, length-drop, get_or-take}
 use Rattle.vp_bars.specs.declared.symbology.Symbology.{Symbology}
-use Rattle.vp_bars.specs.declared.symbology.Symbology.TheVariants.{Code39, Ean13, Code128, Interleaved, Codabar, Code11, Msi, Ean8, UpcA, UpcE, AddOn, Code93}
+use Rattle.vp_bars.specs.declared.symbology.Symbology.TheVariants.{Code39, Ean13, Code128, Interleaved, Codabar, Code11, Msi, Ean8, UpcA, UpcE, AddOn, Code93, Code93Ascii}
 use Rattle.vp_dots.specs.declared.fault.Fault.{Fault}
 use Rattle.vp_dots.specs.declared.fault.Fault.TheVariants.{Symbol, SymbolTooLong}
 use Rattle.vp_dots.specs.declared.fault.Why.TheVariants.{Empty}
@@ -88,6 +88,7 @@ module _ (n w : ℕ) (n_fits : n ≤ 65535) (w_fits : w ≤ 65535) where
   pattern_light UpcE v = light_upc UpcE v
   pattern_light AddOn v = light_upc AddOn v
   pattern_light Code93 v = light _ Code93 (each_row (λ es. leb (total es + length es) 20) code93_table v refl refl)
+  pattern_light Code93Ascii v = light _ Code93Ascii (each_row (λ es. leb (total es + length es) 20) code93_table v refl refl)
   pattern_light Msi v = light _ Msi (each_row (λ es. leb (total es + length es) 20) msi_table v refl refl)
 
   start_light : (s : Symbology) → total (sized s n w (start_of s)) ≤ 20 * 65535
@@ -131,6 +132,7 @@ narrow_bars UpcA n w vs h k l = omega (arith, framed_light n w (omega arith) (om
 narrow_bars UpcE n w vs h k l = omega (arith, framed_light n w (omega arith) (omega arith) UpcE vs)
 narrow_bars AddOn n w vs h k l = omega (arith, framed_light n w (omega arith) (omega arith) AddOn vs)
 narrow_bars Code93 n w vs h k l = omega (arith, framed_light n w (omega arith) (omega arith) Code93 vs)
+narrow_bars Code93Ascii n w vs h k l = omega (arith, framed_light n w (omega arith) (omega arith) Code93Ascii vs)
 narrow_bars Msi n w vs h k l = omega (arith, framed_light n w (omega arith) (omega arith) Msi vs)
 
 -- the modules of a character of Code 128 other than the stop

@@ -21,6 +21,10 @@ pub mod SignValues
 pub mod Sums
 pub mod PairsOfDigits
 pub mod InSets
+pub mod Padded
 pub mod SignTexts
+pub mod AsciiTexts
+pub mod PaddedSymbols
+pub mod UpcForms
 pub mod BoxRows
 pub mod TextLines

@@ -12,7 +12,7 @@ use Rattle.vp_dots.proofs.Paints.{painted_same}
 use Rattle.vp_dots.proofs.Shifts.{shifted_same}
 use Rattle.vp_bars.specs.declared.pen.Pen.{Pen}
 use Rattle.vp_bars.specs.declared.symbology.Symbology.{Symbology}
-use Rattle.vp_bars.specs.declared.symbology.Symbology.TheVariants.{Code39, Ean13, Code128, Interleaved, Codabar, Code11, Msi, Ean8, UpcA, UpcE, AddOn, Code93}
+use Rattle.vp_bars.specs.declared.symbology.Symbology.TheVariants.{Code39, Ean13, Code128, Interleaved, Codabar, Code11, Msi, Ean8, UpcA, UpcE, AddOn, Code93, Code93Ascii}
 use Rattle.vp_bars.specs.Patterns.{code39_table, code128_table}
 use Rattle.vp_bars.specs.Elements.{set_a_widths}
 use Rattle.vp_bars.specs.Interleaved.{pairs_table}
@@ -77,6 +77,7 @@ regular_one UpcA n w v h = cc
 regular_one UpcE n w v h = cc
 regular_one AddOn n w v h = cc
 regular_one Code93 n w v h = by_modules n (pattern_of Code93 v) ∙ ap (λ k. k * n) (nine v (ltb-true v 47 h))
+regular_one Code93Ascii n w v h = by_modules n (pattern_of Code93 v) ∙ ap (λ k. k * n) (nine v (ltb-true v 47 h))
 regular_one Msi n w v h = grind (arith, nat_tests, by_wides (size_of Msi n w) n w (λ e. refl) (pattern_of Msi v), msi_row v)
 
 regular_next : (s : Symbology) (n w v : ℕ) → IsRegular s v → total (next_widths s n w v) ≡ step_of s n w
@@ -115,6 +116,8 @@ turned_next UpcA n w v bar h = cc
 turned_next UpcE n w v bar h = cc
 turned_next AddOn n w v bar h = cc
 turned_next Code93 n w v bar h = turned_odd (size_of Code93 n w) bar (pattern_of Code93 v)
+    ∙ ap (λ b. cond b (not bar) bar) (even _ (list_all_get (λ es. not (eqb (length es % 2) 1)) code93_table v [] (ltb-true v 47 h) refl))
+turned_next Code93Ascii n w v bar h = turned_odd (size_of Code93Ascii n w) bar (pattern_of Code93Ascii v)
     ∙ ap (λ b. cond b (not bar) bar) (even _ (list_all_get (λ es. not (eqb (length es % 2) 1)) code93_table v [] (ltb-true v 47 h) refl))
 turned_next Msi n w v bar h = turned_odd (size_of Msi n w) bar (pattern_of Msi v)
     ∙ ap (λ b. cond b (not bar) bar) (even _ (list_all_get (λ es. not (eqb (length es % 2) 1)) msi_table v [] (ltb-true v 10 h) refl))

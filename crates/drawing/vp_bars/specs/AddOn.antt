@@ -1,5 +1,5 @@
 -- The add-ons of two and five digits (ISO/IEC 15420).
-use Rattle.std.specs.Prelude.{ℕ, ◌+◌, ◌*◌, ◌%◌, ◌==◌, ◌||◌, List, [], ◌∷◌, length, codes, slice_index, slice_index_or, Option, None, Some, Result, Ok, Err, if◌then◌else◌}
+use Rattle.std.specs.Prelude.{ℕ, ◌+◌, ◌*◌, ◌%◌, ◌==◌, ◌||◌, Bool, List, [], ◌∷◌, length, codes, nat_le, slice_index, slice_index_or, Option, None, Some, Result, Ok, Err, if◌then◌else◌}
 use Rattle.std.specs.List.{flat_map}
 use Rattle.vp_dots.specs.declared.fault.Fault.{Fault}
 use Rattle.vp_dots.specs.declared.fault.Fault.TheVariants.{Symbol}
@@ -8,7 +8,7 @@ use Rattle.vp_bars.specs.declared.symbology.Symbology.TheVariants as symbologies
 use Rattle.vp_bars.specs.Symbols.{Linear, within_length}
 use Rattle.vp_bars.specs.Patterns.{numbers}
 use Rattle.vp_bars.specs.Signs.{digits, values_among}
-use Rattle.vp_bars.specs.Upc.{add_on_guard, separator, in_sets}
+use Rattle.vp_bars.specs.Upc.{add_on_guard, separator, in_sets, padded}
 
 -- the sets of two digits by their number modulo 4: 0 for A and 1 for B
 abbrev pub two_sets : List (List ℕ)
@@ -39,13 +39,20 @@ abbrev pub separated : List ℕ → List ℕ
 separated [] = []
 separated (v ∷ vs) = v ∷ flat_map behind_separator vs
 
-abbrev pub add_on_symbol : Option (List ℕ) → Result Linear Fault
-add_on_symbol None = Err (Symbol Char)
-add_on_symbol (Some ds) = if length ds == 2 || length ds == 5 then Ok (record {
+abbrev pub add_on_digits : List ℕ → Result Linear Fault
+add_on_digits ds = if length ds == 2 || length ds == 5 then Ok (record {
   symbology = symbologies.AddOn;
   values = add_on_guard ∷ separated (in_sets (add_on_sets ds) ds);
 }) else Err (Symbol Length)
 
+-- how many digits others are padded to
+abbrev pub add_on_count : ℕ → ℕ
+add_on_count n = if nat_le n 2 then 2 else 5
+
+abbrev pub add_on_symbol : Bool → Option (List ℕ) → Result Linear Fault
+add_on_symbol pad None = Err (Symbol Char)
+add_on_symbol pad (Some ds) = add_on_digits (padded pad (add_on_count (length ds)) ds)
+
 -- the symbol for these bytes, or why there is none
-abbrev pub add_on_of : List ℕ → Result Linear Fault
-add_on_of src = within_length src (add_on_symbol (values_among digits src))
+abbrev pub add_on_of : List ℕ → Bool → Result Linear Fault
+add_on_of src pad = within_length src (add_on_symbol pad (values_among digits src))

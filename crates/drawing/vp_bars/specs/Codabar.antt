@@ -1,9 +1,13 @@
 -- Codabar (EN 798).
-use Rattle.std.specs.Prelude.{ℕ, ◌-◌, Bool, not, ◌&&◌, List, [], ◌∷◌, length, take, drop, nat_lt, nat_le, codes, slice_index, slice_index_or, Option, None, Some, Result, Ok, Err, if◌then◌else◌}
+use Rattle.std.specs.Prelude.{ℕ, ◌-◌, Bool, not, ◌&&◌, List, [], ◌∷◌, ◌++◌, length, map, take, drop, nat_lt, nat_le, codes, slice_index, slice_index_or, Option, None, Some, Result, Ok, Err, if◌then◌else◌}
 use Rattle.std.specs.List.{list_all}
 use Rattle.vp_dots.specs.declared.fault.Fault.{Fault}
 use Rattle.vp_dots.specs.declared.fault.Fault.TheVariants.{Symbol}
 use Rattle.vp_dots.specs.declared.fault.Why.TheVariants.{Char, Length}
+use Rattle.vp_bar_code.specs.declared.CodabarEnd.{CodabarEnd}
+use Rattle.vp_bar_code.specs.declared.CodabarEnd.TheVariants.{A, B, C, D}
+use Rattle.vp_bar_code.specs.declared.CodabarEnds.{CodabarEnds}
+use Rattle.vp_bar_code.specs.declared.CodabarEnds.TheVariants.{Data, Around}
 use Rattle.vp_bars.specs.declared.symbology.Symbology.TheVariants as symbologies
 use Rattle.vp_bars.specs.Symbols.{Linear, within_length}
 use Rattle.vp_bars.specs.Patterns.{numbers}
@@ -41,11 +45,33 @@ has_ends vs = is_end (slice_index vs 0) && is_end (slice_index vs (length vs - 1
     && list_all (λ v. not (is_end v)) (between vs)
 
 -- start and stop have at least one character between them
-abbrev pub codabar_for : Option (List ℕ) → Result Linear Fault
-codabar_for None = Err (Symbol Char)
-codabar_for (Some vs) = if has_ends vs then (if nat_lt (length vs) 3 then Err (Symbol Length)
+abbrev pub codabar_made : List ℕ → Result Linear Fault
+codabar_made vs = if has_ends vs then (if nat_lt (length vs) 3 then Err (Symbol Length)
     else Ok (record { symbology = symbologies.Codabar; values = vs })) else Err (Symbol Char)
 
+abbrev pub end_value : CodabarEnd → ℕ
+end_value A = 16
+end_value B = 17
+end_value C = 18
+end_value D = 19
+
+-- start and stop are put around values that have none of their own
+abbrev pub ended : CodabarEnds → List ℕ → List ℕ
+ended Data vs = vs
+ended (Around start stop) vs = if has_ends vs then vs else end_value start ∷ vs ++ end_value stop ∷ []
+
+abbrev pub codabar_for : CodabarEnds → Option (List ℕ) → Result Linear Fault
+codabar_for ends None = Err (Symbol Char)
+codabar_for ends (Some vs) = codabar_made (ended ends vs)
+
+-- small letters a to d are starts and stops as well where these are of the data
+abbrev pub capital : ℕ → ℕ
+capital c = if nat_le 97 c && nat_le c 100 then c - 32 else c
+
+abbrev pub written : CodabarEnds → List ℕ → List ℕ
+written Data src = map capital src
+written (Around start stop) src = src
+
 -- the symbol for these bytes, or why there is none
-abbrev pub codabar_of : List ℕ → Result Linear Fault
-codabar_of src = within_length src (codabar_for (values_among codabar_signs src))
+abbrev pub codabar_of : List ℕ → CodabarEnds → Result Linear Fault
+codabar_of src ends = within_length src (codabar_for ends (values_among codabar_signs (written ends src)))

@@ -1,8 +1,14 @@
 -- Code 93 (AIM BC5).
-use Rattle.std.specs.Prelude.{ℕ, ◌-◌, ◌%◌, List, [], ◌∷◌, ◌++◌, length, take, codes, slice_index_or, Option, None, Some, Result, Ok, Err}
+use Rattle.std.specs.Prelude.{ℕ, ◌-◌, ◌%◌, ◌==◌, Bool, List, [], ◌∷◌, ◌++◌, length, take, codes, nat_lt, slice_index, slice_index_or, Option, None, Some, Result, Ok, Err, if◌then◌else◌}
+use Rattle.std.specs.List.{list_all, flat_map}
+use Prim.Native.Char.{code}
 use Rattle.vp_dots.specs.declared.fault.Fault.{Fault}
-use Rattle.vp_dots.specs.declared.fault.Fault.TheVariants.{Symbol}
+use Rattle.vp_dots.specs.declared.fault.Fault.TheVariants.{Symbol, SymbolTooLong}
 use Rattle.vp_dots.specs.declared.fault.Why.TheVariants.{Char}
+use Rattle.vp_bar_code.specs.declared.Code93Data.{Code93Data}
+use Rattle.vp_bar_code.specs.declared.Code93Data.TheVariants.{Signs, Ascii}
+use Rattle.vp_bars.specs.declared.bars.TheConstants.{DATA_BYTES}
+use Rattle.vp_bars.specs.declared.symbology.Symbology.{Symbology}
 use Rattle.vp_bars.specs.declared.symbology.Symbology.TheVariants as symbologies
 use Rattle.vp_bars.specs.Symbols.{Linear, within_length}
 use Rattle.vp_bars.specs.Patterns.{numbers}
@@ -50,14 +56,73 @@ with_c vs = vs ++ weighed 1 20 vs % 47 ∷ []
 abbrev pub with_k : List ℕ → List ℕ
 with_k vs = vs ++ weighed 1 15 vs % 47 ∷ []
 
-abbrev pub code93_symbol : Option (List ℕ) → Result Linear Fault
-code93_symbol None = Err (Symbol Char)
-code93_symbol (Some vs) = Ok (record { symbology = symbologies.Code93; values = with_k (with_c vs) })
+abbrev pub code93_symbol : Symbology → Option (List ℕ) → Result Linear Fault
+code93_symbol symbology None = Err (Symbol Char)
+code93_symbol symbology (Some vs) = Ok (record { symbology = symbology; values = with_k (with_c vs) })
+
+-- the shift of each character of ASCII, or a blank where it has none, and its sign or letter (table 3)
+abbrev pub ascii_shifts : List ℕ
+ascii_shifts = codes "'&&&&&&&&&&&&&&&&&&&&&&&&&&''''' (((  ((((( (             ('''''"
+    ++ codes "'                          ''''''))))))))))))))))))))))))))'''''"
+
+abbrev pub ascii_letters : List ℕ
+ascii_letters = codes "UABCDEFGHIJKLMNOPQRSTUVWXYZABCDE ABC$%FGHIJ+L-./0123456789ZFGHIJ"
+    ++ codes "VABCDEFGHIJKLMNOPQRSTUVWXYZKLMNOWABCDEFGHIJKLMNOPQRSTUVWXYZPQRST"
+
+abbrev pub ascii_signs : ℕ → List ℕ
+ascii_signs c = if slice_index ascii_shifts c == code " " then slice_index ascii_letters c ∷ []
+    else slice_index ascii_shifts c ∷ slice_index ascii_letters c ∷ []
+
+abbrev pub spelled : List ℕ → List ℕ
+spelled src = flat_map ascii_signs src
+
+abbrev pub is_ascii : List ℕ → Bool
+is_ascii src = list_all (λ c. nat_lt c 128) src
+
+-- data of ASCII have no more signs than other data
+abbrev pub ascii_symbol : List ℕ → Result Linear Fault
+ascii_symbol src = if is_ascii src then (if nat_lt DATA_BYTES (length (spelled src)) then Err SymbolTooLong
+    else code93_symbol symbologies.Code93Ascii (values_among code93_signs (spelled src)))
+    else Err (Symbol Char)
+
+abbrev pub code93_for : Code93Data → List ℕ → Result Linear Fault
+code93_for Signs src = code93_symbol symbologies.Code93 (values_among code93_signs src)
+code93_for Ascii src = ascii_symbol src
 
 -- the symbol for these bytes, or why there is none
-abbrev pub code93_of : List ℕ → Result Linear Fault
-code93_of src = within_length src (code93_symbol (values_among code93_signs src))
+abbrev pub code93_of : List ℕ → Code93Data → Result Linear Fault
+code93_of src kind = within_length src (code93_for kind src)
 
 -- the text is of the data without C and K
+abbrev pub without_checks : List ℕ → List ℕ
+without_checks vs = take (length vs - 2) vs
+
 abbrev pub code93_shown : List ℕ → List ℕ
-code93_shown vs = signs_of code93_signs (take (length vs - 2) vs)
+code93_shown vs = signs_of code93_signs (without_checks vs)
+
+-- what the letters A to Z are behind a shift: a blank for a control character
+abbrev pub letters_behind : ℕ → List ℕ
+letters_behind shift =
+    if shift == 44 then codes "     ;<=>?[\\]^_{|}~  @`   "
+    else if shift == 45 then codes "!\"#$%&'()*+,-./0123456789:"
+    else if shift == 46 then codes "abcdefghijklmnopqrstuvwxyz" else []
+
+-- what a value shows behind a shift, or behind none, which is 0
+abbrev pub shown_behind : ℕ → ℕ → ℕ
+shown_behind shift v = if shift == 0 then slice_index code93_signs v
+    else slice_index_or (letters_behind shift) (v - 10) (code " ")
+
+abbrev pub text_behind : ℕ → ℕ → List ℕ
+text_behind shift v = if nat_lt v 43 then shown_behind shift v ∷ [] else []
+
+-- the shift behind a value
+abbrev pub shift_behind : ℕ → ℕ
+shift_behind v = if nat_lt v 43 then 0 else v
+
+-- what values show, the first of them behind a shift
+abbrev pub ascii_from : ℕ → List ℕ → List ℕ
+ascii_from shift [] = []
+ascii_from shift (v ∷ vs) = text_behind shift v ++ ascii_from (shift_behind v) vs
+
+abbrev pub ascii_shown : List ℕ → List ℕ
+ascii_shown vs = ascii_from 0 (without_checks vs)

@@ -1,9 +1,10 @@
 -- What holds of the tables of patterns as a whole.
-use Rattle.std.specs.Prelude.{ℕ, ◌==◌, Bool, true, false, not, ◌&&◌, ◌||◌, List, [], ◌∷◌, ◌++◌, length, map}
+use Rattle.std.specs.Prelude.{ℕ, ◌-◌, ◌==◌, Bool, true, false, not, ◌&&◌, ◌||◌, List, [], ◌∷◌, ◌++◌, length, map, take, replicate, nat_lt, nat_le, slice_index, if◌then◌else◌}
 use Rattle.std.specs.List.{list_all}
 use Rattle.vp_bars.specs.Patterns.{set_a, set_b, set_c}
+use Rattle.vp_bar_code.specs.declared.CodabarEnd.{CodabarEnd}
+use Rattle.vp_bars.specs.Codabar.{codabar_signs, end_value}
 use Rattle.vp_bars.specs.Widths.{total}
-use Rattle.vp_bars.specs.UpcE.{upce_sets}
 
 abbrev pub same : List ℕ → List ℕ → Bool
 same [] [] = true
@@ -38,10 +39,6 @@ code11_elements es = wide_of 1 5 es || wide_of 2 5 es
 abbrev pub nine_modules : List ℕ → Bool
 nine_modules es = length es == 6 && total es == 9
 
--- the sets of UPC-E in both number systems by all check digits
-abbrev pub all_upce_sets : List (List ℕ)
-all_upce_sets = map (λ check. upce_sets 0 check) digits ++ map (λ check. upce_sets 1 check) digits
-
 -- a character of Code 128 has six elements of eleven modules, and the stop seven of thirteen
 abbrev pub eleven_modules : List ℕ → Bool
 eleven_modules es = length es == 6 && total es == 11
@@ -55,3 +52,25 @@ digit_patterns = map set_a digits ++ (map set_b digits ++ map set_c digits)
 
 abbrev pub seven_modules : List ℕ → Bool
 seven_modules ms = length ms == 7
+
+-- a character of ASCII in a text: a blank for a control character
+abbrev pub printed : ℕ → ℕ
+printed c = if nat_lt c 32 || c == 127 then 32 else c
+
+-- so many bytes, of digits with zeros before them where there are fewer
+abbrev pub filled : ℕ → List ℕ → List ℕ
+filled count src = take count (replicate (count - length src) 48 ++ src)
+
+-- the articles that a maker's number has in UPC-E, by its last three digits: up to 999 where it ends in 000,
+-- 100 or 200, up to 99 where it ends in 00 and up to 9 where in 0, and else from 5 to 9
+abbrev pub has_article : ℕ → ℕ → ℕ → ℕ → Bool
+has_article c d e article =
+    if d == 0 && e == 0 then (if nat_lt c 3 then nat_le article 999 else nat_le article 99)
+    else if e == 0 then nat_le article 9 else nat_le 5 article && nat_le article 9
+
+-- the letters that start and stop a symbol of Codabar
+abbrev pub is_letter : ℕ → Bool
+is_letter c = nat_le 65 c && nat_le c 68
+
+abbrev pub end_letter : CodabarEnd → ℕ
+end_letter letter = slice_index codabar_signs (end_value letter)

@@ -3,7 +3,7 @@
 use Rattle.std.specs.Prelude.{◌≡◌, ℕ, ◌+◌, ◌*◌, ◌≤◌, Bool, true, false, nat_lt, List, length, take}
 use Rattle.std.specs.List.{All}
 use Rattle.vp_bars.specs.declared.symbology.Symbology.{Symbology}
-use Rattle.vp_bars.specs.declared.symbology.Symbology.TheVariants.{Code39, Ean13, Code128, Interleaved, Msi, Code93}
+use Rattle.vp_bars.specs.declared.symbology.Symbology.TheVariants.{Code39, Ean13, Code128, Interleaved, Msi, Code93, Code93Ascii}
 use Rattle.vp_bars.specs.Symbologies.{gap_of}
 use Rattle.vp_bars.specs.Widths.{sized, total}
 
@@ -15,6 +15,7 @@ is_regular Code128 v = nat_lt v 106
 is_regular Interleaved v = nat_lt v 100
 is_regular Msi v = nat_lt v 10
 is_regular Code93 v = nat_lt v 47
+is_regular Code93Ascii v = nat_lt v 47
 is_regular _ v = false
 
 abbrev pub IsRegular : Symbology → ℕ → Type 0
@@ -34,6 +35,7 @@ regular_width Code128 narrow wide = 11 * narrow
 regular_width Interleaved narrow wide = 6 * narrow + 4 * wide
 regular_width Msi narrow wide = 4 * narrow + 4 * wide
 regular_width Code93 narrow wide = 9 * narrow
+regular_width Code93Ascii narrow wide = 9 * narrow
 regular_width _ narrow wide = 0
 
 -- and with the gap before it

@@ -2,7 +2,7 @@
 use Rattle.std.specs.Prelude.{ℕ, ◌*◌, ◌==◌, true, false, List, [], ◌∷◌, Result, if◌then◌else◌}
 use Rattle.vp_dots.specs.declared.fault.Fault.{Fault}
 use Rattle.vp_bars.specs.declared.symbology.Symbology.{Symbology}
-use Rattle.vp_bars.specs.declared.symbology.Symbology.TheVariants.{Code39, Ean13, Code128, Interleaved, Codabar, Code11, Msi, Ean8, UpcA, UpcE, AddOn, Code93}
+use Rattle.vp_bars.specs.declared.symbology.Symbology.TheVariants.{Code39, Ean13, Code128, Interleaved, Codabar, Code11, Msi, Ean8, UpcA, UpcE, AddOn, Code93, Code93Ascii}
 use Rattle.vp_bar_code.specs.declared.BarCode.{BarCode}
 use Rattle.vp_bar_code.specs.declared.BarCode.TheVariants as codes
 use Rattle.vp_bar_code.specs.declared.Code128Data.TheVariants.{Escapes, Invocations, Packed}
@@ -18,7 +18,7 @@ use Rattle.vp_bars.specs.Signs.{digits, signs_of}
 use Rattle.vp_bars.specs.Codabar.{codabar_signs, codabar_of, codabar_pattern}
 use Rattle.vp_bars.specs.Code11.{code11_signs, code11_of, code11_pattern, code11_end}
 use Rattle.vp_bars.specs.Msi.{msi_of, msi_pattern}
-use Rattle.vp_bars.specs.Code93.{code93_of, code93_pattern, code93_start, code93_stop, code93_shown}
+use Rattle.vp_bars.specs.Code93.{code93_of, code93_pattern, code93_start, code93_stop, code93_shown, ascii_shown}
 use Rattle.vp_bars.specs.Upc.{upc_pattern, digits_shown}
 use Rattle.vp_bars.specs.Ean8.{ean8_of}
 use Rattle.vp_bars.specs.UpcA.{upca_of}
@@ -34,14 +34,14 @@ symbol_of (codes.Code128 Escapes) bytes = code128_esc_of bytes
 symbol_of (codes.Code128 Invocations) bytes = code128_zpl_of bytes false
 symbol_of (codes.Code128 Packed) bytes = code128_zpl_of bytes true
 symbol_of (codes.Interleaved check) bytes = interleaved_of bytes check
-symbol_of codes.Codabar bytes = codabar_of bytes
+symbol_of (codes.Codabar ends) bytes = codabar_of bytes ends
 symbol_of (codes.Code11 checks) bytes = code11_of bytes checks
 symbol_of (codes.Msi checks) bytes = msi_of bytes checks
-symbol_of codes.Ean8 bytes = ean8_of bytes
-symbol_of codes.UpcA bytes = upca_of bytes
-symbol_of codes.UpcE bytes = upce_of bytes
-symbol_of codes.AddOn bytes = add_on_of bytes
-symbol_of codes.Code93 bytes = code93_of bytes
+symbol_of (codes.Ean8 padded) bytes = ean8_of bytes padded
+symbol_of (codes.UpcA padded) bytes = upca_of bytes padded
+symbol_of (codes.UpcE kind) bytes = upce_of bytes kind
+symbol_of (codes.AddOn padded) bytes = add_on_of bytes padded
+symbol_of (codes.Code93 kind) bytes = code93_of bytes kind
 
 -- the elements of a character
 abbrev pub pattern_of : Symbology → ℕ → List ℕ
@@ -57,6 +57,7 @@ pattern_of UpcA v = upc_pattern v
 pattern_of UpcE v = upc_pattern v
 pattern_of AddOn v = upc_pattern v
 pattern_of Code93 v = code93_pattern v
+pattern_of Code93Ascii v = code93_pattern v
 
 -- the elements between two characters: a narrow gap, or none
 abbrev pub gap_of : Symbology → List ℕ
@@ -72,6 +73,7 @@ start_of Interleaved = 0 ∷ 0 ∷ 0 ∷ 0 ∷ []
 start_of Code11 = code11_end
 start_of Msi = 1 ∷ 0 ∷ []
 start_of Code93 = code93_start
+start_of Code93Ascii = code93_start
 start_of _ = []
 
 abbrev pub stop_of : Symbology → List ℕ
@@ -79,6 +81,7 @@ stop_of Interleaved = 1 ∷ 0 ∷ 0 ∷ []
 stop_of Code11 = 0 ∷ code11_end
 stop_of Msi = 0 ∷ 1 ∷ 0 ∷ []
 stop_of Code93 = code93_stop
+stop_of Code93Ascii = code93_stop
 stop_of _ = []
 
 -- how wide an element is in dots: narrow or wide, or of one to four modules
@@ -98,6 +101,7 @@ size_of UpcA narrow wide e = e * narrow
 size_of UpcE narrow wide e = e * narrow
 size_of AddOn narrow wide e = e * narrow
 size_of Code93 narrow wide e = e * narrow
+size_of Code93Ascii narrow wide e = e * narrow
 
 abbrev pub text_of_values : Symbology → List ℕ → List ℕ
 text_of_values Code39 vs = characters vs
@@ -112,6 +116,7 @@ text_of_values UpcA vs = digits_shown vs
 text_of_values UpcE vs = digits_shown vs
 text_of_values AddOn vs = digits_shown vs
 text_of_values Code93 vs = code93_shown vs
+text_of_values Code93Ascii vs = ascii_shown vs
 
 -- the most values of a symbol
 abbrev pub most_values : Symbology → ℕ

@@ -1,5 +1,5 @@
 -- The characters of EAN-8, UPC-A, UPC-E and their add-ons (ISO/IEC 15420).
-use Rattle.std.specs.Prelude.{ℕ, ◌+◌, ◌-◌, ◌%◌, ◌==◌, ◌||◌, ◌&&◌, Bool, List, [], ◌∷◌, ◌++◌, take, drop, nat_lt, nat_le, if◌then◌else◌}
+use Rattle.std.specs.Prelude.{ℕ, ◌+◌, ◌-◌, ◌%◌, ◌==◌, ◌||◌, ◌&&◌, Bool, true, false, List, [], ◌∷◌, ◌++◌, length, take, drop, replicate, nat_lt, nat_le, if◌then◌else◌}
 use Rattle.std.specs.List.{flat_map}
 use Rattle.vp_bars.specs.Elements.{set_a_elements, set_b_elements}
 use Rattle.vp_bars.specs.Checks.{mod10_check}
@@ -54,6 +54,11 @@ in_set set d = if set == 0 then d else d + 10
 abbrev pub in_sets : List ℕ → List ℕ → List ℕ
 in_sets (set ∷ sets) (d ∷ ds) = in_set set d ∷ in_sets sets ds
 in_sets _ _ = []
+
+-- padded, digits that are fewer than so many get zeros on the left, and of more the first ones stand
+abbrev pub padded : Bool → ℕ → List ℕ → List ℕ
+padded false count ds = ds
+padded true count ds = take count (replicate (count - length ds) 0 ++ ds)
 
 -- so many digits and their check digit; one more that came is not looked at
 abbrev pub checked : ℕ → List ℕ → List ℕ

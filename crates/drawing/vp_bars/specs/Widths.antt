@@ -2,7 +2,7 @@
 use Rattle.std.specs.Prelude.{ℕ, ◌+◌, ◌-◌, ◌*◌, ◌==◌, Bool, true, false, not, List, [], ◌∷◌, ◌++◌, map, length, take, drop, nat_lt, if◌then◌else◌}
 use Rattle.std.specs.List.{flat_map}
 use Rattle.vp_bars.specs.declared.symbology.Symbology.{Symbology}
-use Rattle.vp_bars.specs.declared.symbology.Symbology.TheVariants.{Code39, Ean13, Code128, Interleaved, Codabar, Code11, Msi, Ean8, UpcA, UpcE, AddOn, Code93}
+use Rattle.vp_bars.specs.declared.symbology.Symbology.TheVariants.{Code39, Ean13, Code128, Interleaved, Codabar, Code11, Msi, Ean8, UpcA, UpcE, AddOn, Code93, Code93Ascii}
 use Rattle.vp_bars.specs.Symbols.{Linear}
 use Rattle.vp_bars.specs.Elements.{ean13_elements}
 use Rattle.vp_bars.specs.Patterns.{set_a, set_b, set_c, parity}
@@ -70,6 +70,7 @@ bar_widths UpcA narrow wide vs = framed_widths UpcA narrow wide vs
 bar_widths UpcE narrow wide vs = framed_widths UpcE narrow wide vs
 bar_widths AddOn narrow wide vs = framed_widths AddOn narrow wide vs
 bar_widths Code93 narrow wide vs = framed_widths Code93 narrow wide vs
+bar_widths Code93Ascii narrow wide vs = framed_widths Code93Ascii narrow wide vs
 
 -- widths together
 abbrev pub total : List ℕ → ℕ
@@ -90,6 +91,7 @@ width_of UpcA narrow wide vs = total (framed_widths UpcA narrow wide vs)
 width_of UpcE narrow wide vs = total (framed_widths UpcE narrow wide vs)
 width_of AddOn narrow wide vs = total (framed_widths AddOn narrow wide vs)
 width_of Code93 narrow wide vs = total (framed_widths Code93 narrow wide vs)
+width_of Code93Ascii narrow wide vs = total (framed_widths Code93Ascii narrow wide vs)
 
 -- whether place x of a symbol is black
 abbrev pub black_of : Symbology → ℕ → ℕ → List ℕ → ℕ → Bool
@@ -105,6 +107,7 @@ black_of UpcA narrow wide vs x = in_bar true (framed_widths UpcA narrow wide vs)
 black_of UpcE narrow wide vs x = in_bar true (framed_widths UpcE narrow wide vs) x
 black_of AddOn narrow wide vs x = in_bar true (framed_widths AddOn narrow wide vs) x
 black_of Code93 narrow wide vs x = in_bar true (framed_widths Code93 narrow wide vs) x
+black_of Code93Ascii narrow wide vs x = in_bar true (framed_widths Code93Ascii narrow wide vs) x
 
 abbrev pub bars_width : Linear → ℕ → ℕ → ℕ
 bars_width bars narrow wide = width_of bars.symbology narrow wide bars.values

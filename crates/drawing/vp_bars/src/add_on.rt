@@ -3,13 +3,13 @@
 ghost use Rattle.std.specs.Prelude.{◌≡◌, ◌+◌, ◌*◌, ◌≤◌, ◌<◌, ◌∷◌, ◌++◌, length};
 ghost use Rattle.std.specs.List.{All};
 ghost use Rattle.vp_bars.specs.Upc.{add_on_guard, in_sets};
-ghost use Rattle.vp_bars.specs.AddOn.{five_sum as sum_of_five, add_on_sets, separated as separated_values, add_on_of};
+ghost use Rattle.vp_bars.specs.AddOn.{five_sum as sum_of_five, add_on_count as count_for, add_on_sets, separated as separated_values, add_on_of};
 
 use crate::bars::{Bars, check_length};
 use crate::patterns::row;
 use crate::signs::{DIGITS, values_of_signs};
 use crate::symbology::Symbology;
-use crate::upc::{ADD_ON_GUARD, SEPARATOR, push_in_sets};
+use crate::upc::{ADD_ON_GUARD, SEPARATOR, padded, push_in_sets};
 use arrayvec::ArrayVec;
 use vp_dots::{Fault, Why};
 
@@ -87,17 +87,26 @@ fn values_of(sets: &[u8], digits: &[u8]) -> ArrayVec<u8, 258>
     values
 }
 
+/// How many digits so many are padded to.
+fn add_on_count(digits: usize) -> usize
+    ensures { result ≡ count_for digits }
+{
+    if digits <= 2 { 2 } else { 5 }
+}
+
 /// The add-on of these digits.
 ///
-/// Refused are, in this order: no bytes; more than 255 bytes (`SymbolTooLong`); a byte that isn't a digit;
-/// any count but 2 and 5.
-pub fn addon(src: &[u8]) -> Result<Bars, Fault>
-    ensures { result ≡ add_on_of src.now }
+/// With `pad`, one digit gets a zero before it, three and four get zeros to be five, and of more the first
+/// five stand. Refused are, in this order: no bytes; more than 255 bytes (`SymbolTooLong`); a byte that isn't
+/// a digit; without `pad` any count but 2 and 5.
+pub fn addon(src: &[u8], pad: bool) -> Result<Bars, Fault>
+    ensures { result ≡ add_on_of src.now pad }
 {
     check_length(src)?;
     let Some(digits) = values_of_signs(DIGITS, src) else {
         return Err(Fault::Symbol(Why::Char));
     };
+    let digits = padded(pad, add_on_count(digits.len()), digits.as_slice());
     let digits = digits.as_slice();
     let sets = match digits.len() {
         2 => sets_of_two(digits),

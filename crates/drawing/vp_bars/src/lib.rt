@@ -61,11 +61,15 @@ pub use interleaved::interleaved_symbol;
 pub use laws::{
     code39_patterns_law, code39_text_law, code93_patterns_law, code128_patterns_law,
     data_are_counted, ean13_patterns_law, ean13_text_law, interleaved_patterns_law,
-    packed_text_law, set_b_text_law, signs_text_law, upc_sets_law, wide_patterns_law,
+    packed_text_law, padded_law, set_b_text_law, signs_text_law, upc_sets_law, upce_law,
+    wide_patterns_law,
 };
 pub use msi::msi_symbol;
 pub use packing::code128_zpl;
 pub use symbology::{Symbology, linear};
 pub use upc_a::upca;
 pub use upc_e::upce;
-pub use vp_bar_code::{BarCode, Code11Checks, Code128Data, HriPosition, MsiChecks};
+pub use vp_bar_code::{
+    BarCode, CodabarEnd, CodabarEnds, Code11Checks, Code93Data, Code128Data, HriPosition,
+    MsiChecks, UpcEData,
+};

@@ -9,7 +9,7 @@ use crate::bars::Bars;
 use crate::codabar::{CODABAR_SIGNS, codabar_pattern, codabar_symbol};
 use crate::code_11::{CODE11_SIGNS, code11, code11_pattern};
 use crate::code_39::code39;
-use crate::code_93::{code93, code93_pattern, shown_signs};
+use crate::code_93::{code93, code93_pattern, shown_ascii, shown_signs};
 use crate::ean_8::ean8;
 use crate::ean_13::ean13;
 use crate::escapes::code128_esc;
@@ -42,6 +42,8 @@ pub enum Symbology {
     Code128,
     /// AIM BC5.
     Code93,
+    /// AIM BC5, of which the text is the characters of ASCII that shifts and letters stand for.
+    Code93Ascii,
     /// ISO/IEC 15420, as the four that follow.
     Ean13,
     Ean8,
@@ -67,14 +69,14 @@ pub fn linear(code: BarCode, bytes: &[u8]) -> Result<Bars, Fault>
             data: Code128Data::Packed,
         } => code128_zpl(bytes, true),
         BarCode::Interleaved { check } => interleaved_symbol(bytes, check),
-        BarCode::Codabar => codabar_symbol(bytes),
+        BarCode::Codabar { ends } => codabar_symbol(bytes, ends),
         BarCode::Code11 { checks } => code11(bytes, checks),
         BarCode::Msi { checks } => msi_symbol(bytes, checks),
-        BarCode::Ean8 => ean8(bytes),
-        BarCode::UpcA => upca(bytes),
-        BarCode::UpcE => upce(bytes),
-        BarCode::AddOn => addon(bytes),
-        BarCode::Code93 => code93(bytes),
+        BarCode::Ean8 { padded } => ean8(bytes, padded),
+        BarCode::UpcA { padded } => upca(bytes, padded),
+        BarCode::UpcE { data } => upce(bytes, data),
+        BarCode::AddOn { padded } => addon(bytes, padded),
+        BarCode::Code93 { data } => code93(bytes, data),
     }
 }
 
@@ -91,7 +93,7 @@ pub(crate) fn pattern_of(symbology: Symbology, v: u8) -> &'static [u8]
         Symbology::Codabar => codabar_pattern(v),
         Symbology::Code11 => code11_pattern(v),
         Symbology::Msi => msi_pattern(v),
-        Symbology::Code93 => code93_pattern(v),
+        Symbology::Code93 | Symbology::Code93Ascii => code93_pattern(v),
         Symbology::Ean8 | Symbology::UpcA | Symbology::UpcE | Symbology::AddOn => upc_pattern(v),
     }
 }
@@ -114,7 +116,7 @@ pub(crate) fn start_of(symbology: Symbology) -> &'static [u8]
         Symbology::Interleaved => &[0, 0, 0, 0],
         Symbology::Code11 => &[0, 0, 1, 1, 0],
         Symbology::Msi => &[1, 0],
-        Symbology::Code93 => &[1, 1, 1, 1, 4, 1],
+        Symbology::Code93 | Symbology::Code93Ascii => &[1, 1, 1, 1, 4, 1],
         _ => &[],
     }
 }
@@ -127,7 +129,7 @@ pub(crate) fn stop_of(symbology: Symbology) -> &'static [u8]
         Symbology::Interleaved => &[1, 0, 0],
         Symbology::Code11 => &[0, 0, 0, 1, 1, 0],
         Symbology::Msi => &[0, 1, 0],
-        Symbology::Code93 => &[1, 1, 1, 1, 4, 1, 1],
+        Symbology::Code93 | Symbology::Code93Ascii => &[1, 1, 1, 1, 4, 1, 1],
         _ => &[],
     }
 }
@@ -155,7 +157,8 @@ pub(crate) fn size_of(symbology: Symbology, narrow: u16, wide: u16, element: u8)
         | Symbology::UpcA
         | Symbology::UpcE
         | Symbology::AddOn
-        | Symbology::Code93 => u32::from(element) * u32::from(narrow),
+        | Symbology::Code93
+        | Symbology::Code93Ascii => u32::from(element) * u32::from(narrow),
         Symbology::Code39
         | Symbology::Interleaved
         | Symbology::Codabar
@@ -175,7 +178,7 @@ pub(crate) fn is_regular(symbology: Symbology, v: u8) -> bool
         Symbology::Code128 => v < 106,
         Symbology::Interleaved => v < 100,
         Symbology::Msi => v < 10,
-        Symbology::Code93 => v < 47,
+        Symbology::Code93 | Symbology::Code93Ascii => v < 47,
         _ => false,
     }
 }
@@ -204,7 +207,7 @@ pub(crate) fn regular_width(symbology: Symbology, narrow: u16, wide: u16) -> u32
         Symbology::Code128 => 11 * narrow,
         Symbology::Interleaved => 6 * narrow + 4 * wide,
         Symbology::Msi => 4 * narrow + 4 * wide,
-        Symbology::Code93 => 9 * narrow,
+        Symbology::Code93 | Symbology::Code93Ascii => 9 * narrow,
         _ => 0,
     }
 }
@@ -222,6 +225,7 @@ pub(crate) fn text_of(symbology: Symbology, values: &[u8]) -> ArrayVec<u8, 512>
         Symbology::Code11 => signs_of(CODE11_SIGNS, values),
         Symbology::Msi => signs_of(DIGITS, values),
         Symbology::Code93 => shown_signs(values),
+        Symbology::Code93Ascii => shown_ascii(values),
         Symbology::Ean8 | Symbology::UpcA | Symbology::UpcE | Symbology::AddOn => shown_digits(
             values,
         ),

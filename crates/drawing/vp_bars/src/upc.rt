@@ -2,7 +2,7 @@
 
 ghost use Rattle.std.specs.Prelude.{◌≡◌, ◌+◌, ◌≤◌, ◌<◌, ◌++◌, length};
 ghost use Rattle.std.specs.List.{All};
-ghost use Rattle.vp_bars.specs.Upc.{upc_pattern as pattern_for, digit_shown, digits_shown, in_set as value_in_set, in_sets, checked as checked_digits, is_count as has_count, halves as halves_of};
+ghost use Rattle.vp_bars.specs.Upc.{upc_pattern as pattern_for, digit_shown, digits_shown, in_set as value_in_set, in_sets, padded as padded_digits, checked as checked_digits, is_count as has_count, halves as halves_of};
 
 use crate::bars::extend;
 use crate::checks::mod10_check;
@@ -90,6 +90,29 @@ pub(crate) fn push_in_sets(sets: &[u8], digits: &[u8], values: &mut ArrayVec<u8,
     for i in 0..sets.len().min(digits.len()) {
         values.push(in_set(sets[i], digits[i]));
     }
+}
+
+/// The digits, or, where they are to be padded, so many: fewer with zeros on the left, and of more the first.
+#[tactic(auto, using(crate::proofs::Padded::padded_is))]
+pub(crate) fn padded(pad: bool, count: usize, digits: &[u8]) -> ArrayVec<u8, 258>
+    requires count { count ≤ 12 }
+    requires few { length digits.now ≤ 255 }
+    requires digits { All (λ d. d < 10) digits.now }
+    ensures items { result.items ≡ padded_digits pad count digits.now }
+    ensures digits { All (λ d. d < 10) result.items }
+    ensures few { length result.items ≤ 255 }
+{
+    let mut all = ArrayVec::new();
+    if !pad {
+        extend(&mut all, digits);
+        return all;
+    }
+    let front = &digits[..digits.len().min(count)];
+    for _ in 0..count - front.len() {
+        all.push(0);
+    }
+    extend(&mut all, front);
+    all
 }
 
 /// The first digits, so many, and their check digit.

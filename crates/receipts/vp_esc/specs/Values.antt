@@ -28,6 +28,9 @@ use Rattle.vp_bar_code.specs.declared.BarCode.{BarCode}
 use Rattle.vp_bar_code.specs.declared.BarCode.TheVariants.{Ean13, Code39, Code128, UpcA, UpcE, Ean8}
 use Rattle.vp_bar_code.specs.declared.BarCode.TheVariants.{Interleaved, Codabar, Code93}
 use Rattle.vp_bar_code.specs.declared.Code128Data.TheVariants.{Escapes}
+use Rattle.vp_bar_code.specs.declared.CodabarEnds.TheVariants.{Data}
+use Rattle.vp_bar_code.specs.declared.UpcEData.TheVariants.{Digits}
+use Rattle.vp_bar_code.specs.declared.Code93Data.TheVariants.{Ascii}
 use Rattle.vp_esc.specs.declared.item.QrModel.{QrModel}
 use Rattle.vp_esc.specs.declared.item.QrModel.TheVariants as models
 use Rattle.vp_esc.specs.declared.item.QrLevel.{QrLevel}
@@ -157,12 +160,12 @@ profile_bar_code m =
 -- and those that the whole language adds
 abbrev pub added_bar_code : ℕ → Option BarCode
 added_bar_code m =
-    if m == 0 || m == 65 then Some UpcA
-    else if m == 1 || m == 66 then Some UpcE
-    else if m == 3 || m == 68 then Some Ean8
+    if m == 0 || m == 65 then Some (UpcA false)
+    else if m == 1 || m == 66 then Some (UpcE Digits)
+    else if m == 3 || m == 68 then Some (Ean8 false)
     else if m == 5 || m == 70 then Some (Interleaved false)
-    else if m == 6 || m == 71 then Some Codabar
-    else if m == 72 then Some Code93
+    else if m == 6 || m == 71 then Some (Codabar Data)
+    else if m == 72 then Some (Code93 Ascii)
     else None
 
 -- GS k: the bar code that a kind draws

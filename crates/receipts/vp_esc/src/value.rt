@@ -8,7 +8,7 @@ use crate::item::{
     Spelled, Underline,
 };
 use crate::reading::Reading;
-use vp_bar_code::{BarCode, Code128Data, HriPosition};
+use vp_bar_code::{BarCode, CodabarEnds, Code93Data, Code128Data, HriPosition, UpcEData};
 use vp_glyph::{Alignment, Font};
 
 /// A byte, and what it stands for.
@@ -218,12 +218,18 @@ fn added_bar_code(m: u8) -> Option<BarCode>
     ensures { result ≡ spec.added_bar_code m }
 {
     match m {
-        0 | 65 => Some(BarCode::UpcA),
-        1 | 66 => Some(BarCode::UpcE),
-        3 | 68 => Some(BarCode::Ean8),
+        0 | 65 => Some(BarCode::UpcA { padded: false }),
+        1 | 66 => Some(BarCode::UpcE {
+            data: UpcEData::Digits,
+        }),
+        3 | 68 => Some(BarCode::Ean8 { padded: false }),
         5 | 70 => Some(BarCode::Interleaved { check: false }),
-        6 | 71 => Some(BarCode::Codabar),
-        72 => Some(BarCode::Code93),
+        6 | 71 => Some(BarCode::Codabar {
+            ends: CodabarEnds::Data,
+        }),
+        72 => Some(BarCode::Code93 {
+            data: Code93Data::Ascii,
+        }),
         _ => None,
     }
 }

@@ -1,7 +1,6 @@
 -- How symbols are drawn, by looking back over the items, and which are printed.
-use Rattle.std.specs.Prelude.{◌≡◌, ◌≤◌, ◌<◌, ℕ, ◌+◌, ◌*◌, ◌/◌, Bool, false, Result, Ok, Err, take, length as list_length, nat_lt, nat_le, ◌&&◌, if◌then◌else◌, List, [], ◌∷◌, ◌++◌, Option, Some, None}
+use Rattle.std.specs.Prelude.{◌≡◌, ◌≤◌, ◌<◌, ℕ, ◌+◌, ◌*◌, ◌/◌, Bool, Result, Ok, Err, take, length as list_length, nat_lt, nat_le, ◌&&◌, if◌then◌else◌, List, [], ◌∷◌, ◌++◌, Option, Some, None}
 use Rattle.std.specs.Option.{option_or}
-use Rattle.std.specs.List.{list_any}
 use Rattle.vp_esc.specs.declared.item.EscItem.{EscItem}
 use Rattle.vp_esc.specs.declared.item.EscItem.TheVariants.{HriPosition as SetHriPosition, HriFont as SetHriFont, BarHeight, BarModule, QrModel as SetQrModel, QrModule as SetQrModule, QrLevel as SetQrLevel, QrStore, QrByte, Initialize, QrPrint, Symbol as PrintSymbol}
 use Rattle.vp_bar_code.specs.declared.HriPosition.{HriPosition}
@@ -15,7 +14,7 @@ use Rattle.vp_esc.specs.declared.item.QrModel.TheVariants.{One, Micro}
 use Rattle.vp_esc.specs.declared.item.QrLevel.TheVariants.{M, Q, H}
 use Rattle.vp_dots.specs.declared.fault.Fault.{Fault}
 use Rattle.vp_dots.specs.declared.fault.Fault.TheVariants.{Symbol, SymbolTooLong, SymbolTooWide}
-use Rattle.vp_dots.specs.declared.fault.Why.TheVariants.{Char, Unsupported}
+use Rattle.vp_dots.specs.declared.fault.Why.TheVariants.{Unsupported}
 use Rattle.vp_qr.specs.declared.level.Level.{Level}
 use Rattle.vp_qr.specs.declared.level.Level.TheVariants.{L as LevelL, M as LevelM, Q as LevelQ, H as LevelH}
 use Rattle.vp_qr.specs.declared.segment.Mode.TheVariants.{Auto}
@@ -23,7 +22,6 @@ use Rattle.vp_qr.specs.Places.{size}
 use Rattle.vp_qr.specs.Encoding.{refusal as no_symbol, version_of, symbol_module}
 use Rattle.vp_qr.specs.Inks.{ScaledSymbol, side, ink_of}
 use Rattle.vp_bar_code.specs.declared.BarCode.{BarCode}
-use Rattle.vp_bar_code.specs.declared.BarCode.TheVariants.{Code93}
 use Rattle.vp_bars.specs.Symbologies.{symbol_of}
 use Rattle.vp_glyph.specs.Sheets.{Sheets}
 use Rattle.vp_bar_code.specs.declared.HriPosition.TheVariants.{None as NoText}
@@ -192,23 +190,12 @@ boxed sheets style bars = record {
 abbrev pub box_image : Boxed → Image
 box_image b = record { width = box_width b; height = box_height b; is_black = box_dot b }
 
--- the bytes that stand for the four shifts of Code 93
-abbrev pub is_shift : ℕ → Bool
-is_shift b = nat_le 0x26 b && nat_le b 0x29
-
--- GS k has characters alone: of Code 93 the shifts are the printer's own
-abbrev pub has_shifts : BarCode → List ℕ → Bool
-has_shifts Code93 bytes = list_any is_shift bytes
-has_shifts _ bytes = false
-
 -- GS k: the symbol of data, or why there is none: the bar code isn't drawn, or more bytes were sent than are
 -- kept, or what its standard says
 abbrev pub bars_of : Option BarCode → List ℕ → Bool → Result Linear Fault
 bars_of None bytes more = Err (Symbol Unsupported)
 bars_of (Some code) bytes more =
-    if more then Err SymbolTooLong
-    else if has_shifts code bytes then Err (Symbol Char)
-    else symbol_of code bytes
+    if more then Err SymbolTooLong else symbol_of code bytes
 
 -- why none is printed
 abbrev pub bars_refusal : Sheets → BarStyle → ℕ → Result Linear Fault → Option Fault

@@ -4,8 +4,6 @@ ghost use Rattle.vp_glyph.specs.Sheets.{Sheets as Given};
 ghost use Rattle.vp_bars.specs.Boxes.{box_width, box_height, box_dot};
 ghost use Rattle.vp_strips.specs.SymbolInks.{box_of};
 ghost use Rattle.vp_receipt_settings.specs.Symbols.{IsFitBars, bars_of, bars_refusal, bars_image, box_image};
-ghost use Rattle.vp_receipt_settings.specs.Symbols.{has_shifts, is_shift};
-ghost use Rattle.std.specs.List.{list_any};
 
 use vp_bars::{BarBox, BarCode, Bars, HriPosition, alike_rows, linear};
 use vp_dots::{Fault, Ink, Small, Why};
@@ -76,37 +74,7 @@ fn bars_of(code: Option<BarCode>, bytes: &[u8], more: bool) -> Result<Bars, Faul
     if more {
         return Err(Fault::SymbolTooLong);
     }
-    if has_shifts(code, bytes) {
-        return Err(Fault::Symbol(Why::Char));
-    }
     linear(code, bytes)
-}
-
-/// Whether data of Code 93 name one of its shifts.
-fn has_shifts(code: BarCode, bytes: &[u8]) -> bool
-    ensures { result ≡ has_shifts code bytes.now }
-{
-    match code {
-        BarCode::Code93 => have_shift(bytes),
-        _ => false,
-    }
-}
-
-fn have_shift(bytes: &[u8]) -> bool
-    ensures { result ≡ list_any is_shift bytes.now }
-{
-    for byte in bytes {
-        if is_shift(*byte) {
-            return true;
-        }
-    }
-    false
-}
-
-fn is_shift(byte: u8) -> bool
-    ensures { result ≡ is_shift byte }
-{
-    0x26 <= byte && byte <= 0x29
 }
 
 /// The bars of a command as they are drawn, if the line has room for them.

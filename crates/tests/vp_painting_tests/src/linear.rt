@@ -1,13 +1,56 @@
 //! Worked symbols of the codes beside Code 39, EAN-13 and Code 128, and why there is none.
 use crate::checks::same;
-use vp_bars::{BarCode, Code11Checks, HriPosition, MsiChecks, linear};
+use vp_bars::{
+    BarCode, CodabarEnd, CodabarEnds, Code11Checks, Code93Data, HriPosition, MsiChecks, UpcEData,
+    linear,
+};
 use vp_dots::{Fault, Ink, Op, Why};
 use vp_glyph::{Font, Sheets};
+
+/// The bar codes of which data are read in several ways: as receipts have them, and as labels have them.
+const CODABAR: BarCode = BarCode::Codabar {
+    ends: CodabarEnds::Data,
+};
+
+const CODABAR_AROUND: BarCode = BarCode::Codabar {
+    ends: CodabarEnds::Around {
+        start: CodabarEnd::A,
+        stop: CodabarEnd::B,
+    },
+};
+
+const EAN_8: BarCode = BarCode::Ean8 { padded: false };
+
+const EAN_8_PADDED: BarCode = BarCode::Ean8 { padded: true };
+
+const UPC_A: BarCode = BarCode::UpcA { padded: false };
+
+const UPC_A_PADDED: BarCode = BarCode::UpcA { padded: true };
+
+const UPC_E: BarCode = BarCode::UpcE {
+    data: UpcEData::Digits,
+};
+
+const UPC_E_MAKER: BarCode = BarCode::UpcE {
+    data: UpcEData::MakerArticle,
+};
+
+const ADD_ON: BarCode = BarCode::AddOn { padded: false };
+
+const ADD_ON_PADDED: BarCode = BarCode::AddOn { padded: true };
+
+const CODE_93: BarCode = BarCode::Code93 {
+    data: Code93Data::Ascii,
+};
+
+const CODE_93_SIGNS: BarCode = BarCode::Code93 {
+    data: Code93Data::Signs,
+};
 
 type Worked = (BarCode, &'static [u8], &'static [u8], &'static [u8]);
 
 /// Bytes, and the values and the text of their symbol.
-static SYMBOLS: [Worked; 21] = [
+static SYMBOLS: [Worked; 43] = [
     (
         BarCode::Interleaved { check: false },
         b"12345670",
@@ -32,14 +75,9 @@ static SYMBOLS: [Worked; 21] = [
         &[0, 0],
         b"0000",
     ),
+    (CODABAR, b"A40156B", &[16, 4, 0, 1, 5, 6, 17], b"A40156B"),
     (
-        BarCode::Codabar,
-        b"A40156B",
-        &[16, 4, 0, 1, 5, 6, 17],
-        b"A40156B",
-    ),
-    (
-        BarCode::Codabar,
+        CODABAR,
         b"C-$:/.+D",
         &[18, 10, 11, 12, 13, 14, 15, 19],
         b"C-$:/.+D",
@@ -93,50 +131,137 @@ static SYMBOLS: [Worked; 21] = [
         b"94345784238",
     ),
     (
-        BarCode::Code93,
+        CODE_93_SIGNS,
         b"TEST93",
         &[29, 14, 28, 29, 9, 3, 41, 6],
         b"TEST93",
     ),
     (
-        BarCode::Ean8,
+        EAN_8,
         b"7351353",
         &[20, 7, 3, 5, 1, 21, 3, 5, 3, 7, 20],
         b"73513537",
     ),
     (
-        BarCode::Ean8,
+        EAN_8,
         b"73513530",
         &[20, 7, 3, 5, 1, 21, 3, 5, 3, 7, 20],
         b"73513537",
     ),
     (
-        BarCode::UpcA,
+        UPC_A,
         b"03600029145",
         &[20, 0, 3, 6, 0, 0, 0, 21, 2, 9, 1, 4, 5, 2, 20],
         b"036000291452",
     ),
     (
-        BarCode::UpcE,
+        UPC_E,
         b"654321",
         &[30, 20, 16, 5, 14, 3, 12, 1, 22, 37],
         b"06543217",
     ),
     (
-        BarCode::UpcE,
+        UPC_E,
         b"06510000432",
         &[30, 20, 16, 5, 14, 3, 12, 1, 22, 37],
         b"06543217",
     ),
     (
-        BarCode::UpcE,
-        b"165100004324",
-        &[31, 20, 6, 15, 4, 3, 12, 11, 22, 34],
-        b"16543214",
+        UPC_E,
+        b"0654321",
+        &[30, 20, 16, 5, 14, 3, 12, 1, 22, 37],
+        b"06543217",
     ),
-    (BarCode::AddOn, b"34", &[23, 13, 24, 4], b"34"),
     (
-        BarCode::AddOn,
+        UPC_E,
+        b"06543210",
+        &[30, 20, 16, 5, 14, 3, 12, 1, 22, 37],
+        b"06543217",
+    ),
+    (
+        UPC_E_MAKER,
+        b"6510000432",
+        &[30, 20, 16, 5, 14, 3, 12, 1, 22, 37],
+        b"06543217",
+    ),
+    (
+        UPC_E_MAKER,
+        b"1230000045",
+        &[30, 20, 11, 12, 3, 14, 5, 3, 22, 31],
+        b"01234531",
+    ),
+    (
+        UPC_E_MAKER,
+        b"1234000007",
+        &[30, 20, 11, 2, 13, 4, 17, 4, 22, 37],
+        b"01234747",
+    ),
+    (
+        UPC_E_MAKER,
+        b"1234500006",
+        &[30, 20, 11, 2, 3, 14, 15, 6, 22, 35],
+        b"01234565",
+    ),
+    (
+        UPC_E_MAKER,
+        b"06510000432",
+        &[30, 20, 16, 5, 14, 3, 12, 1, 22, 37],
+        b"06543217",
+    ),
+    (
+        EAN_8_PADDED,
+        b"123",
+        &[20, 0, 0, 0, 0, 21, 1, 2, 3, 6, 20],
+        b"00001236",
+    ),
+    (
+        EAN_8_PADDED,
+        b"123456789",
+        &[20, 1, 2, 3, 4, 21, 5, 6, 7, 0, 20],
+        b"12345670",
+    ),
+    (
+        UPC_A_PADDED,
+        b"3600029145",
+        &[20, 0, 3, 6, 0, 0, 0, 21, 2, 9, 1, 4, 5, 2, 20],
+        b"036000291452",
+    ),
+    (ADD_ON_PADDED, b"4", &[23, 0, 24, 4], b"04"),
+    (
+        ADD_ON_PADDED,
+        b"123",
+        &[23, 10, 24, 10, 24, 1, 24, 2, 24, 3],
+        b"00123",
+    ),
+    (
+        ADD_ON_PADDED,
+        b"524957",
+        &[23, 15, 24, 2, 24, 14, 24, 9, 24, 5],
+        b"52495",
+    ),
+    (CODABAR, b"a40156B", &[16, 4, 0, 1, 5, 6, 17], b"A40156B"),
+    (
+        CODABAR_AROUND,
+        b"40156",
+        &[16, 4, 0, 1, 5, 6, 17],
+        b"A40156B",
+    ),
+    (CODABAR_AROUND, b"C1D", &[18, 1, 19], b"C1D"),
+    (
+        CODE_93,
+        b"TEST93",
+        &[29, 14, 28, 29, 9, 3, 41, 6],
+        b"TEST93",
+    ),
+    (CODE_93, b"a", &[46, 10, 8, 25], b"a"),
+    (CODE_93, b"\x01", &[43, 10, 2, 10], b" "),
+    (CODE_93, b"\x7F", &[44, 29, 23, 25], b" "),
+    (CODE_93, b"&", &[45, 15, 11, 35], b"&"),
+    (CODE_93, b"$", &[39, 39, 23], b"$"),
+    (CODE_93_SIGNS, b")A", &[46, 10, 8, 25], b")A"),
+    (ADD_ON, b"34", &[23, 13, 24, 4], b"34"),
+    (
+        ADD_ON,
         b"52495",
         &[23, 15, 24, 2, 24, 14, 24, 9, 24, 5],
         b"52495",
@@ -167,7 +292,7 @@ fn symbols(rt: HostRuntime) {
 type Refused = (BarCode, &'static [u8], Fault);
 
 /// Bytes, and why they have no symbol.
-static REFUSED: [Refused; 18] = [
+static REFUSED: [Refused; 32] = [
     (
         BarCode::Interleaved { check: false },
         b"",
@@ -178,11 +303,14 @@ static REFUSED: [Refused; 18] = [
         b"12A",
         Fault::Symbol(Why::Char),
     ),
-    (BarCode::Codabar, b"A", Fault::Symbol(Why::Length)),
-    (BarCode::Codabar, b"AB", Fault::Symbol(Why::Length)),
-    (BarCode::Codabar, b"12", Fault::Symbol(Why::Char)),
-    (BarCode::Codabar, b"A1A2B", Fault::Symbol(Why::Char)),
-    (BarCode::Codabar, b"a1b", Fault::Symbol(Why::Char)),
+    (CODABAR, b"A", Fault::Symbol(Why::Length)),
+    (CODABAR, b"AB", Fault::Symbol(Why::Length)),
+    (CODABAR, b"12", Fault::Symbol(Why::Char)),
+    (CODABAR, b"A1A2B", Fault::Symbol(Why::Char)),
+    (CODABAR, b"a1b2c", Fault::Symbol(Why::Char)),
+    (CODABAR_AROUND, b"a1b", Fault::Symbol(Why::Char)),
+    (CODABAR_AROUND, b"A1", Fault::Symbol(Why::Char)),
+    (CODABAR_AROUND, b"AB", Fault::Symbol(Why::Length)),
     (
         BarCode::Code11 {
             checks: Code11Checks::One,
@@ -197,15 +325,26 @@ static REFUSED: [Refused; 18] = [
         b"1-",
         Fault::Symbol(Why::Char),
     ),
-    (BarCode::Code93, b"a", Fault::Symbol(Why::Char)),
-    (BarCode::Ean8, b"123456", Fault::Symbol(Why::Length)),
-    (BarCode::Ean8, b"12345678A", Fault::Symbol(Why::Char)),
-    (BarCode::UpcA, b"1234567890", Fault::Symbol(Why::Length)),
-    (BarCode::UpcE, b"12345", Fault::Symbol(Why::Length)),
-    (BarCode::UpcE, b"26510000432", Fault::Symbol(Why::Length)),
-    (BarCode::UpcE, b"01234567890", Fault::Symbol(Why::Length)),
-    (BarCode::AddOn, b"123", Fault::Symbol(Why::Length)),
-    (BarCode::Code93, &[b'1'; 256], Fault::SymbolTooLong),
+    (CODE_93_SIGNS, b"a", Fault::Symbol(Why::Char)),
+    (EAN_8, b"123456", Fault::Symbol(Why::Length)),
+    (EAN_8, b"12345678A", Fault::Symbol(Why::Char)),
+    (UPC_A, b"1234567890", Fault::Symbol(Why::Length)),
+    (UPC_E, b"12345", Fault::Symbol(Why::Length)),
+    (UPC_E, b"26510000432", Fault::Symbol(Why::Length)),
+    (UPC_E, b"01234567890", Fault::Symbol(Why::Length)),
+    (UPC_E, b"165100004324", Fault::Symbol(Why::Length)),
+    (UPC_E, b"1654321", Fault::Symbol(Why::Length)),
+    (UPC_E, b"6510000432", Fault::Symbol(Why::Length)),
+    (UPC_E_MAKER, b"1230000100", Fault::Symbol(Why::Length)),
+    (UPC_E_MAKER, b"1234000010", Fault::Symbol(Why::Length)),
+    (UPC_E_MAKER, b"1234500004", Fault::Symbol(Why::Length)),
+    (UPC_E_MAKER, b"123450000", Fault::Symbol(Why::Length)),
+    (EAN_8_PADDED, b"1234567A", Fault::Symbol(Why::Char)),
+    (EAN_8_PADDED, b"", Fault::Symbol(Why::Empty)),
+    (CODE_93, b"\x80", Fault::Symbol(Why::Char)),
+    (CODE_93, &[b'a'; 128], Fault::SymbolTooLong),
+    (ADD_ON, b"123", Fault::Symbol(Why::Length)),
+    (CODE_93_SIGNS, &[b'1'; 256], Fault::SymbolTooLong),
 ];
 
 /// The first row whose bytes aren't refused so.
@@ -228,9 +367,9 @@ type Drawn = (BarCode, &'static [u8], u16, [u8; 16]);
 
 /// Bytes, the dots of a wide element, where a narrow one and a module have one, and the bytes of a row of the
 /// bars as an encoder from outside drew them.
-static DRAWN: [Drawn; 10] = [
+static DRAWN: [Drawn; 13] = [
     (
-        BarCode::Codabar,
+        CODABAR,
         b"A40156B",
         2,
         [
@@ -278,7 +417,7 @@ static DRAWN: [Drawn; 10] = [
         ],
     ),
     (
-        BarCode::Code93,
+        CODE_93_SIGNS,
         b"TEST93",
         1,
         [
@@ -286,7 +425,7 @@ static DRAWN: [Drawn; 10] = [
         ],
     ),
     (
-        BarCode::Ean8,
+        EAN_8,
         b"7351353",
         1,
         [
@@ -294,7 +433,7 @@ static DRAWN: [Drawn; 10] = [
         ],
     ),
     (
-        BarCode::UpcE,
+        UPC_E,
         b"654321",
         1,
         [
@@ -302,17 +441,41 @@ static DRAWN: [Drawn; 10] = [
         ],
     ),
     (
-        BarCode::AddOn,
+        ADD_ON,
         b"34",
         1,
         [0xb4, 0x2a, 0x30, 0, 0, 0, 0, 0, 0, 0, 0, 0, 0, 0, 0, 0],
     ),
     (
-        BarCode::AddOn,
+        ADD_ON,
         b"52495",
         1,
         [
             0xb7, 0x29, 0x34, 0xea, 0x2d, 0x62, 0, 0, 0, 0, 0, 0, 0, 0, 0, 0,
+        ],
+    ),
+    (
+        CODE_93,
+        b"aB1?",
+        1,
+        [
+            0xaf, 0x4c, 0xb5, 0x1a, 0x4a, 0x47, 0x6a, 0x69, 0xa8, 0xd4, 0x57, 0xa0, 0, 0, 0, 0,
+        ],
+    ),
+    (
+        UPC_E_MAKER,
+        b"1230000045",
+        1,
+        [
+            0xac, 0xcd, 0xbd, 0x3a, 0xc5, 0xea, 0xa0, 0, 0, 0, 0, 0, 0, 0, 0, 0,
+        ],
+    ),
+    (
+        EAN_8_PADDED,
+        b"123",
+        1,
+        [
+            0xa3, 0x46, 0x8d, 0x1a, 0xac, 0xdb, 0x21, 0x50, 0xa0, 0, 0, 0, 0, 0, 0, 0,
         ],
     ),
 ];

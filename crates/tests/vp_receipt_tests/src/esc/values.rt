@@ -225,12 +225,12 @@ fn bar_code_in_words(kind: &Spelled<Option<BarCode>>) -> &'static str {
 
 fn added_in_words(kind: &Spelled<Option<BarCode>>) -> &'static str {
     match kind.value {
-        Some(BarCode::UpcA) => "UPC-A",
-        Some(BarCode::UpcE) => "UPC-E",
-        Some(BarCode::Ean8) => "EAN-8",
+        Some(BarCode::UpcA { .. }) => "UPC-A",
+        Some(BarCode::UpcE { .. }) => "UPC-E",
+        Some(BarCode::Ean8 { .. }) => "EAN-8",
         Some(BarCode::Interleaved { check: false }) => "2 of 5",
-        Some(BarCode::Codabar) => "Codabar",
-        Some(BarCode::Code93) => "Code 93",
+        Some(BarCode::Codabar { .. }) => "Codabar",
+        Some(BarCode::Code93 { .. }) => "Code 93",
         Some(_) => "another bar code",
         None => "no bar code",
     }

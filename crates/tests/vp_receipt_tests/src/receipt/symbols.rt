@@ -214,7 +214,7 @@ fn refused_bar_codes(rt: HostRuntime) -> Result<(), Fail> {
 
 /// A bar code that the whole language adds, with modules of two dots, and its bars as an encoder from outside
 /// has them.
-static ADDED_BAR_CODES: [Case; 6] = [
+static ADDED_BAR_CODES: [Case; 8] = [
     (
         b"\x1Dw\x02\x1Dh\x01\x1Dk\x0003600029145\0",
         &[Strip {
@@ -264,6 +264,23 @@ static ADDED_BAR_CODES: [Case; 6] = [
         }],
     ),
     (
+        b"\x1Dw\x02\x1Dh\x01\x1DkG\x07a40156b",
+        &[Strip {
+            head: b"P4\n576 1\n",
+            rows: &[(
+                1,
+                b"\xCF\x83\x06\x67\xCC\x19\x99\x83\xE6\x67\xC1\x9F\x33\x06\x60\xCC\xF9\x83\x06\x7C",
+            )],
+        }],
+    ),
+    (
+        b"\x1Dw\x02\x1Dh\x01\x1DkB\x0806543217",
+        &[Strip {
+            head: b"P4\n576 1\n",
+            rows: &[(1, b"\xCC\x03\x33\xC0\xC3\xF3\x3F\xCC\x3C\xF0\xF0\xCC\xCC")],
+        }],
+    ),
+    (
         b"\x1Dw\x02\x1Dh\x01\x1DkH\x06TEST93",
         &[Strip {
             head: b"P4\n576 1\n",
@@ -295,13 +312,12 @@ fn bar_codes_that_the_whole_language_adds(rt: HostRuntime) -> Result<(), Fail> {
 }
 
 /// Kinds that the whole language reads and doesn't draw, and data that a kind hasn't.
-static REFUSED_IN_WHOLE: [Refusal; 6] = [
+static REFUSED_IN_WHOLE: [Refusal; 5] = [
     (b"\x1DkJ\x0212", Fault::Symbol(Why::Unsupported)),
     (b"\x1DkO\x0212", Fault::Symbol(Why::Unsupported)),
     (b"\x1Dk\x017654321\0", Fault::Symbol(Why::Length)),
-    (b"\x1DkG\x03a1b", Fault::Symbol(Why::Char)),
-    (b"\x1DkH\x03A&B", Fault::Symbol(Why::Char)),
-    (b"\x1DkH\x03A)B", Fault::Symbol(Why::Char)),
+    (b"\x1DkG\x03a1e", Fault::Symbol(Why::Char)),
+    (b"\x1DkH\x03A\x80B", Fault::Symbol(Why::Char)),
 ];
 
 #[test]
