@@ -1,0 +1,13 @@
+pub mod Units
+pub mod Steps
+pub mod Utf8Parts
+pub mod Utf8Steps
+pub mod Utf16Steps
+pub mod Decoding
+pub mod EachByte
+pub mod FirstUnit
+pub mod Below80
+pub mod Utf8Values
+pub mod Utf8Written
+pub mod ReadBack
+pub mod Completed

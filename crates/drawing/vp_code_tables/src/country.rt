@@ -1,0 +1,142 @@
+//! The national sets of receipts (ESC/POS, ESC R).
+//!
+//! Each row has the code points at 23, 24, 40, 5B, 5C, 5D, 5E, 60, 7B, 7C, 7D and 7E.
+
+ghost use Rattle.std.specs.Prelude.{◌≡◌, ◌<◌, slice_index};
+ghost use Rattle.vp_code_tables.specs.Sets.{country_row};
+
+const USA: [u16; 12] = [
+    0x23, 0x24, 0x40, 0x5b, 0x5c, 0x5d, 0x5e, 0x60, 0x7b, 0x7c, 0x7d, 0x7e,
+];
+
+const FRANCE: [u16; 12] = [
+    0x23, 0x24, 0xe0, 0xb0, 0xe7, 0xa7, 0x5e, 0x60, 0xe9, 0xf9, 0xe8, 0xa8,
+];
+
+const GERMANY: [u16; 12] = [
+    0x23, 0x24, 0xa7, 0xc4, 0xd6, 0xdc, 0x5e, 0x60, 0xe4, 0xf6, 0xfc, 0xdf,
+];
+
+const UNITED_KINGDOM: [u16; 12] = [
+    0xa3, 0x24, 0x40, 0x5b, 0x5c, 0x5d, 0x5e, 0x60, 0x7b, 0x7c, 0x7d, 0x7e,
+];
+
+const DENMARK_ONE: [u16; 12] = [
+    0x23, 0x24, 0x40, 0xc6, 0xd8, 0xc5, 0x5e, 0x60, 0xe6, 0xf8, 0xe5, 0x7e,
+];
+
+const SWEDEN: [u16; 12] = [
+    0x23, 0xa4, 0xc9, 0xc4, 0xd6, 0xc5, 0xdc, 0xe9, 0xe4, 0xf6, 0xe5, 0xfc,
+];
+
+const ITALY: [u16; 12] = [
+    0x23, 0x24, 0x40, 0xb0, 0x5c, 0xe9, 0x5e, 0xf9, 0xe0, 0xf2, 0xe8, 0xec,
+];
+
+const SPAIN_ONE: [u16; 12] = [
+    0x20a7, 0x24, 0x40, 0xa1, 0xd1, 0xbf, 0x5e, 0x60, 0xa8, 0xf1, 0x7d, 0x7e,
+];
+
+const JAPAN: [u16; 12] = [
+    0x23, 0x24, 0x40, 0x5b, 0xa5, 0x5d, 0x5e, 0x60, 0x7b, 0x7c, 0x7d, 0x7e,
+];
+
+const NORWAY: [u16; 12] = [
+    0x23, 0xa4, 0xc9, 0xc6, 0xd8, 0xc5, 0xdc, 0xe9, 0xe6, 0xf8, 0xe5, 0xfc,
+];
+
+const DENMARK_TWO: [u16; 12] = [
+    0x23, 0x24, 0xc9, 0xc6, 0xd8, 0xc5, 0xdc, 0xe9, 0xe6, 0xf8, 0xe5, 0xfc,
+];
+
+const SPAIN_TWO: [u16; 12] = [
+    0x23, 0x24, 0xe1, 0xa1, 0xd1, 0xbf, 0xe9, 0x60, 0xed, 0xf1, 0xf3, 0xfa,
+];
+
+const LATIN_AMERICA: [u16; 12] = [
+    0x23, 0x24, 0xe1, 0xa1, 0xd1, 0xbf, 0xe9, 0xfc, 0xed, 0xf1, 0xf3, 0xfa,
+];
+
+const KOREA: [u16; 12] = [
+    0x23, 0x24, 0x40, 0x5b, 0x20a9, 0x5d, 0x5e, 0x60, 0x7b, 0x7c, 0x7d, 0x7e,
+];
+
+const CROATIA: [u16; 12] = [
+    0x23, 0x24, 0x17d, 0x160, 0x110, 0x106, 0x10c, 0x17e, 0x161, 0x111, 0x107, 0x10d,
+];
+
+const CHINA: [u16; 12] = [
+    0x23, 0xa5, 0x40, 0x5b, 0x5c, 0x5d, 0x5e, 0x60, 0x7b, 0x7c, 0x7d, 0x7e,
+];
+
+const VIETNAM: [u16; 12] = [
+    0x23, 0x20ab, 0x40, 0x5b, 0x5c, 0x5d, 0x5e, 0x60, 0x7b, 0x7c, 0x7d, 0x7e,
+];
+
+/// A country's set, in the order of ESC R's numbers from 0 on; 17 is Arabia, as 0.
+#[derive(Clone, Copy, Debug, PartialEq, Eq)]
+pub enum Country {
+    /// ASCII itself: the United States, and Arabia.
+    Usa,
+    /// France.
+    France,
+    /// Germany.
+    Germany,
+    /// The United Kingdom.
+    UnitedKingdom,
+    /// Denmark I.
+    DenmarkOne,
+    /// Sweden.
+    Sweden,
+    /// Italy.
+    Italy,
+    /// Spain I.
+    SpainOne,
+    /// Japan.
+    Japan,
+    /// Norway.
+    Norway,
+    /// Denmark II.
+    DenmarkTwo,
+    /// Spain II.
+    SpainTwo,
+    /// Latin America.
+    LatinAmerica,
+    /// Korea.
+    Korea,
+    /// Slovenia and Croatia.
+    Croatia,
+    /// China.
+    China,
+    /// Vietnam.
+    Vietnam,
+}
+
+impl Country {
+    /// The code point at a place of the row.
+    #[tactic(auto, unfolding(crate::specs::Sets::country_row))]
+    pub fn code(self, place: usize) -> u16
+        requires { place < 12 }
+        ensures { result ≡ slice_index (country_row self) place }
+    {
+        match self {
+            Country::Usa => USA[place],
+            Country::France => FRANCE[place],
+            Country::Germany => GERMANY[place],
+            Country::UnitedKingdom => UNITED_KINGDOM[place],
+            Country::DenmarkOne => DENMARK_ONE[place],
+            Country::Sweden => SWEDEN[place],
+            Country::Italy => ITALY[place],
+            Country::SpainOne => SPAIN_ONE[place],
+            Country::Japan => JAPAN[place],
+            Country::Norway => NORWAY[place],
+            Country::DenmarkTwo => DENMARK_TWO[place],
+            Country::SpainTwo => SPAIN_TWO[place],
+            Country::LatinAmerica => LATIN_AMERICA[place],
+            Country::Korea => KOREA[place],
+            Country::Croatia => CROATIA[place],
+            Country::China => CHINA[place],
+            Country::Vietnam => VIETNAM[place],
+        }
+    }
+}
