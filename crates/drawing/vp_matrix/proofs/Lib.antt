@@ -1,0 +1,2 @@
+pub mod DarkRuns
+pub mod Encodings
