@@ -9,7 +9,7 @@ use Rattle.vp_format.specs.declared.field.Text.{Text}
 use Rattle.vp_label_settings.specs.declared.settings.Settings.{Settings}
 use Rattle.vp_label_settings.specs.declared.choice.FieldBlock.{FieldBlock}
 use Rattle.vp_label_settings.specs.declared.choice.SymbolChoice.{SymbolChoice}
-use Rattle.vp_label_settings.specs.declared.choice.SymbolChoice.TheVariants.{Bars, NotDrawn, Qr}
+use Rattle.vp_label_settings.specs.declared.choice.SymbolChoice.TheVariants.{Bars, NotDrawn, Qr, Matrix}
 use Rattle.vp_label_settings.specs.declared.parts.OpenContent.{OpenContent}
 use Rattle.vp_label_settings.specs.declared.parts.OpenContent.TheVariants as opened
 use Rattle.vp_label_settings.specs.declared.parts.FieldParts.{FieldParts}
@@ -39,11 +39,14 @@ data_few bytes s p None span = text_few _ p.block
 data_few bytes s p (Some (Bars b)) span = grind arith
 data_few bytes s p (Some NotDrawn) span = omega arith
 data_few bytes s p (Some (Qr model dots)) span = qr_few bytes dots span _ span.len
+data_few bytes s p (Some (Matrix choice)) span = grind arith
 
 -- where the bytes of a content begin
 abbrev pub begin_of : OpenContent → ℕ → ℕ
 begin_of (opened.Data start) len = start
 begin_of (opened.Frame b colour) len = len
+begin_of (opened.Ring r colour) len = len
+begin_of (opened.Diagonal d colour) len = len
 begin_of (opened.Picture head start) len = start
 
 pub closed_data : (bytes : List ℕ) (s : Settings) (p : FieldParts) (o : OpenContent) → data_in (content_of bytes s p o) ≤ length bytes - begin_of o (length bytes)

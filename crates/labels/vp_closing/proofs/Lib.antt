@@ -1,4 +1,5 @@
 pub mod Stored
+pub mod Matrices
 pub mod Reading
 pub mod Graphics
 pub mod Masks

@@ -14,9 +14,9 @@ use Rattle.vp_field.specs.Contents.{content_width, content_height, orientation_o
 use Rattle.vp_field.specs.Turning.{turned_height}
 use Rattle.vp_label_settings.specs.declared.settings.Settings.{Settings}
 use Rattle.vp_label_settings.specs.declared.choice.SymbolChoice.{SymbolChoice}
-use Rattle.vp_label_settings.specs.declared.choice.SymbolChoice.TheVariants.{Bars}
+use Rattle.vp_label_settings.specs.declared.choice.SymbolChoice.TheVariants.{Bars, Matrix}
 use Rattle.vp_label_settings.specs.declared.parts.OpenContent.{OpenContent}
-use Rattle.vp_label_settings.specs.declared.parts.OpenContent.TheVariants.{Data, Frame, Picture}
+use Rattle.vp_label_settings.specs.declared.parts.OpenContent.TheVariants.{Data, Frame, Ring, Diagonal, Picture}
 use Rattle.vp_label_settings.specs.declared.parts.FieldParts.{FieldParts}
 use Rattle.vp_closing.specs.Positions.{left_of, top_of}
 use Rattle.vp_closing.specs.Texts.{text_orientation}
@@ -26,15 +26,18 @@ use Rattle.vp_closing.specs.Contents.{content_of}
 abbrev pub asked_orientation : Settings → FieldParts → Option SymbolChoice → Orientation
 asked_orientation s p None = text_orientation s p.font
 asked_orientation s p (Some (Bars b)) = unwrap_or b.orientation s.field_orientation
+asked_orientation s p (Some (Matrix choice)) = unwrap_or choice.orientation s.field_orientation
 asked_orientation s p (Some _) = s.field_orientation
 
--- ^GB's lines are black or white, all else is black
+-- the lines of ^GB, ^GC, ^GE and ^GD are black or white, all else is black
 abbrev pub paint_of : Colour → Op
 paint_of Black = paints.Black
 paint_of White = paints.White
 
 abbrev pub colour_of : OpenContent → Op
 colour_of (Frame b colour) = paint_of colour
+colour_of (Ring r colour) = paint_of colour
+colour_of (Diagonal d colour) = paint_of colour
 colour_of (Data start) = paints.Black
 colour_of (Picture head start) = paints.Black
 

@@ -13,14 +13,15 @@ use Rattle.vp_field.specs.Sizes.{sized}
 use Rattle.vp_field.specs.declared.sized.SizedContent.{SizedContent}
 use Rattle.vp_label_settings.specs.declared.settings.Settings.{Settings}
 use Rattle.vp_label_settings.specs.declared.choice.SymbolChoice.{SymbolChoice}
-use Rattle.vp_label_settings.specs.declared.choice.SymbolChoice.TheVariants.{Bars, NotDrawn, Qr}
+use Rattle.vp_label_settings.specs.declared.choice.SymbolChoice.TheVariants.{Bars, NotDrawn, Qr, Matrix}
 use Rattle.vp_label_settings.specs.declared.graphic.PictureHead.{PictureHead}
 use Rattle.vp_label_settings.specs.declared.parts.OpenContent.{OpenContent}
-use Rattle.vp_label_settings.specs.declared.parts.OpenContent.TheVariants.{Data, Frame, Picture}
+use Rattle.vp_label_settings.specs.declared.parts.OpenContent.TheVariants.{Data, Frame, Ring, Diagonal, Picture}
 use Rattle.vp_label_settings.specs.declared.parts.FieldParts.{FieldParts}
 use Rattle.vp_closing.specs.Texts.{text_size, text_drawn, text_content}
 use Rattle.vp_closing.specs.Graphics.{picture_with, has_refused, picture_unless}
 use Rattle.vp_closing.specs.Symbols.{bars, bars_of, qr_of}
+use Rattle.vp_closing.specs.Matrices.{matrix_of}
 
 -- the stored bytes from a place on
 abbrev pub bytes_from : List ℕ → ℕ → Span
@@ -34,6 +35,7 @@ data_content stored s p (Some (Bars b)) bytes = bars_of stored (bars s.bar_defau
 data_content stored s p (Some NotDrawn) bytes = Err (faults.Symbol Unsupported)
 data_content stored s p (Some (Qr model dots)) bytes =
     qr_of stored dots bytes (front_of model (bytes_of stored bytes))
+data_content stored s p (Some (Matrix choice)) bytes = matrix_of stored s.bar_defaults choice.asked bytes
 
 -- a picture, unless a code of its rows is refused
 abbrev pub picture_content : List ℕ → PictureHead → Span → Result Content Fault
@@ -44,6 +46,8 @@ picture_content stored head bytes =
 abbrev pub content_of : List ℕ → Settings → FieldParts → OpenContent → Result Content Fault
 content_of stored s p (Data start) = data_content stored s p p.symbol (bytes_from stored start)
 content_of stored s p (Frame b colour) = Ok (contents.Box b)
+content_of stored s p (Ring r colour) = Ok (contents.Ring r)
+content_of stored s p (Diagonal d colour) = Ok (contents.Diagonal d)
 content_of stored s p (Picture head start) = picture_content stored head (bytes_from stored start)
 
 -- the same with its size

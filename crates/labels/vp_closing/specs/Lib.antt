@@ -3,5 +3,6 @@ pub mod Positions
 pub mod Texts
 pub mod Graphics
 pub mod Symbols
+pub mod Matrices
 pub mod Contents
 pub mod Closing

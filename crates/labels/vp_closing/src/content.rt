@@ -5,6 +5,7 @@ ghost use Rattle.vp_field.specs.Contents.{IsStored};
 ghost use Rattle.vp_closing.specs.Contents.{bytes_from, data_content, content_of, sized_if};
 
 use crate::graphic::picture_content;
+use crate::matrix::matrix_content;
 use crate::symbol::{bars_content, qr_content};
 use crate::text::{text_content, text_of, text_size};
 use vp_dots::{Fault, Small, Why};
@@ -55,6 +56,9 @@ fn data_content<A: Small>(
         Some(SymbolChoice::Qr { model, module_dots }) => {
             qr_content(stored, model, module_dots as u8, bytes)
         }
+        Some(SymbolChoice::Matrix(choice)) => {
+            matrix_content(stored, settings.bar_defaults, choice.asked, bytes)
+        }
     }
 }
 
@@ -81,6 +85,11 @@ pub fn content_of<A: Small>(
             data_content(sheets, stored, settings, parts, bytes)
         }
         OpenContent::Frame { frame, colour: _ } => Ok(SizedContent::graphic_box(frame)),
+        OpenContent::Ring { ring, colour: _ } => Ok(SizedContent::ring(ring)),
+        OpenContent::Diagonal {
+            diagonal,
+            colour: _,
+        } => Ok(SizedContent::diagonal(diagonal)),
         OpenContent::Picture { head, start } => {
             picture_content(stored, head, bytes_from(stored, start))
         }

@@ -22,7 +22,20 @@ fn asked_orientation(settings: &Settings, parts: &FieldParts) -> Orientation
     match parts.symbol {
         None => text_orientation(settings, parts.font),
         Some(SymbolChoice::Bars(bars)) => bars.orientation.unwrap_or(settings.field_orientation),
+        Some(SymbolChoice::Matrix(choice)) => {
+            choice.orientation.unwrap_or(settings.field_orientation)
+        }
         Some(_) => settings.field_orientation,
+    }
+}
+
+/// What a colour paints.
+fn paint_of(colour: Colour) -> Op
+    ensures { result ≡ paint_of colour }
+{
+    match colour {
+        Colour::Black => Op::Black,
+        Colour::White => Op::White,
     }
 }
 
@@ -31,11 +44,13 @@ fn colour_of(content: OpenContent) -> Op
     ensures { result ≡ colour_of content }
 {
     match content {
-        OpenContent::Frame {
-            frame: _,
-            colour: Colour::White,
-        } => Op::White,
-        _ => Op::Black,
+        OpenContent::Frame { frame: _, colour }
+        | OpenContent::Ring { ring: _, colour }
+        | OpenContent::Diagonal {
+            diagonal: _,
+            colour,
+        } => paint_of(colour),
+        OpenContent::Data { .. } | OpenContent::Picture { .. } => Op::Black,
     }
 }
 
@@ -80,7 +95,7 @@ fn field_of<A: Small>(
 }
 
 /// The field that its parts close in a format, as the format keeps it; without a content there is none. It is
-/// refused as `Symbol` or `SymbolTooLong` where the data have no bars or no QR symbol, or these aren't drawn,
+/// refused as `Symbol` or `SymbolTooLong` where the data have no such symbol, or it isn't drawn,
 /// and as `Graphic` where a code that starts in one of a picture's rows is refused.
 pub fn closed<A: Small>(
     sheets: &Sheets<A>,

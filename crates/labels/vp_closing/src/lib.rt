@@ -1,7 +1,8 @@
 //! The field that ^FS or ^XZ closes, from its parts and the settings in force: as the format keeps it, or why
 //! it is refused (ZPL II).
 //!
-//! - `text`, `graphic`, `symbol`: texts and their blocks, pictures, bars and QR symbols.
+//! - `text`, `graphic`, `symbol`, `matrix`: texts and their blocks, pictures, bars and QR symbols, other
+//!   two-dimensional symbols.
 //! - `position`: where a field stands.
 //! - `content`, `field`: what a field shows, and the whole field. `laws`: what is refused.
 #![tactic(auto)]
@@ -10,6 +11,7 @@ mod content;
 mod field;
 mod graphic;
 pub mod laws;
+mod matrix;
 mod position;
 mod symbol;
 mod text;

@@ -10,10 +10,11 @@ use Rattle.vp_glyph.proofs.Layouts.{layout}
 use Rattle.vp_zpl.specs.declared.item.Orientation.{Orientation}
 use Rattle.vp_zpl.specs.declared.item.Orientation.TheVariants.{Normal}
 use Rattle.vp_format.specs.declared.field.Content.{Content}
-use Rattle.vp_format.specs.declared.field.Content.TheVariants.{Text, Block, Box, Picture, Bars, Qr}
+use Rattle.vp_format.specs.declared.field.Content.TheVariants.{Text, Block, Box, Picture, Bars, Qr, Matrix, Ring, Diagonal}
 use Rattle.vp_format.specs.declared.field.Span.{Span}
 use Rattle.vp_field.specs.Contents.{bytes_of, bars_width, bars_height, bars_dot, qr_side, qr_dot, picture_dot, content_width, content_height, content_dot, orientation_of, LiesIn, IsStored}
 use Rattle.vp_bars.specs.Symbologies.{symbol_of}
+use Rattle.vp_field.specs.Matrices.{matrix_width, matrix_height, matrix_dot}
 use Rattle.vp_field.specs.Standing.{standing}
 use Rattle.vp_field.specs.Strokes.{Stroke}
 use Rattle.vp_field.specs.Turning.{turned_height}
@@ -48,6 +49,10 @@ ink_behind sheets left top o (Bars b) stored more h =
     (λ x y. bars_dot sheets b.narrow b.wide b.height b.place (symbol_of b.code d) x y)) (bytes_behind stored more b.bytes h)
 ink_behind sheets left top o (Qr q) stored more h =
     ap (λ (d : List ℕ). standing left top Normal (qr_side q.level q.mode d q.module) (qr_side q.level q.mode d q.module) (λ x y. qr_dot q.level q.mode d q.module x y)) (bytes_behind stored more q.bytes h.bytes)
+ink_behind sheets left top o (Matrix m) stored more h =
+    ap (λ (d : List ℕ). standing left top o (matrix_width m.code m.escape d m.wide) (matrix_height m.code m.escape d m.high) (λ x y. matrix_dot m.code m.escape d m.wide m.high x y)) (bytes_behind stored more m.bytes h.bytes)
+ink_behind sheets left top o (Ring r) stored more h = refl
+ink_behind sheets left top o (Diagonal d) stored more h = refl
 
 -- the rows of a content that is turned
 abbrev rows : Sheets → Orientation → Content → List ℕ → ℕ

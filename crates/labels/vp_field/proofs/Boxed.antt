@@ -13,8 +13,10 @@ use Rattle.vp_bars.specs.Boxes.{box_inside}
 use Rattle.vp_zpl.specs.declared.item.Orientation.{Orientation}
 use Rattle.vp_format.specs.Pictures as pictures
 use Rattle.vp_format.specs.declared.field.Content.{Content}
-use Rattle.vp_format.specs.declared.field.Content.TheVariants.{Text, Block, Box, Picture, Bars, Qr}
+use Rattle.vp_format.specs.declared.field.Content.TheVariants.{Text, Block, Box, Picture, Bars, Qr, Matrix, Ring, Diagonal}
 use Rattle.vp_format.specs.declared.field.Field.{Field}
+use Rattle.vp_shapes.specs.Ellipses.{no_ink_outside as ring_inside}
+use Rattle.vp_shapes.specs.Diagonals.{no_ink_outside as diagonal_inside}
 use Rattle.vp_label_size.specs.declared.TheConstants.{BAND_ROWS}
 use Rattle.vp_field.specs.declared.view.View.{View}
 use Rattle.vp_field.specs.Turning.{falls_y, turned_height}
@@ -47,6 +49,11 @@ contents sheets stored (Bars b) u v e = bars_inside sheets b.narrow b.wide b.hei
 contents sheets stored (Qr q) u v e =
     let p = and_parts _ _ (and_parts _ _ e).0 in
     (ltb-true _ _ p.0, ltb-true _ _ p.1)
+contents sheets stored (Matrix m) u v e =
+    let p = and_parts _ _ (and_parts _ _ e).0 in
+    (ltb-true _ _ p.0, ltb-true _ _ p.1)
+contents sheets stored (Ring r) u v e = ring_inside r.width r.height r.thickness u v e
+contents sheets stored (Diagonal d) u v e = diagonal_inside d.width d.height d.thickness d.leaning u v e
 
 in_rows : (o : Orientation) (w h u v : ℕ) (top y : ℤ) → u < w → v < h → y -ℤ top ≡ falls_y o (pos w) (pos h) (pos u) (pos v) → (top ≤ℤ y) × (y <ℤ (top +ℤ pos (turned_height o w h)))
 in_rows o w h u v top y h1 h2 h3 = grind (arith, ints)

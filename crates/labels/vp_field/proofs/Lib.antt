@@ -11,6 +11,7 @@ pub mod Folds
 pub mod White
 pub mod Shown
 pub mod OnLabel
+pub mod Matrices
 pub mod Boxed
 pub mod Behind
 pub mod Pictured

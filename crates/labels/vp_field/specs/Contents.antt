@@ -27,7 +27,11 @@ use Rattle.vp_format.specs.declared.field.Text.{Text}
 use Rattle.vp_format.specs.declared.field.TextBlock.{TextBlock}
 use Rattle.vp_format.specs.declared.field.Picture.{Picture}
 use Rattle.vp_format.specs.declared.field.QrSymbol.{QrSymbol}
+use Rattle.vp_format.specs.declared.field.MatrixSymbol.{MatrixSymbol}
+use Rattle.vp_shapes.specs.Ellipses.{ring_dot}
+use Rattle.vp_shapes.specs.Diagonals.{diagonal_dot}
 use Rattle.vp_field.specs.Frames.{frame_dot}
+use Rattle.vp_field.specs.Matrices.{data_refusal, matrix_width, matrix_height, matrix_dot}
 use Rattle.vp_field.specs.Axes.{lines_of}
 use Rattle.vp_field.specs.declared.axis.Lines.{Lines}
 use Rattle.vp_field.specs.declared.axis.Lines.TheVariants.{Along, Across}
@@ -106,6 +110,9 @@ content_width sheets stored (contents.Picture p) = 8 * p.row_bytes
 content_width sheets stored (contents.Bars b) =
     bars_width sheets b.narrow b.wide b.height b.place (symbol_of b.code (bytes_of stored b.bytes))
 content_width sheets stored (contents.Qr q) = qr_side q.level q.mode (bytes_of stored q.bytes) q.module
+content_width sheets stored (contents.Matrix m) = matrix_width m.code m.escape (bytes_of stored m.bytes) m.wide
+content_width sheets stored (contents.Ring r) = r.width
+content_width sheets stored (contents.Diagonal d) = d.width
 
 abbrev pub content_height : Sheets → List ℕ → Content → ℕ
 content_height sheets stored (contents.Text t) = t.height
@@ -116,6 +123,9 @@ content_height sheets stored (contents.Picture p) = p.rows
 content_height sheets stored (contents.Bars b) =
     bars_height sheets b.narrow b.wide b.height b.place (symbol_of b.code (bytes_of stored b.bytes))
 content_height sheets stored (contents.Qr q) = qr_side q.level q.mode (bytes_of stored q.bytes) q.module
+content_height sheets stored (contents.Matrix m) = matrix_height m.code m.escape (bytes_of stored m.bytes) m.high
+content_height sheets stored (contents.Ring r) = r.height
+content_height sheets stored (contents.Diagonal d) = d.height
 
 -- its ink
 abbrev pub content_dot : Sheets → List ℕ → Content → ℕ → ℕ → Bool
@@ -128,8 +138,12 @@ content_dot sheets stored (contents.Picture p) x y = picture_dot (picture_of sto
 content_dot sheets stored (contents.Bars b) x y =
     bars_dot sheets b.narrow b.wide b.height b.place (symbol_of b.code (bytes_of stored b.bytes)) x y
 content_dot sheets stored (contents.Qr q) x y = qr_dot q.level q.mode (bytes_of stored q.bytes) q.module x y
+content_dot sheets stored (contents.Matrix m) x y =
+    matrix_dot m.code m.escape (bytes_of stored m.bytes) m.wide m.high x y
+content_dot sheets stored (contents.Ring r) x y = ring_dot r.width r.height r.thickness x y
+content_dot sheets stored (contents.Diagonal d) x y = diagonal_dot d.width d.height d.thickness d.leaning x y
 
--- boxes, pictures and QR symbols are not turned
+-- boxes, other shapes, pictures and QR symbols are not turned
 abbrev pub orientation_of : Orientation → Content → Orientation
 orientation_of o (contents.Text t) = o
 orientation_of o (contents.Block b) = o
@@ -137,6 +151,9 @@ orientation_of o (contents.Box b) = Normal
 orientation_of o (contents.Picture p) = Normal
 orientation_of o (contents.Bars b) = o
 orientation_of o (contents.Qr q) = Normal
+orientation_of o (contents.Matrix m) = o
+orientation_of o (contents.Ring r) = Normal
+orientation_of o (contents.Diagonal d) = Normal
 
 -- the bytes lie among the stored ones, of which a format has room for `STORED`
 pub record LiesIn (stored : List ℕ) (s : Span) : Type 0 where
@@ -174,6 +191,15 @@ pub record IsSymbol (stored : List ℕ) (q : QrSymbol) : Type 0 where
   pub version : q.version ≡ version_of q.level q.mode (bytes_of stored q.bytes)
   pub mask : q.mask ≡ mask_of q.level q.mode (bytes_of stored q.bytes)
 
+-- a two-dimensional symbol has modules of some dots, and its data have one (^BX, ^B7, ^BO)
+pub record IsMatrixSymbol (stored : List ℕ) (m : MatrixSymbol) : Type 0 where
+  pub bytes : LiesIn stored m.bytes
+  pub wide_some : 0 < m.wide
+  pub wide_most : m.wide ≤ 64
+  pub high_some : 0 < m.high
+  pub high_most : m.high ≤ 1000
+  pub accepted : data_refusal m.code m.escape (bytes_of stored m.bytes) ≡ None
+
 -- a content whose parameters are in their ranges, and whose bytes are stored
 abbrev pub IsStored : List ℕ → Content → Type 0
 IsStored stored (contents.Text t) = IsText stored t
@@ -182,6 +208,9 @@ IsStored stored (contents.Box b) = Unit {0}
 IsStored stored (contents.Picture p) = IsPicture stored p
 IsStored stored (contents.Bars b) = LiesIn stored b.bytes
 IsStored stored (contents.Qr q) = IsSymbol stored q
+IsStored stored (contents.Matrix m) = IsMatrixSymbol stored m
+IsStored stored (contents.Ring r) = Unit {0}
+IsStored stored (contents.Diagonal d) = Unit {0}
 
 -- how many lines of ink are drawn on a band at most: one a row of the band where they lie along its rows;
 -- where they lie across, one a column of the widest label, and eight
@@ -210,7 +239,8 @@ block_cost Across pieces = pieces + 2 * pieces + (2 * WIDEST + 8)
 -- what painting a content that is turned so takes on a band at most. Of a picture each byte of its codes is
 -- read once, no more rows than these bytes and two are passed, and 32 rows fall on the band; of other
 -- contents the lines of ink count, and what they are made of: the cells of a text, the characters of a bar
--- code or the cells of its text. A line of a box is one piece, and so is one of a QR symbol
+-- code or the cells of its text. A line of a box or of another shape is one piece, and so is one of a
+-- two-dimensional symbol
 abbrev pub most_work : Orientation → Content → ℕ
 most_work o (contents.Text t) = lines_cost (lines_of o) (seen_cells t.bytes.len t.width)
 most_work o (contents.Block b) = block_cost (lines_of o) (2 * b.text.bytes.len + 1)
@@ -218,3 +248,6 @@ most_work o (contents.Box b) = lines_cost Along (λ d. 1)
 most_work o (contents.Picture p) = 2 * p.codes.len + (BAND_ROWS + 2)
 most_work o (contents.Bars b) = lines_cost (lines_of o) box_pieces
 most_work o (contents.Qr q) = lines_cost Along (λ d. 1)
+most_work o (contents.Matrix m) = lines_cost (lines_of o) (λ d. 1)
+most_work o (contents.Ring r) = lines_cost Along (λ d. 1)
+most_work o (contents.Diagonal d) = lines_cost Along (λ d. 1)

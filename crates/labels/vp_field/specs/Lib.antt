@@ -3,6 +3,7 @@ pub mod Places
 pub mod Turning
 pub mod Standing
 pub mod Frames
+pub mod Matrices
 pub mod Contents
 pub mod Views
 pub mod Strokes

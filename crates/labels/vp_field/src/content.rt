@@ -63,12 +63,16 @@ pub fn block_of<'a, A: Small>(
     )
 }
 
-/// How a content is turned; boxes, pictures and QR symbols are not.
+/// How a content is turned; boxes, other shapes, pictures and QR symbols are not.
 pub fn orientation_of(orientation: Orientation, content: &Content) -> Orientation
     ensures { result ≡ orientation_of orientation content.now }
 {
     match content {
-        Content::Text(_) | Content::Block(_) | Content::Bars(_) => orientation,
-        Content::Box(_) | Content::Picture(_) | Content::Qr(_) => Orientation::Normal,
+        Content::Text(_) | Content::Block(_) | Content::Bars(_) | Content::Matrix(_) => orientation,
+        Content::Box(_)
+        | Content::Picture(_)
+        | Content::Qr(_)
+        | Content::Ring(_)
+        | Content::Diagonal(_) => Orientation::Normal,
     }
 }

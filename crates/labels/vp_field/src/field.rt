@@ -26,6 +26,7 @@ use crate::frame::{Frame, Hollow};
 use crate::line::drawn_at;
 use crate::lines::BlockRows;
 use crate::marks::{DrawnSymbol, Marks};
+use crate::matrix::paint_matrix;
 use crate::picture::paint_picture;
 use crate::standing::{Standing, paint_standing};
 use crate::view::View;
@@ -35,6 +36,7 @@ use vp_format::{BarSymbol, Content, Field, QrSymbol, Text, TextBlock};
 use vp_glyph::{Block, Font, Sheets};
 use vp_label_size::{BAND_BYTES, LabelBand};
 use vp_qr::QrInk;
+use vp_shapes::{Diagonal, Ring};
 use vp_zpl::item::Orientation;
 
 /// Paints a text: how many lines of ink it drew, and pieces of them.
@@ -173,6 +175,35 @@ fn paint_frame<A: Small>(frame: Frame, on: Standing, first: u32, band: &mut Labe
     paint_standing(&frame, on, first, band)
 }
 
+/// Paints a circle or an ellipse: how many lines of ink it drew, and pieces of them.
+fn paint_ring<A: Small>(ring: Ring, on: Standing, first: u32, band: &mut LabelBand<A>) -> u64
+    requires near { IsNear on.left on.top }
+    ensures dots { (sheets : Given) (stored : List ℕ) → ShownPainted (columns_of on.view) on.op
+        (drawn sheets stored (contents.Ring ring) on first) band.old band.new }
+    ensures lines { result ≤ lines_cost (lines_of on.orientation) (λ d. 1) }
+    ensures counted { (sheets : Given) (stored : List ℕ) →
+        IsCounted (drawn sheets stored (contents.Ring ring) on first) result }
+{
+    paint_standing(&ring, on, first, band)
+}
+
+/// Paints a diagonal: how many lines of ink it drew, and pieces of them.
+fn paint_diagonal<A: Small>(
+    diagonal: Diagonal,
+    on: Standing,
+    first: u32,
+    band: &mut LabelBand<A>,
+) -> u64
+    requires near { IsNear on.left on.top }
+    ensures dots { (sheets : Given) (stored : List ℕ) → ShownPainted (columns_of on.view) on.op
+        (drawn sheets stored (contents.Diagonal diagonal) on first) band.old band.new }
+    ensures lines { result ≤ lines_cost (lines_of on.orientation) (λ d. 1) }
+    ensures counted { (sheets : Given) (stored : List ℕ) →
+        IsCounted (drawn sheets stored (contents.Diagonal diagonal) on first) result }
+{
+    paint_standing(&diagonal, on, first, band)
+}
+
 /// Encodes a linear symbol where no earlier band left it: there is none where the data have none.
 fn encode(stored: &[u8], bars: BarSymbol, marks: &mut Marks)
     requires bytes { LiesIn stored.now bars.bytes }
@@ -307,6 +338,9 @@ fn paint_content<A: Small>(
         Content::Picture(picture) => paint_picture(stored, picture, on, marks, first, band),
         Content::Bars(bars) => paint_bars(sheets, stored, bars, turned, marks, first, band),
         Content::Qr(symbol) => paint_qr(stored, symbol, on, marks, first, band),
+        Content::Matrix(symbol) => paint_matrix(stored, symbol, turned, first, band),
+        Content::Ring(ring) => paint_ring(ring, on, first, band),
+        Content::Diagonal(diagonal) => paint_diagonal(diagonal, on, first, band),
     }
 }
 

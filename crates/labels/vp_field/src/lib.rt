@@ -12,6 +12,7 @@
 //! - `block_columns`, `block_band`: blocks of lines, many of whose rows are drawn at once: those that fall on
 //!   columns of the label, and those of lines that meet.
 //! - `marks`: what earlier bands left of a field: the marks of a picture, or a QR symbol as it was drawn.
+//! - `matrix`: two-dimensional symbols.
 //! - `content`, `sized`, `field`: what fields show, with their sizes, and how they are painted.
 //! - `view`: how a label is put out.
 //! - `axis`, `laid`: which way the lines of an ink run on the label as it is put out, and where they begin.
@@ -40,6 +41,7 @@ mod laws;
 mod line;
 mod lines;
 mod marks;
+mod matrix;
 mod paint;
 mod pen;
 mod picture;
@@ -59,6 +61,7 @@ pub use content::{bytes_of, orientation_of};
 pub use field::paint_field;
 pub use laws::{dots_move, in_the_box, stored_behind, stroke_after_stroke, turned_and_mirrored};
 pub use marks::Marks;
+pub use matrix::encoded;
 pub use sized::SizedContent;
 pub use turning::{dots_fall, turned_rows};
 pub use view::View;

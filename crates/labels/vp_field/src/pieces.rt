@@ -6,7 +6,9 @@ ghost use Rattle.vp_dots.specs.Painting.{Painted};
 
 use vp_bars::BarBox;
 use vp_dots::{Ink, Op, Small};
+use vp_matrix::MatrixInk;
 use vp_qr::QrInk;
+use vp_shapes::{Diagonal, Ring};
 
 /// An ink whose lines are painted piece by piece, as those of a text are cell by cell.
 pub trait Pieces: Ink {
@@ -22,6 +24,33 @@ pub trait Pieces: Ink {
 }
 
 impl Pieces for QrInk {
+    ghost most_pieces = { λ s d. 1 };
+
+    fn paint_pieces(&self, y: u32, op: Op, at: i64, row: &mut [u8]) -> u64 {
+        self.paint_row(y, op, at, row);
+        1
+    }
+}
+
+impl Pieces for MatrixInk<'_> {
+    ghost most_pieces = { λ s d. 1 };
+
+    fn paint_pieces(&self, y: u32, op: Op, at: i64, row: &mut [u8]) -> u64 {
+        self.paint_row(y, op, at, row);
+        1
+    }
+}
+
+impl Pieces for Ring {
+    ghost most_pieces = { λ s d. 1 };
+
+    fn paint_pieces(&self, y: u32, op: Op, at: i64, row: &mut [u8]) -> u64 {
+        self.paint_row(y, op, at, row);
+        1
+    }
+}
+
+impl Pieces for Diagonal {
     ghost most_pieces = { λ s d. 1 };
 
     fn paint_pieces(&self, y: u32, op: Op, at: i64, row: &mut [u8]) -> u64 {

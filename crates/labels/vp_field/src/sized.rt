@@ -4,15 +4,19 @@ ghost use Rattle.vp_bars.specs.Symbologies.{symbol_of};
 ghost use Rattle.vp_format.specs.declared.field.Content.TheVariants as contents;
 ghost use Rattle.vp_glyph.specs.Sheets.{Sheets as Given};
 ghost use Rattle.vp_qr.specs.Places.{size};
+ghost use Rattle.vp_matrix.specs.Encoding.{IsMatrix};
 ghost use Rattle.vp_field.specs.Contents.{bytes_of, IsText, IsTextBlock, IsSymbol};
+ghost use Rattle.vp_field.specs.Matrices.{plain_data};
 ghost use Rattle.vp_field.specs.Sizes.{sized};
 
 use crate::content::{block_of, cells};
 use crate::frame::Frame;
 use vp_bars::Bars;
 use vp_dots::{Ink, Small};
-use vp_format::{BarSymbol, Content, GraphicBox, Picture, QrSymbol, Text, TextBlock};
+use vp_format::{BarSymbol, Content, GraphicBox, MatrixSymbol, Picture, QrSymbol, Text, TextBlock};
 use vp_glyph::{Font, Sheets};
+use vp_matrix::Matrix;
+use vp_shapes::{Diagonal, Ring};
 
 /// What a field shows, and its width and its height in dots, as it is read.
 #[derive(Clone, Copy, Debug, PartialEq, Eq)]
@@ -69,6 +73,34 @@ impl SizedContent {
         ensures { (sheets : Given) (stored : List ℕ) → result ≡ sized sheets stored (contents.Box shape) }
     {
         with_ink(Content::Box(shape), &Frame::of(shape))
+    }
+
+    /// A circle or an ellipse.
+    pub fn ring(ring: Ring) -> Self
+        ensures { (sheets : Given) (stored : List ℕ) → result ≡ sized sheets stored (contents.Ring ring) }
+    {
+        with_ink(Content::Ring(ring), &ring)
+    }
+
+    /// A diagonal.
+    pub fn diagonal(diagonal: Diagonal) -> Self
+        ensures { (sheets : Given) (stored : List ℕ) →
+            result ≡ sized sheets stored (contents.Diagonal diagonal) }
+    {
+        with_ink(Content::Diagonal(diagonal), &diagonal)
+    }
+
+    /// A two-dimensional symbol.
+    pub fn matrix(matrix: &Matrix, symbol: MatrixSymbol) -> Self
+        ensures { (sheets : Given) (stored : List ℕ) →
+            IsMatrix symbol.code (plain_data symbol.escape (bytes_of stored symbol.bytes)) matrix.now →
+            result ≡ sized sheets stored (contents.Matrix symbol) }
+    {
+        SizedContent {
+            content: Content::Matrix(symbol),
+            width: u32::from(symbol.wide) * matrix.columns() as u32,
+            height: u32::from(symbol.high) * matrix.rows() as u32,
+        }
     }
 
     /// A picture.

@@ -4,7 +4,9 @@ use crate::rows::Coding;
 use vp_bars::{BarCode, HriPosition};
 use vp_dots::Op;
 use vp_glyph::Alignment;
+use vp_matrix::MatrixCode;
 use vp_qr::{Level, Mode};
+use vp_shapes::{Diagonal, Ring};
 use vp_zpl::item::Orientation;
 
 /// Bytes among the stored ones.
@@ -73,6 +75,17 @@ pub struct QrSymbol {
     pub mask: u8,
 }
 
+/// A two-dimensional symbol (^BX, ^B7, ^BO): its data, the sign that begins an escape among them, if one does,
+/// and the width and the height of a module in dots, 1 to 64 and 1 to 1,000.
+#[derive(Clone, Copy, Debug, PartialEq, Eq)]
+pub struct MatrixSymbol {
+    pub bytes: Span,
+    pub escape: Option<u8>,
+    pub code: MatrixCode,
+    pub wide: u8,
+    pub high: u16,
+}
+
 /// What a field shows.
 #[derive(Clone, Copy, Debug, PartialEq, Eq)]
 pub enum Content {
@@ -82,6 +95,11 @@ pub enum Content {
     Picture(Picture),
     Bars(BarSymbol),
     Qr(QrSymbol),
+    Matrix(MatrixSymbol),
+    /// A circle (^GC) or an ellipse (^GE).
+    Ring(Ring),
+    /// A line from corner to corner (^GD).
+    Diagonal(Diagonal),
 }
 
 /// A closed field, which is lent and never copied. The place is the upper left corner of the turned box, in

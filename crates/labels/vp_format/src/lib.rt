@@ -25,7 +25,9 @@ mod rows;
 mod short_runs;
 
 pub use checking::check;
-pub use field::{BarSymbol, Content, Field, GraphicBox, Picture, QrSymbol, Span, Text, TextBlock};
+pub use field::{
+    BarSymbol, Content, Field, GraphicBox, MatrixSymbol, Picture, QrSymbol, Span, Text, TextBlock,
+};
 pub use format::{FIELDS, Fields, Format, STORED};
 pub use law::{binary_law, codes_law, digits_law};
 pub use rows::{Coding, RunMark, RunRows};

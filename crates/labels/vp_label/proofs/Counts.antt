@@ -1,6 +1,6 @@
 use Rattle.vp_label.proofs.Presses.{at}
 -- What is held, by the bytes that are pending.
-use Rattle.std.proofs.Common.{◌≡◌, ◌<◌, ◌≤◌, ◌+◌, ◌-◌, ◌*◌, ◌%◌, ℕ, false, List, length, refl, arith, length-drop}
+use Rattle.std.proofs.Common.{◌≡◌, ◌<◌, ◌≤◌, ◌+◌, ◌-◌, ◌*◌, ◌%◌, ℕ, false, List, [], ◌∷◌, length, refl, arith, length-drop}
 use Rattle.std.proofs.lemmas.Bool.{lt-ltb, le-ltb}
 use Rattle.std.proofs.lemmas.Nat.{div-mul-add}
 use Rattle.std.proofs.Math.Nat.{zero-mod}
@@ -48,7 +48,8 @@ held_rows law sheets g before left i p some printing same is high place copies =
 
 -- no fields outside a format
 pub no_fields : (sheets : Sheets) (before : List Item) (left : List ℕ) → length left ≤ 0 → is_open before ≡ false → fields_after sheets before left ≡ 0
-no_fields sheets before left none shut = grind (arith, idle)
+no_fields sheets [] left none shut = refl
+no_fields sheets (item ∷ before) left none shut = rw (le-ltb 0 (length left) none, idle sheets (item ∷ before) shut) refl
 
 -- the image of which copies are put out is the label's
 pub same_image : {A : Type 0} (sheets : Sheets) (held : Held) (v : View) (p : Press A) → p.copies.width ≡ v.width → p.copies.height ≡ v.height →

@@ -1,6 +1,7 @@
 -- What the bytes of a format bound: its fields, the codes of its pictures, and what a copy takes.
 use Rattle.std.specs.Prelude.{◌≤◌, ℕ, ◌+◌, ◌*◌, List, [], ◌∷◌, length, reverse, sum_by, if◌then◌else◌}
 use Rattle.vp_glyph.specs.Sheets.{Sheets}
+use Rattle.vp_zpl.specs.declared.reading.Reading.{Reading}
 use Rattle.vp_zpl.specs.Items.{Item, items, least_by}
 use Rattle.vp_format.specs.declared.field.Field.{Field}
 use Rattle.vp_label_settings.specs.Formats.{is_open}
@@ -29,11 +30,13 @@ all_texts fields = sum_by (λ f. text_bytes f.content) fields
 -- in each band: a sixth of the 43,960 of a field and a band, which is more than the 262 of a byte of a text.
 -- A label has at most 250 bands.
 pub record BytesCostAtMost : Type 0 where
-  pub read : (bytes : List ℕ) → format_bytes (reverse (items bytes)) ≤ length bytes
+  pub read : (reading : Reading) (bytes : List ℕ) →
+      format_bytes (reverse (items reading bytes)) ≤ length bytes
   pub fields : (sheets : Sheets) (before : List Item) → 6 * length (printed_entries sheets before)
       + all_codes (printed_entries sheets before) + all_texts (printed_entries sheets before)
       ≤ format_bytes before
   pub copy : (sheets : Sheets) (before : List Item) → label_work sheets before
       ≤ 7327 * (bands_of (view_of (settings_of before)) * format_bytes before)
-  pub last : (sheets : Sheets) (bytes : List ℕ) → most_work sheets (reverse (items bytes))
+  pub last : (sheets : Sheets) (reading : Reading) (bytes : List ℕ) →
+      most_work sheets (reverse (items reading bytes))
       ≤ 7327 * (250 * length bytes)

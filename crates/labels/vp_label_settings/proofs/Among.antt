@@ -17,6 +17,8 @@ abbrev pub BeginsBy : ℕ → Option OpenContent → Type 0
 BeginsBy end None = Unit {0}
 BeginsBy end (Some (opened.Data start)) = start ≤ end
 BeginsBy end (Some (opened.Frame b colour)) = Unit {0}
+BeginsBy end (Some (opened.Ring r colour)) = Unit {0}
+BeginsBy end (Some (opened.Diagonal d colour)) = Unit {0}
 BeginsBy end (Some (opened.Picture head start)) = start ≤ end
 
 begins-by : (before : List Item) → BeginsBy (length (stored before)) (content before)

@@ -6,7 +6,7 @@ use Rattle.vp_label_settings.specs.declared.parts.OpenContent.{OpenContent}
 use Rattle.vp_label_settings.specs.declared.parts.OpenContent.TheVariants as opened
 use Rattle.vp_label_settings.specs.Graphics.{has_rows}
 use Rattle.vp_label_settings.specs.Parts.{symbol, block, content}
-use Rattle.vp_label_settings.specs.Laws.{IsSymbolIf, IsFieldBlockIf, IsFrame, IsPictureHead}
+use Rattle.vp_label_settings.specs.Laws.{IsSymbolIf, IsFieldBlockIf, IsFrame, IsRing, IsDiagonal, IsPictureHead}
 
 pub symbol-fits : (before : List Item) → IsSymbolIf (symbol before)
 symbol-fits [] = tt
@@ -20,6 +20,8 @@ abbrev pub IsContentIf : Option OpenContent → Type 0
 IsContentIf None = Unit {0}
 IsContentIf (Some (opened.Data start)) = Unit {0}
 IsContentIf (Some (opened.Frame b colour)) = IsFrame b
+IsContentIf (Some (opened.Ring r colour)) = IsRing r
+IsContentIf (Some (opened.Diagonal d colour)) = IsDiagonal d
 IsContentIf (Some (opened.Picture head start)) = IsPictureHead head
 
 rows-fit : (bytes row : ℕ) → has_rows bytes row ≡ true → 1 ≤ bytes / row

@@ -1,8 +1,12 @@
--- Boxes, and the heads of pictures.
-use Rattle.std.specs.Prelude.{ℕ, ◌/◌, ◌==◌, ◌&&◌, nat_le, Bool, Option, Some, None, max, if◌then◌else◌}
+-- Boxes and other shapes, and the heads of pictures.
+use Rattle.std.specs.Prelude.{ℕ, ◌/◌, ◌==◌, ◌&&◌, nat_le, Bool, Option, Some, None, unwrap_or, max, if◌then◌else◌}
 use Rattle.vp_zpl.specs.declared.item.GraphicFormat.{GraphicFormat}
 use Rattle.vp_zpl.specs.declared.item.GraphicFormat.TheVariants as formats
 use Rattle.vp_format.specs.declared.field.GraphicBox.{GraphicBox}
+use Rattle.vp_shapes.specs.declared.ring.Ring.{Ring}
+use Rattle.vp_shapes.specs.declared.diagonal.Diagonal.{Diagonal}
+use Rattle.vp_shapes.specs.declared.diagonal.Leaning.{Leaning}
+use Rattle.vp_shapes.specs.declared.diagonal.Leaning.TheVariants.{Right}
 use Rattle.vp_format.specs.declared.rows.Coding.{Coding}
 use Rattle.vp_format.specs.declared.rows.Coding.TheVariants as codings
 use Rattle.vp_label_settings.specs.declared.graphic.PictureHead.{PictureHead}
@@ -22,6 +26,41 @@ box_with t width height =
 
 abbrev pub box_of : Option ℕ → Option ℕ → Option ℕ → GraphicBox
 box_of width height thickness = box_with (ranged 1 32000 1 thickness) width height
+
+-- ^GC: a circle of this diameter
+abbrev pub circle_of : Option ℕ → Option ℕ → Ring
+circle_of diameter thickness =
+    record {
+      width = ranged 3 4095 3 diameter;
+      height = ranged 3 4095 3 diameter;
+      thickness = ranged 1 4095 1 thickness;
+    }
+
+-- ^GE, ^GD: a width or height that is missing is t, or 3 where t is less
+abbrev pub ellipse_with : ℕ → Option ℕ → Option ℕ → Ring
+ellipse_with t width height =
+    record {
+      width = ranged 3 4095 (max t 3) width;
+      height = ranged 3 4095 (max t 3) height;
+      thickness = t;
+    }
+
+abbrev pub ellipse_of : Option ℕ → Option ℕ → Option ℕ → Ring
+ellipse_of width height thickness = ellipse_with (ranged 1 4095 1 thickness) width height
+
+abbrev pub diagonal_with : ℕ → Option ℕ → Option ℕ → Leaning → Diagonal
+diagonal_with t width height leaning =
+    record {
+      width = ranged 3 32000 (max t 3) width;
+      height = ranged 3 32000 (max t 3) height;
+      thickness = t;
+      leaning = leaning;
+    }
+
+-- ^GD leans right where nothing is said
+abbrev pub diagonal_of : Option ℕ → Option ℕ → Option ℕ → Option Leaning → Diagonal
+diagonal_of width height thickness leaning =
+    diagonal_with (ranged 1 32000 1 thickness) width height (unwrap_or leaning Right)
 
 -- ^GF: a row has 1 to 1,024 bytes, and there is at least one
 abbrev pub has_rows : ℕ → ℕ → Bool

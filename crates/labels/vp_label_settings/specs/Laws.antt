@@ -11,11 +11,16 @@ use Rattle.vp_label_settings.specs.declared.choice.FieldBlock.{FieldBlock}
 use Rattle.vp_format.specs.declared.field.GraphicBox.{GraphicBox}
 use Rattle.vp_label_settings.specs.declared.graphic.PictureHead.{PictureHead}
 use Rattle.vp_label_settings.specs.declared.choice.SymbolChoice.{SymbolChoice}
-use Rattle.vp_label_settings.specs.declared.choice.SymbolChoice.TheVariants.{Bars, NotDrawn, Qr}
+use Rattle.vp_label_settings.specs.declared.choice.SymbolChoice.TheVariants.{Bars, NotDrawn, Qr, Matrix}
+use Rattle.vp_label_settings.specs.declared.choice.MatrixChoice.{MatrixChoice}
+use Rattle.vp_label_settings.specs.declared.choice.MatrixAsked.{MatrixAsked}
+use Rattle.vp_label_settings.specs.declared.choice.MatrixAsked.TheVariants.{DataMatrix, Pdf417, Aztec}
+use Rattle.vp_shapes.specs.declared.ring.Ring.{Ring}
+use Rattle.vp_shapes.specs.declared.diagonal.Diagonal.{Diagonal}
 use Rattle.vp_label_settings.specs.declared.parts.Origin.{Origin}
 use Rattle.vp_label_settings.specs.declared.parts.Origin.TheVariants.{UpperLeft, LowerLeft}
 use Rattle.vp_label_settings.specs.declared.parts.OpenContent.{OpenContent}
-use Rattle.vp_label_settings.specs.declared.parts.OpenContent.TheVariants.{Data, Frame, Picture}
+use Rattle.vp_label_settings.specs.declared.parts.OpenContent.TheVariants.{Data, Frame, Ring as DrawRing, Diagonal as DrawDiagonal, Picture}
 use Rattle.vp_label_settings.specs.declared.parts.FieldParts.{FieldParts}
 
 pub record Within (low : ℕ) (high : ℕ) (n : ℕ) : Type 0 where
@@ -71,17 +76,36 @@ abbrev pub IsOrigin : Origin → Type 0
 IsOrigin (UpperLeft x y) = (x ≤ 32000) × (y ≤ 32000)
 IsOrigin (LowerLeft x y) = (x ≤ 32000) × (y ≤ 32000)
 
+-- ^BX, ^B7, ^BO: the dots of a module's side, or a row's height in modules
+abbrev pub IsMatrixAsked : MatrixAsked → Type 0
+IsMatrixAsked (DataMatrix side shape escape) = IfSome side (Within 1 64)
+IsMatrixAsked (Pdf417 height asked) = IfSome height (Within 1 1000)
+IsMatrixAsked (Aztec side asked) = Within 1 10 side
+
 -- ^BQ; of bars the kind says all
 abbrev pub IsSymbolIf : Option SymbolChoice → Type 0
 IsSymbolIf None = Unit {0}
 IsSymbolIf (Some (Bars b)) = Unit {0}
 IsSymbolIf (Some NotDrawn) = Unit {0}
 IsSymbolIf (Some (Qr model dots)) = Within 1 2 model × Within 1 10 dots
+IsSymbolIf (Some (Matrix choice)) = IsMatrixAsked choice.asked
+
+pub record IsRing (r : Ring) : Type 0 where
+  pub width : Within 3 4095 r.width
+  pub height : Within 3 4095 r.height
+  pub thickness : Within 1 4095 r.thickness
+
+pub record IsDiagonal (d : Diagonal) : Type 0 where
+  pub width : Within 3 32000 d.width
+  pub height : Within 3 32000 d.height
+  pub thickness : Within 1 32000 d.thickness
 
 -- a content begins behind no more bytes than are stored
 abbrev pub IsContent : ℕ → OpenContent → Type 0
 IsContent stored (Data start) = start ≤ stored
 IsContent stored (Frame b colour) = IsFrame b
+IsContent stored (DrawRing r colour) = IsRing r
+IsContent stored (DrawDiagonal d colour) = IsDiagonal d
 IsContent stored (Picture head start) = IsPictureHead head × (start ≤ stored)
 
 -- the parts of a field are in their ranges, where `stored` bytes are stored

@@ -3,7 +3,7 @@
 use Rattle.std.specs.Prelude.{ℕ, Bool, true, false, Option, Some, None, option_map, unwrap_or, List, [], ◌∷◌, length}
 use Rattle.vp_zpl.specs.declared.item.Colour.TheVariants.{Black}
 use Rattle.vp_zpl.specs.declared.item.Command.{Command}
-use Rattle.vp_zpl.specs.declared.item.Command.TheVariants.{FormatEnd, FieldSeparator, FieldOrigin, FieldTypeset, Font, Code39, Ean13, Code128, QrCode, ReversePrint, FieldBlock as SetBlock, FieldData, GraphicBox as DrawBox, Graphic}
+use Rattle.vp_zpl.specs.declared.item.Command.TheVariants.{FormatEnd, FieldSeparator, FieldOrigin, FieldTypeset, Font, Code39, Ean13, Code128, Linear, QrCode, DataMatrix, Pdf417, Aztec, ReversePrint, FieldBlock as SetBlock, FieldData, GraphicBox as DrawBox, GraphicCircle, GraphicEllipse, GraphicDiagonal, Graphic}
 use Rattle.vp_zpl.specs.Items.{Item}
 use Rattle.vp_bar_code.specs.declared.BarCode.TheVariants as codes
 use Rattle.vp_label_settings.specs.declared.choice.FontChoice.{FontChoice}
@@ -17,8 +17,8 @@ use Rattle.vp_label_settings.specs.declared.parts.OpenContent.TheVariants as con
 use Rattle.vp_label_settings.specs.declared.parts.FieldParts.{FieldParts}
 use Rattle.vp_label_settings.specs.Formats.{is_open, acting, stored}
 use Rattle.vp_label_settings.specs.Settings.{coordinate}
-use Rattle.vp_label_settings.specs.Choices.{bar_choice, code128_choice, qr_choice, field_block}
-use Rattle.vp_label_settings.specs.Graphics.{box_of, picture_head}
+use Rattle.vp_label_settings.specs.Choices.{bar_choice, code128_choice, linear_choice, qr_choice, shape_of, data_matrix_choice, pdf417_asked, pdf417_choice, aztec_choice, field_block}
+use Rattle.vp_label_settings.specs.Graphics.{box_of, circle_of, ellipse_of, diagonal_of, picture_head}
 
 -- ^FO, ^FT: where the field stands, counted from the home
 abbrev pub origin_by : Command → Origin → Origin
@@ -44,7 +44,16 @@ abbrev pub font : List Item → Option FontChoice
 font [] = None
 font (item ∷ before) = acting font_by (is_open before) item (font before)
 
--- ^B3, ^BE, ^BC, ^BQ: the symbol that data are drawn as
+-- ^BX, ^B7, ^BO
+abbrev pub matrix_by : Command → Option SymbolChoice → Option SymbolChoice
+matrix_by (DataMatrix orientation side quality columns rows escape aspect) old =
+    Some (data_matrix_choice orientation side quality (shape_of columns rows aspect) escape)
+matrix_by (Pdf417 orientation height level columns rows truncated) old =
+    Some (pdf417_choice orientation height (pdf417_asked level columns rows truncated))
+matrix_by (Aztec orientation side control) old = Some (aztec_choice orientation side control)
+matrix_by _ old = old
+
+-- ^B3, ^BE, ^BC, ^BQ, and what the whole language adds: the symbol that data are drawn as
 abbrev pub symbol_by : Command → Option SymbolChoice → Option SymbolChoice
 symbol_by (Code39 orientation check height text above) old =
     Some (bar_choice (codes.Code39 (unwrap_or check false)) orientation height text above)
@@ -52,10 +61,12 @@ symbol_by (Ean13 orientation height text above) old =
     Some (bar_choice (codes.Ean13 true) orientation height text above)
 symbol_by (Code128 orientation height text above mode) old =
     Some (code128_choice mode orientation height text above)
+symbol_by (Linear code orientation height text above) old =
+    Some (linear_choice code orientation height text above)
 symbol_by (QrCode model dots) old = Some (qr_choice model dots)
 symbol_by FieldSeparator old = None
 symbol_by FormatEnd old = None
-symbol_by _ old = old
+symbol_by command old = matrix_by command old
 
 abbrev pub symbol : List Item → Option SymbolChoice
 symbol [] = None
@@ -83,19 +94,29 @@ abbrev pub block : List Item → Option FieldBlock
 block [] = None
 block (item ∷ before) = acting block_by (is_open before) item (block before)
 
--- ^FD, ^GB, ^GF: the content; data begin behind what is stored before them
+-- ^GB, ^GC, ^GE, ^GD: a shape, black where no colour is said
+abbrev pub drawn_by : Command → Option OpenContent → Option OpenContent
+drawn_by (DrawBox width height thickness colour) old =
+    Some (contents.Frame (box_of width height thickness) (unwrap_or colour Black))
+drawn_by (GraphicCircle diameter thickness colour) old =
+    Some (contents.Ring (circle_of diameter thickness) (unwrap_or colour Black))
+drawn_by (GraphicEllipse width height thickness colour) old =
+    Some (contents.Ring (ellipse_of width height thickness) (unwrap_or colour Black))
+drawn_by (GraphicDiagonal width height thickness colour leaning) old =
+    Some (contents.Diagonal (diagonal_of width height thickness leaning) (unwrap_or colour Black))
+drawn_by _ old = old
+
+-- ^FD, ^GF, and shapes: the content; data begin behind what is stored before them
 abbrev pub picture_behind : ℕ → PictureHead → OpenContent
 picture_behind start head = contents.Picture head start
 
 abbrev pub content_by : ℕ → Command → Option OpenContent → Option OpenContent
 content_by start FieldData old = Some (contents.Data start)
-content_by start (DrawBox width height thickness colour) old =
-    Some (contents.Frame (box_of width height thickness) (unwrap_or colour Black))
 content_by start (Graphic format sent bytes row) old =
     option_map (picture_behind start) (picture_head format sent bytes row)
 content_by start FieldSeparator old = None
 content_by start FormatEnd old = None
-content_by start _ old = old
+content_by start command old = drawn_by command old
 
 abbrev pub content : List Item → Option OpenContent
 content [] = None

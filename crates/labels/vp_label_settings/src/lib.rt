@@ -2,7 +2,7 @@
 //!
 //! - `range`: an argument in its range. `size`: the size of characters.
 //! - `settings`: what outlives a format. `choice`: symbols, fonts and blocks as they were asked for.
-//!   `graphic`: boxes and pictures. `parts`: the open field.
+//!   `graphic`: shapes and pictures. `parts`: the open field.
 //! - `in_force`: all of it, and what a command changes. `laws`: what holds behind every stream.
 #![tactic(auto)]
 
@@ -15,7 +15,7 @@ mod range;
 mod settings;
 mod size;
 
-pub use choice::{BarChoice, FieldBlock, FontChoice, SymbolChoice};
+pub use choice::{BarChoice, FieldBlock, FontChoice, MatrixAsked, MatrixChoice, SymbolChoice};
 pub use graphic::PictureHead;
 pub use in_force::InForce;
 pub use parts::{FieldParts, OpenContent, Origin};

@@ -1,15 +1,16 @@
 //! The parts of the open field.
 ghost use Rattle.std.specs.Prelude.{◌≡◌, [], IfOk, MatchResult, None, Some, true};
 ghost use Rattle.vp_label_settings.specs.Settings.{coordinate};
-ghost use Rattle.vp_label_settings.specs.Parts.{origin_by, font_by, symbol_by, is_reversed_by, block_by, content_by, parts_of, parts_by};
+ghost use Rattle.vp_label_settings.specs.Parts.{origin_by, font_by, symbol_by, matrix_by, is_reversed_by, block_by, content_by, drawn_by, parts_of, parts_by};
 ghost use Rattle.vp_label_settings.specs.Refusals.{head_refusal};
 
-use crate::choice::{FieldBlock, FontChoice, SymbolChoice};
-use crate::graphic::{PictureHead, box_of};
+use crate::choice::{FieldBlock, FontChoice, SymbolChoice, pdf417_asked, shape_of};
+use crate::graphic::{PictureHead, box_of, circle_of, diagonal_of, ellipse_of};
 use crate::range::ranged;
 use vp_bars::BarCode;
 use vp_dots::Fault;
 use vp_format::GraphicBox;
+use vp_shapes::{Diagonal, Ring};
 use vp_zpl::item::{Colour, Command};
 
 /// Where a field stands, in dots, 0 to 32,000 each way from the home.
@@ -21,13 +22,17 @@ pub enum Origin {
     LowerLeft { x: u16, y: u16 },
 }
 
-/// The content of an open field, the last of ^FD, ^GB and ^GF.
+/// The content of an open field, the last of ^FD, ^GB, ^GC, ^GE, ^GD and ^GF.
 #[derive(Clone, Copy)]
 pub enum OpenContent {
     /// ^FD: its data begin behind `start` stored bytes.
     Data { start: u32 },
     /// ^GB: the box, and its colour.
     Frame { frame: GraphicBox, colour: Colour },
+    /// ^GC, ^GE: the circle or ellipse, and its colour.
+    Ring { ring: Ring, colour: Colour },
+    /// ^GD: the diagonal, and its colour.
+    Diagonal { diagonal: Diagonal, colour: Colour },
     /// ^GF: its codes begin behind `start` stored bytes.
     Picture { head: PictureHead, start: u32 },
 }
@@ -122,7 +127,7 @@ fn font_after(font: Option<FontChoice>, command: Command) -> Option<FontChoice>
     }
 }
 
-/// ^B3, ^BE, ^BC, ^BQ
+/// ^B3, ^BE, ^BC, ^BQ, and what the whole language adds.
 fn symbol_after(symbol: Option<SymbolChoice>, command: Command) -> Option<SymbolChoice>
     ensures { result ≡ symbol_by command symbol }
 {
@@ -158,8 +163,52 @@ fn symbol_after(symbol: Option<SymbolChoice>, command: Command) -> Option<Symbol
             above,
             mode,
         } => Some(SymbolChoice::code128(mode, orientation, height, text, above)),
+        Command::Linear {
+            code,
+            orientation,
+            height,
+            text,
+            above,
+        } => Some(SymbolChoice::linear(code, orientation, height, text, above)),
         Command::QrCode { model, module } => Some(SymbolChoice::qr(model, module)),
         Command::FieldSeparator | Command::FormatEnd => None,
+        _ => matrix_after(symbol, command),
+    }
+}
+
+/// ^BX, ^B7, ^BO.
+fn matrix_after(symbol: Option<SymbolChoice>, command: Command) -> Option<SymbolChoice>
+    ensures { result ≡ matrix_by command symbol }
+{
+    match command {
+        Command::DataMatrix {
+            orientation,
+            module,
+            quality,
+            columns,
+            rows,
+            escape,
+            aspect,
+        } => {
+            let shape = shape_of(columns, rows, aspect);
+            Some(SymbolChoice::data_matrix(orientation, module, quality, shape, escape))
+        }
+        Command::Pdf417 {
+            orientation,
+            height,
+            level,
+            columns,
+            rows,
+            truncated,
+        } => {
+            let asked = pdf417_asked(level, columns, rows, truncated);
+            Some(SymbolChoice::pdf417(orientation, height, asked))
+        }
+        Command::Aztec {
+            orientation,
+            module,
+            control,
+        } => Some(SymbolChoice::aztec(orientation, module, control)),
         _ => symbol,
     }
 }
@@ -191,7 +240,52 @@ fn block_after(block: Option<FieldBlock>, command: Command) -> Option<FieldBlock
     }
 }
 
-/// ^FD, ^GB, ^GF; a head of ^GF that can't be one is refused.
+/// ^GB, ^GC, ^GE, ^GD.
+fn drawn_after(content: Option<OpenContent>, command: Command) -> Option<OpenContent>
+    ensures { result ≡ drawn_by command content }
+{
+    match command {
+        Command::GraphicBox {
+            width,
+            height,
+            thickness,
+            colour,
+        } => Some(OpenContent::Frame {
+            frame: box_of(width, height, thickness),
+            colour: colour.unwrap_or(Colour::Black),
+        }),
+        Command::GraphicCircle {
+            diameter,
+            thickness,
+            colour,
+        } => Some(OpenContent::Ring {
+            ring: circle_of(diameter, thickness),
+            colour: colour.unwrap_or(Colour::Black),
+        }),
+        Command::GraphicEllipse {
+            width,
+            height,
+            thickness,
+            colour,
+        } => Some(OpenContent::Ring {
+            ring: ellipse_of(width, height, thickness),
+            colour: colour.unwrap_or(Colour::Black),
+        }),
+        Command::GraphicDiagonal {
+            width,
+            height,
+            thickness,
+            colour,
+            leaning,
+        } => Some(OpenContent::Diagonal {
+            diagonal: diagonal_of(width, height, thickness, leaning),
+            colour: colour.unwrap_or(Colour::Black),
+        }),
+        _ => content,
+    }
+}
+
+/// ^FD, ^GF, and what draws a shape; a head of ^GF that can't be one is refused.
 fn content_after(
     content: Option<OpenContent>,
     command: Command,
@@ -203,15 +297,6 @@ fn content_after(
 {
     match command {
         Command::FieldData => Ok(Some(OpenContent::Data { start })),
-        Command::GraphicBox {
-            width,
-            height,
-            thickness,
-            colour,
-        } => Ok(Some(OpenContent::Frame {
-            frame: box_of(width, height, thickness),
-            colour: colour.unwrap_or(Colour::Black),
-        })),
         Command::Graphic {
             format,
             binary_bytes,
@@ -222,6 +307,6 @@ fn content_after(
             None => Err(Fault::Graphic),
         },
         Command::FieldSeparator | Command::FormatEnd => Ok(None),
-        _ => Ok(content),
+        _ => Ok(drawn_after(content, command)),
     }
 }

@@ -1,5 +1,6 @@
 -- What is given stays given.
 use Rattle.std.proofs.Common.{◌≡◌, ℕ, Bool, true, false, cond, zero, suc, Option, Some, None, List, [], ◌∷◌, ◌++◌, take, refl, sym, ap, ◌∙◌, append_assoc, arith}
+use Rattle.vp_zpl.specs.declared.reading.Reading.{Reading}
 use Rattle.vp_zpl.specs.declared.name.Kind.{Kind}
 use Rattle.vp_zpl.specs.declared.name.Kind.TheVariants as kinds
 use Rattle.vp_zpl.specs.declared.name.Name.{Name}
@@ -35,50 +36,50 @@ picture_by true args c w b =
     (g.0, rw (s.head_is, s.data_is, b) g.1)
 picture_by false args c w b = (cond (is_code c) (c ∷ []) [], code_more args c (cond (is_code c) (c ∷ []) []) w b refl)
 
-graphic_by : (z : Bool) (before : List (List ℕ)) (name : Name) (args : List ℕ) (c : ℕ) → is_whole args ≡ z
-    → Grows (given_named kinds.Graphic before name args) (given_named kinds.Graphic before name (args ++ c ∷ []))
-graphic_by true before name args c w =
+graphic_by : (reading : Reading) (z : Bool) (before : List (List ℕ)) (name : Name) (args : List ℕ) (c : ℕ) → is_whole args ≡ z
+    → Grows (given_named reading kinds.Graphic before name args) (given_named reading kinds.Graphic before name (args ++ c ∷ []))
+graphic_by reading true before name args c w =
     let s = still args c w in let g = picture_by (is_b (head args)) args c w refl in
     record { added = data_items g.0; is = rw (s.whole, w, s.head_is, g.1) (ap (λ d. item_of kinds.Graphic name (head args) ∷ d) (map-append _ (picture args) g.0)) }
-graphic_by false before name args c w = from_none _ _ (ap (λ z. cond z (graphic name args) []) w)
+graphic_by reading false before name args c w = from_none _ _ (ap (λ z. cond z (graphic name args) []) w)
 
 text_by : (o : Option ℕ) (args : List ℕ) (c : ℕ) → (added : List ℕ) × (text_known o (args ++ c ∷ []) ≡ text_known o args ++ added)
 text_by None args c = (c ∷ [], refl)
 text_by (Some x) args c = (out x (undecided x args) c, (step x args c).makes)
 
-named_grows : (k : Kind) (before : List (List ℕ)) (name : Name) (args : List ℕ) (c : ℕ) → Grows (given_named k before name args) (given_named k before name (args ++ c ∷ []))
-named_grows kinds.FieldData before name args c =
-    let g = text_by (indicator before) args c in
-    record { added = data_items g.0; is = ap (λ d. item_of kinds.FieldData name [] ∷ data_items d) g.1 ∙ ap (λ d. item_of kinds.FieldData name [] ∷ d) (map-append _ (text_known (indicator before) args) g.0) }
-named_grows kinds.Graphic before name args c = graphic_by (is_whole args) before name args c refl
-named_grows _ before name args c = same _ _ refl
+named_grows : (reading : Reading) (k : Kind) (before : List (List ℕ)) (name : Name) (args : List ℕ) (c : ℕ) → Grows (given_named reading k before name args) (given_named reading k before name (args ++ c ∷ []))
+named_grows reading kinds.FieldData before name args c =
+    let g = text_by (indicator reading before) args c in
+    record { added = data_items g.0; is = ap (λ d. item_of kinds.FieldData name [] ∷ data_items d) g.1 ∙ ap (λ d. item_of kinds.FieldData name [] ∷ d) (map-append _ (text_known (indicator reading before) args) g.0) }
+named_grows reading kinds.Graphic before name args c = graphic_by reading (is_whole args) before name args c refl
+named_grows reading _ before name args c = same _ _ refl
 
-given_grows : (before : List (List ℕ)) (command : List ℕ) (c : ℕ) → Grows (given before command) (given before (longer command c))
+given_grows : (reading : Reading) (before : List (List ℕ)) (command : List ℕ) (c : ℕ) → Grows (given reading before command) (given reading before (longer command c))
 unfolding given
-given_grows before command c = grind (arith, same, from_none, named_grows)
+given_grows reading before command c = grind (arith, same, from_none, named_grows)
 
-named_ends : (k : Kind) (before : List (List ℕ)) (name : Name) (args : List ℕ) → Grows (given_named k before name args) (at_end_named k before name args)
-named_ends kinds.FieldHex before name args = from_none _ _ refl
-named_ends (kinds.Plain j) before name args = from_none _ _ refl
-named_ends kinds.FieldData before name args = grind (arith, text_ends, map-append)
-named_ends kinds.Graphic before name args = grind (arith, same, from_none)
-named_ends _ before name args = same _ _ refl
+named_ends : (reading : Reading) (k : Kind) (before : List (List ℕ)) (name : Name) (args : List ℕ) → Grows (given_named reading k before name args) (at_end_named reading k before name args)
+named_ends reading kinds.FieldHex before name args = from_none _ _ refl
+named_ends reading (kinds.Plain j) before name args = from_none _ _ refl
+named_ends reading kinds.FieldData before name args = grind (arith, text_ends, map-append)
+named_ends reading kinds.Graphic before name args = grind (arith, same, from_none)
+named_ends reading _ before name args = same _ _ refl
 
-pub end_grows : (before : List (List ℕ)) (command : List ℕ)
-    → Grows (given before command) (at_end before command)
+pub end_grows : (reading : Reading) (before : List (List ℕ)) (command : List ℕ)
+    → Grows (given reading before command) (at_end reading before command)
 unfolding given at_end
-end_grows before command = grind (arith, same, named_ends)
+end_grows reading before command = grind (arith, same, named_ends)
 
-within : (before : List (List ℕ)) (small big : List Item) → Grows small big → Grows (all_ended before ++ small) (all_ended before ++ big)
-within before small big g = record { added = g.added; is = ap (λ x. all_ended before ++ x) g.is ∙ sym (append_assoc (all_ended before) small g.added) }
+within : (reading : Reading) (before : List (List ℕ)) (small big : List Item) → Grows small big → Grows (all_ended reading before ++ small) (all_ended reading before ++ big)
+within reading before small big g = record { added = g.added; is = ap (λ x. all_ended reading before ++ x) g.is ∙ sym (append_assoc (all_ended reading before) small g.added) }
 
-one_more : (bytes : List ℕ) (c : ℕ) → Grows (items bytes) (items (bytes ++ c ∷ []))
-one_more bytes c =
-    let push = cut-push bytes c in
+one_more : (reading : Reading) (bytes : List ℕ) (c : ℕ) → Grows (items reading bytes) (items reading (bytes ++ c ∷ []))
+one_more reading bytes c =
+    let push = cut-push reading bytes c in
     grind (arith, within, given_grows, same, end_grows, none_given, append-nil, ended-is, items-is, push, with-byte)
 
-pub grows : (bytes more : List ℕ) → Grows (items bytes) (items (bytes ++ more))
-grows bytes [] = grind (arith, same, append-nil)
-grows bytes (c ∷ more) =
-    let a = one_more bytes c in let b = grows (bytes ++ c ∷ []) more in
+pub grows : (reading : Reading) (bytes more : List ℕ) → Grows (items reading bytes) (items reading (bytes ++ more))
+grows reading bytes [] = grind (arith, same, append-nil)
+grows reading bytes (c ∷ more) =
+    let a = one_more reading bytes c in let b = grows reading (bytes ++ c ∷ []) more in
     grind (arith, append_assoc)

@@ -1,6 +1,7 @@
 -- Items are of no more bytes than were read.
 use Rattle.std.proofs.Common.{◌≡◌, ◌≤◌, ℕ, ◌+◌, ◌-◌, Bool, cond, Option, List, [], ◌∷◌, ◌++◌, length, reverse, filter, refl, ap, arith, lit≤}
 use Rattle.std.proofs.lemmas.List.{length-take, length-reverse, length_push}
+use Rattle.vp_zpl.specs.declared.reading.Reading.{Reading}
 use Rattle.vp_zpl.specs.declared.name.Kind.{Kind}
 use Rattle.vp_zpl.specs.declared.name.Kind.TheVariants as kinds
 use Rattle.vp_zpl.specs.declared.name.Name.{Name}
@@ -49,43 +50,43 @@ graphic_few name args = omega (arith, least_data (picture args), picture_few arg
 items_either : (b : Bool) (xs ys : List Item) (n : ℕ) → least_bytes xs ≤ n → least_bytes ys ≤ n → least_bytes (cond b xs ys) ≤ n
 items_either b xs ys n h k = grind arith
 
-ended_named : (k : Kind) (before : List (List ℕ)) (name : Name) (args : List ℕ) → least_bytes (at_end_named k before name args) ≤ 3 + length args
-ended_named kinds.Graphic before name args = items_either (is_whole args) _ _ (3 + length args) (graphic_few name args) (omega arith)
-ended_named kinds.FieldData before name args = omega (arith, least_data (text_at_end (indicator before) args), at_end_text (indicator before) args)
-ended_named _ before name args = omega arith
+ended_named : (reading : Reading) (k : Kind) (before : List (List ℕ)) (name : Name) (args : List ℕ) → least_bytes (at_end_named reading k before name args) ≤ 3 + length args
+ended_named reading kinds.Graphic before name args = items_either (is_whole args) _ _ (3 + length args) (graphic_few name args) (omega arith)
+ended_named reading kinds.FieldData before name args = omega (arith, least_data (text_at_end (indicator reading before) args), at_end_text (indicator reading before) args)
+ended_named reading _ before name args = omega arith
 
-ended_few : (before : List (List ℕ)) (command : List ℕ) → least_bytes (at_end before command) ≤ length command
+ended_few : (reading : Reading) (before : List (List ℕ)) (command : List ℕ) → least_bytes (at_end reading before command) ≤ length command
 unfolding at_end
-ended_few before command = grind (arith, lit≤, ended_named)
+ended_few reading before command = grind (arith, lit≤, ended_named)
 
-given_few : (before : List (List ℕ)) (command : List ℕ) → least_bytes (given before command) ≤ length command
-given_few before command = let g = end_grows before command in
-    omega (arith, ended_few before command, ap least_bytes g.is, least_append (given before command) g.added)
+given_few : (reading : Reading) (before : List (List ℕ)) (command : List ℕ) → least_bytes (given reading before command) ≤ length command
+given_few reading before command = let g = end_grows reading before command in
+    omega (arith, ended_few reading before command, ap least_bytes g.is, least_append (given reading before command) g.added)
 
 -- the bytes of all commands
 abbrev all_bytes : List (List ℕ) → ℕ
 all_bytes [] = 0
 all_bytes (command ∷ before) = length command + all_bytes before
 
-all_few : (before : List (List ℕ)) → least_bytes (all_ended before) ≤ all_bytes before
+all_few : (reading : Reading) (before : List (List ℕ)) → least_bytes (all_ended reading before) ≤ all_bytes before
 unfolding all_ended
-all_few [] = lit≤ tt
-all_few (command ∷ before) = omega (arith, least_append (all_ended before) (at_end before command), all_few before, ended_few before command)
+all_few reading [] = lit≤ tt
+all_few reading (command ∷ before) = omega (arith, least_append (all_ended reading before) (at_end reading before command), all_few reading before, ended_few reading before command)
 
 -- no more bytes stand in commands than were read
 abbrev cut_bytes : Cut → ℕ
 cut_bytes s = all_bytes s.before + length s.open_one
 
-byte_few : (s : Cut) (c : ℕ) → cut_bytes (with_byte s c) ≤ cut_bytes s + 1
-byte_few s c = grind (arith, lit≤, length_push)
+byte_few : (reading : Reading) (s : Cut) (c : ℕ) → cut_bytes (with_byte reading s c) ≤ cut_bytes s + 1
+byte_few reading s c = grind (arith, lit≤, length_push)
 
-back_few : (bytes : List ℕ) → cut_bytes (cut_back bytes) ≤ length bytes
-back_few [] = lit≤ tt
-back_few (c ∷ bytes) = omega (arith, byte_few (cut_back bytes) c, back_few bytes)
+back_few : (reading : Reading) (bytes : List ℕ) → cut_bytes (cut_back reading bytes) ≤ length bytes
+back_few reading [] = lit≤ tt
+back_few reading (c ∷ bytes) = omega (arith, byte_few reading (cut_back reading bytes) c, back_few reading bytes)
 
-cut_few : (bytes : List ℕ) → cut_bytes (cut bytes) ≤ length bytes
+cut_few : (reading : Reading) (bytes : List ℕ) → cut_bytes (cut reading bytes) ≤ length bytes
 unfolding cut
-cut_few bytes = omega (arith, back_few (reverse bytes), length-reverse bytes)
+cut_few reading bytes = omega (arith, back_few reading (reverse bytes), length-reverse bytes)
 
-pub items_least : (bytes : List ℕ) → least_bytes (items bytes) ≤ length bytes
-items_least bytes = grind (arith, items-is, least_append, all_few, given_few, cut_few)
+pub items_least : (reading : Reading) (bytes : List ℕ) → least_bytes (items reading bytes) ≤ length bytes
+items_least reading bytes = grind (arith, items-is, least_append, all_few, given_few, cut_few)

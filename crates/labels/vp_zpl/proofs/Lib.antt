@@ -18,3 +18,4 @@ pub mod Fronts
 pub mod Blanks
 pub mod Division
 pub mod Completion
+pub mod Within

@@ -1,5 +1,5 @@
 -- What the parameters of a command mean.
-use Rattle.std.specs.Prelude.{ℕ, ◌+◌, ◌*◌, ◌-◌, ◌==◌, Bool, true, false, ◌&&◌, Option, Some, None, List, [], ◌∷◌, length, take, drop, slice_get, if◌then◌else◌}
+use Rattle.std.specs.Prelude.{ℕ, ◌+◌, ◌*◌, ◌-◌, ◌==◌, Bool, true, false, ◌&&◌, ◌||◌, Option, Some, None, List, [], ◌∷◌, length, take, drop, slice_get, if◌then◌else◌}
 use Prim.Native.Char.{code}
 use Rattle.vp_zpl.specs.declared.name.Kind.{Kind}
 use Rattle.vp_zpl.specs.declared.name.Kind.TheVariants as kinds
@@ -13,10 +13,24 @@ use Rattle.vp_zpl.specs.declared.name.PrintCommand.{PrintCommand}
 use Rattle.vp_zpl.specs.declared.name.PrintCommand.TheVariants as prints
 use Rattle.vp_zpl.specs.declared.name.BarCommand.{BarCommand}
 use Rattle.vp_zpl.specs.declared.name.BarCommand.TheVariants as bars
+use Rattle.vp_zpl.specs.declared.name.LinearCommand.{LinearCommand}
+use Rattle.vp_zpl.specs.declared.name.LinearCommand.TheVariants as linear
+use Rattle.vp_zpl.specs.declared.name.MatrixCommand.{MatrixCommand}
+use Rattle.vp_zpl.specs.declared.name.MatrixCommand.TheVariants as matrices
+use Rattle.vp_zpl.specs.declared.name.ShapeCommand.{ShapeCommand}
+use Rattle.vp_zpl.specs.declared.name.ShapeCommand.TheVariants as shapes
+use Rattle.vp_bar_code.specs.declared.CodabarEnd.{CodabarEnd}
+use Rattle.vp_bar_code.specs.declared.CodabarEnd.TheVariants as ends
+use Rattle.vp_bar_code.specs.declared.MsiChecks.{MsiChecks}
+use Rattle.vp_bar_code.specs.declared.MsiChecks.TheVariants as checks
+use Rattle.vp_zpl.specs.declared.item.LinearCode.{LinearCode}
+use Rattle.vp_zpl.specs.declared.item.LinearCode.TheVariants as codes
 use Rattle.vp_zpl.specs.declared.item.Orientation.{Orientation}
 use Rattle.vp_zpl.specs.declared.item.Orientation.TheVariants as turns
 use Rattle.vp_zpl.specs.declared.item.Colour.{Colour}
 use Rattle.vp_zpl.specs.declared.item.Colour.TheVariants as colours
+use Rattle.vp_shapes.specs.declared.diagonal.Leaning.{Leaning}
+use Rattle.vp_shapes.specs.declared.diagonal.Leaning.TheVariants as leanings
 use Rattle.vp_zpl.specs.declared.item.GraphicFormat.{GraphicFormat}
 use Rattle.vp_zpl.specs.declared.item.GraphicFormat.TheVariants as formats
 use Rattle.vp_zpl.specs.declared.item.Code128Mode.{Code128Mode}
@@ -89,6 +103,14 @@ colour_of None = None
 colour_of (Some c) =
     if c == code "B" then Some colours.Black else if c == code "W" then Some colours.White else None
 
+-- R or /, L or a backslash
+abbrev pub leaning_of : Option ℕ → Option Leaning
+leaning_of None = None
+leaning_of (Some c) =
+    if c == code "R" || c == code "/" then Some leanings.Right
+    else if c == code "L" || c == code "\\" then Some leanings.Left
+    else None
+
 -- A, B; another that was sent is told apart from none
 abbrev pub format_by : Option ℕ → GraphicFormat
 format_by None = formats.Other
@@ -109,6 +131,26 @@ mode_of (Some c) =
     if c == code "U" then Some modes.UccCase
     else if c == code "A" then Some modes.Automatic
     else if c == code "D" then Some modes.UccEan
+    else None
+
+-- A, B, C, D
+abbrev pub msi_checks_of : Option ℕ → Option MsiChecks
+msi_checks_of None = None
+msi_checks_of (Some c) =
+    if c == code "A" then Some checks.None
+    else if c == code "B" then Some checks.Mod10
+    else if c == code "C" then Some checks.Mod10Twice
+    else if c == code "D" then Some checks.Mod11Mod10
+    else None
+
+-- A, B, C, D, which are also T, N, *, E
+abbrev pub codabar_end_of : Option ℕ → Option CodabarEnd
+codabar_end_of None = None
+codabar_end_of (Some c) =
+    if c == code "A" || c == code "T" then Some ends.A
+    else if c == code "B" || c == code "N" then Some ends.B
+    else if c == code "C" || c == code "*" then Some ends.C
+    else if c == code "D" || c == code "E" then Some ends.D
     else None
 
 -- L, C, R, J
@@ -195,11 +237,55 @@ bar_command_of bars.Code128 ps =
     (mode_of (letter_at 5 ps))
 bar_command_of bars.QrCode ps = commands.QrCode (number_at 1 ps) (number_at 2 ps)
 
+-- ^B in the whole language: the height is the second parameter, or the third behind check digits
+abbrev pub linear_symbol : LinearCode → List Kept → Command
+linear_symbol code ps =
+    commands.Linear code (orientation_at 0 ps) (number_at 1 ps) (yes_at 2 ps) (yes_at 3 ps)
+
+abbrev pub late_symbol : LinearCode → List Kept → Command
+late_symbol code ps =
+    commands.Linear code (orientation_at 0 ps) (number_at 2 ps) (yes_at 3 ps) (yes_at 4 ps)
+
+abbrev pub linear_command_of : LinearCommand → List Kept → Command
+linear_command_of linear.Code11 ps = late_symbol (codes.Code11 (yes_at 1 ps)) ps
+linear_command_of linear.Interleaved ps = linear_symbol (codes.Interleaved (yes_at 4 ps)) ps
+linear_command_of linear.Ean8 ps = linear_symbol codes.Ean8 ps
+linear_command_of linear.UpcE ps = linear_symbol codes.UpcE ps
+linear_command_of linear.Code93 ps = linear_symbol codes.Code93 ps
+linear_command_of linear.Codabar ps =
+    late_symbol (codes.Codabar (codabar_end_of (letter_at 5 ps)) (codabar_end_of (letter_at 6 ps))) ps
+linear_command_of linear.Msi ps = late_symbol (codes.Msi (msi_checks_of (letter_at 1 ps))) ps
+linear_command_of linear.AddOn ps = linear_symbol codes.AddOn ps
+linear_command_of linear.UpcA ps = linear_symbol codes.UpcA ps
+
+-- ^BX, ^B7, ^BO
+abbrev pub matrix_command_of : MatrixCommand → List Kept → Command
+matrix_command_of matrices.DataMatrix ps =
+    commands.DataMatrix (orientation_at 0 ps) (number_at 1 ps) (number_at 2 ps) (number_at 3 ps)
+    (number_at 4 ps) (byte_at 6 ps) (number_at 7 ps)
+matrix_command_of matrices.Pdf417 ps =
+    commands.Pdf417 (orientation_at 0 ps) (number_at 1 ps) (number_at 2 ps) (number_at 3 ps)
+    (number_at 4 ps) (yes_at 5 ps)
+matrix_command_of matrices.Aztec ps = commands.Aztec (orientation_at 0 ps) (number_at 1 ps) (number_at 3 ps)
+
+-- ^GC, ^GE, ^GD
+abbrev pub shape_command_of : ShapeCommand → List Kept → Command
+shape_command_of shapes.Circle ps =
+    commands.GraphicCircle (number_at 0 ps) (number_at 1 ps) (colour_of (letter_at 2 ps))
+shape_command_of shapes.Ellipse ps =
+    commands.GraphicEllipse (number_at 0 ps) (number_at 1 ps) (number_at 2 ps) (colour_of (letter_at 3 ps))
+shape_command_of shapes.Diagonal ps =
+    commands.GraphicDiagonal (number_at 0 ps) (number_at 1 ps) (number_at 2 ps) (colour_of (letter_at 3 ps))
+    (leaning_of (letter_at 4 ps))
+
 abbrev pub plain_command : Plain → List Kept → Command
 plain_command (plain.Field k) ps = field_command_of k ps
 plain_command (plain.Label k) ps = label_command_of k ps
 plain_command (plain.Print k) ps = print_command_of k ps
 plain_command (plain.Bar k) ps = bar_command_of k ps
+plain_command (plain.Linear k) ps = linear_command_of k ps
+plain_command (plain.Matrix k) ps = matrix_command_of k ps
+plain_command (plain.Shape k) ps = shape_command_of k ps
 plain_command plain.GraphicBox ps =
     commands.GraphicBox (number_at 0 ps) (number_at 1 ps) (number_at 2 ps) (colour_of (letter_at 3 ps))
 plain_command plain.Font ps = commands.Font (orientation_at 0 ps) (number_at 1 ps) (number_at 2 ps)

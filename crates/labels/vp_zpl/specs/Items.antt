@@ -1,6 +1,7 @@
 -- What each command gives, while it stands open and once it has ended.
 use Rattle.std.specs.Prelude.{ℕ, ◌+◌, ◌==◌, Bool, true, false, not, ◌&&◌, ◌||◌, Option, Some, None, List, [], ◌∷◌, ◌++◌, take, map, filter, if◌then◌else◌}
 use Prim.Native.Char.{code}
+use Rattle.vp_zpl.specs.declared.reading.Reading.{Reading}
 use Rattle.vp_zpl.specs.declared.name.Kind.{Kind}
 use Rattle.vp_zpl.specs.declared.name.Kind.TheVariants as kinds
 use Rattle.vp_zpl.specs.declared.name.Name.{Name}
@@ -54,43 +55,47 @@ picture args =
 abbrev pub graphic : Name → List ℕ → List Item
 graphic name args = item_of kinds.Graphic name (head args) ∷ data_items (picture args)
 
-abbrev pub given_named : Kind → List (List ℕ) → Name → List ℕ → List Item
-given_named kinds.FieldHex before name args = []
-given_named (kinds.Plain k) before name args = []
-given_named kinds.Graphic before name args = if is_whole args then graphic name args else []
-given_named kinds.FieldData before name args =
-    item_of kinds.FieldData name [] ∷ data_items (text_known (indicator before) args)
-given_named kind before name args = item_of kind name [] ∷ []
+abbrev pub given_named : Reading → Kind → List (List ℕ) → Name → List ℕ → List Item
+given_named reading kinds.FieldHex before name args = []
+given_named reading (kinds.Plain k) before name args = []
+given_named reading kinds.Graphic before name args = if is_whole args then graphic name args else []
+given_named reading kinds.FieldData before name args =
+    item_of kinds.FieldData name [] ∷ data_items (text_known (indicator reading before) args)
+given_named reading kind before name args = item_of kind name [] ∷ []
 
 -- what a command has given while it stands open, after these
-unfoldable pub given : List (List ℕ) → List ℕ → List Item
-given before (sign ∷ a ∷ b ∷ args) = given_named (kind_named sign a b) before (name_of sign a b) args
-given before _ = []
+unfoldable pub given : Reading → List (List ℕ) → List ℕ → List Item
+given reading before (sign ∷ a ∷ b ∷ args) =
+    given_named reading (kind_named reading sign a b) before (name_of sign a b) args
+given reading before _ = []
 
-abbrev pub at_end_named : Kind → List (List ℕ) → Name → List ℕ → List Item
-at_end_named kinds.FieldHex before name args = item_of kinds.FieldHex name (kept_of (parameters args)) ∷ []
-at_end_named (kinds.Plain k) before name args = item_of (kinds.Plain k) name (kept_of (parameters args)) ∷ []
-at_end_named kinds.Graphic before name args =
+abbrev pub at_end_named : Reading → Kind → List (List ℕ) → Name → List ℕ → List Item
+at_end_named reading kinds.FieldHex before name args =
+    item_of kinds.FieldHex name (kept_of (parameters args)) ∷ []
+at_end_named reading (kinds.Plain k) before name args =
+    item_of (kinds.Plain k) name (kept_of (parameters args)) ∷ []
+at_end_named reading kinds.Graphic before name args =
     if is_whole args then graphic name args else item_of kinds.Graphic name (kept_of (parameters args)) ∷ []
-at_end_named kinds.FieldData before name args =
-    item_of kinds.FieldData name [] ∷ data_items (text_at_end (indicator before) args)
-at_end_named kind before name args = item_of kind name [] ∷ []
+at_end_named reading kinds.FieldData before name args =
+    item_of kinds.FieldData name [] ∷ data_items (text_at_end (indicator reading before) args)
+at_end_named reading kind before name args = item_of kind name [] ∷ []
 
 -- what it has given once a sign has ended it
-unfoldable pub at_end : List (List ℕ) → List ℕ → List Item
-at_end before (sign ∷ a ∷ b ∷ args) = at_end_named (kind_named sign a b) before (name_of sign a b) args
-at_end before _ = []
+unfoldable pub at_end : Reading → List (List ℕ) → List ℕ → List Item
+at_end reading before (sign ∷ a ∷ b ∷ args) =
+    at_end_named reading (kind_named reading sign a b) before (name_of sign a b) args
+at_end reading before _ = []
 
-unfoldable pub all_ended : List (List ℕ) → List Item
-all_ended [] = []
-all_ended (command ∷ before) = all_ended before ++ at_end before command
+unfoldable pub all_ended : Reading → List (List ℕ) → List Item
+all_ended reading [] = []
+all_ended reading (command ∷ before) = all_ended reading before ++ at_end reading before command
 
 -- the items of the commands that have ended, and what the open one has given
-abbrev pub items_in : Cut → List Item
-items_in s = all_ended s.before ++ given s.before s.open_one
+abbrev pub items_in : Reading → Cut → List Item
+items_in reading s = all_ended reading s.before ++ given reading s.before s.open_one
 
-unfoldable pub items : List ℕ → List Item
-items bytes = items_in (cut bytes)
+unfoldable pub items : Reading → List ℕ → List Item
+items reading bytes = items_in reading (cut reading bytes)
 
 -- whether a command takes more bytes, as parameters or data
 abbrev pub goes_on_named : Kind → List ℕ → Bool
@@ -101,18 +106,19 @@ goes_on_named kinds.Graphic args = if is_whole args && is_b (head args) then is_
 goes_on_named _ args = false
 
 -- inside a name or binary data, and in a format also inside parameters or data
-unfoldable pub is_within_one : Bool → List ℕ → Bool
-is_within_one opened [] = false
-is_within_one opened (sign ∷ a ∷ b ∷ args) =
-    wants_binary (sign ∷ a ∷ b ∷ args) || (opened && goes_on_named (kind_named sign a b) args)
-is_within_one opened (sign ∷ name) = true
+unfoldable pub is_within_one : Reading → Bool → List ℕ → Bool
+is_within_one reading opened [] = false
+is_within_one reading opened (sign ∷ a ∷ b ∷ args) =
+    wants_binary reading (sign ∷ a ∷ b ∷ args)
+    || (opened && goes_on_named (kind_named reading sign a b) args)
+is_within_one reading opened (sign ∷ name) = true
 
-abbrev pub rests : Cut → Bool
-rests s = not (is_within_one (in_format (s.open_one ∷ s.before)) s.open_one)
+abbrev pub rests : Reading → Cut → Bool
+rests reading s = not (is_within_one reading (in_format reading (s.open_one ∷ s.before)) s.open_one)
 
 -- nothing is begun that more bytes have to end
-unfoldable pub at_rest : List ℕ → Bool
-at_rest bytes = rests (cut bytes)
+unfoldable pub at_rest : Reading → List ℕ → Bool
+at_rest reading bytes = rests reading (cut reading bytes)
 
 -- of how many bytes an item is at least: a command of the three of its name, and each byte of data of one
 abbrev pub least_by : Item → ℕ

@@ -1,5 +1,6 @@
 -- What the reader holds, beside the bytes that it has taken.
 use Rattle.std.specs.Prelude.{◌≡◌, ◌==◌, ℕ, ◌-◌, Bool, true, false, not, Option, Some, None, List, [], ◌∷◌, ◌++◌, length, min, if◌then◌else◌}
+use Rattle.vp_zpl.specs.declared.reading.Reading.{Reading}
 use Rattle.vp_zpl.specs.declared.name.Kind.{Kind}
 use Rattle.vp_zpl.specs.declared.name.Kind.TheVariants as kinds
 use Rattle.vp_zpl.specs.declared.name.Name.{Name}
@@ -23,12 +24,12 @@ shown_event events.Given r = Given r.sent.command r.sent.name (shown_parts r.sen
 shown_event events.Data r = data_items (data_bytes r.known)
 
 -- the open command has this kind, name and these bytes behind its name
-pub record Named (r : ZplReader) (k : Kind) (args : List ℕ) (command : List ℕ) : Type 0 where
+pub record Named (reading : Reading) (r : ZplReader) (k : Kind) (args command : List ℕ) : Type 0 where
   pub sign : ℕ
   pub first : ℕ
   pub second : ℕ
   pub bytes : command ≡ sign ∷ first ∷ second ∷ args
-  pub kind : kind_named sign first second ≡ k
+  pub kind : kind_named reading sign first second ≡ k
   pub name : r.sent.name ≡ name_of sign first second
 
 abbrev pub is_alone : Kind → Bool
@@ -70,87 +71,93 @@ phase_behind kinds.Graphic = Parameters kinds.Graphic
 phase_behind kinds.FieldData = Text
 phase_behind _ = Skipping
 
-pub record InSkipping (r : ZplReader) (command : List ℕ) : Type 0 where
+pub record InSkipping (reading : Reading) (r : ZplReader) (command : List ℕ) : Type 0 where
   pub kind : Kind
   pub args : List ℕ
-  pub named : Named r kind args command
+  pub named : Named reading r kind args command
   pub alone : is_alone kind ≡ true
 
-pub record InParameters (r : ZplReader) (kind : Kind) (command : List ℕ) : Type 0 where
+pub record InParameters (reading : Reading) (r : ZplReader) (kind : Kind) (command : List ℕ) : Type 0 where
   pub args : List ℕ
-  pub named : Named r kind args command
+  pub named : Named reading r kind args command
   pub takes : has_parameters kind ≡ true
   pub not_whole : kind ≡ kinds.Graphic → is_whole args ≡ false
   pub kept_is : shown_parts r.sent.parameters.items ≡ kept_of (ended [] args)
   pub part_is : shown_part r.part ≡ kept (last [] args)
 
 -- these bytes may yet be spelled as one
-pub record InText (r : ZplReader) (left : List ℕ) (command : List ℕ) : Type 0 where
+pub record InText (reading : Reading) (r : ZplReader) (left command : List ℕ) : Type 0 where
   pub args : List ℕ
-  pub named : Named r kinds.FieldData args command
+  pub named : Named reading r kinds.FieldData args command
   pub waits : waiting r.indicator args ≡ left
 
-pub record InCodes (r : ZplReader) (command : List ℕ) : Type 0 where
+pub record InCodes (reading : Reading) (r : ZplReader) (command : List ℕ) : Type 0 where
   pub args : List ℕ
-  pub named : Named r kinds.Graphic args command
+  pub named : Named reading r kinds.Graphic args command
   pub whole : is_whole args ≡ true
   pub is_a : is_b (head args) ≡ false
 
-pub record InBinary (r : ZplReader) (left : ℕ) (command : List ℕ) : Type 0 where
+pub record InBinary (reading : Reading) (r : ZplReader) (left : ℕ) (command : List ℕ) : Type 0 where
   pub args : List ℕ
-  pub named : Named r kinds.Graphic args command
+  pub named : Named reading r kinds.Graphic args command
   pub whole : is_whole args ≡ true
   pub binary : is_b (head args) ≡ true
   pub left_is : left ≡ count_of (head args) - length (behind_commas 4 args)
 
-abbrev pub in_phase : Phase → ZplReader → List ℕ → Type 0
-in_phase Outside r command = command ≡ []
-in_phase (AfterSign sign) r command = command ≡ sign ∷ []
-in_phase (AfterFirst sign first) r command = command ≡ sign ∷ first ∷ []
-in_phase Skipping r command = InSkipping r command
-in_phase (Parameters kind) r command = InParameters r kind command
-in_phase Text r command = InText r [] command
-in_phase (AfterIndicator x) r command = (r.indicator ≡ Some x) × InText r (x ∷ []) command
-in_phase (AfterDigit x digit) r command = (r.indicator ≡ Some x) × InText r (x ∷ digit ∷ []) command
-in_phase Codes r command = InCodes r command
-in_phase (Binary left) r command = InBinary r left command
+abbrev pub in_phase : Reading → Phase → ZplReader → List ℕ → Type 0
+in_phase reading Outside r command = command ≡ []
+in_phase reading (AfterSign sign) r command = command ≡ sign ∷ []
+in_phase reading (AfterFirst sign first) r command = command ≡ sign ∷ first ∷ []
+in_phase reading Skipping r command = InSkipping reading r command
+in_phase reading (Parameters kind) r command = InParameters reading r kind command
+in_phase reading Text r command = InText reading r [] command
+in_phase reading (AfterIndicator x) r command =
+    (r.indicator ≡ Some x) × InText reading r (x ∷ []) command
+in_phase reading (AfterDigit x digit) r command =
+    (r.indicator ≡ Some x) × InText reading r (x ∷ digit ∷ []) command
+in_phase reading Codes r command = InCodes reading r command
+in_phase reading (Binary left) r command = InBinary reading r left command
 
 -- the indicator changes where the command that sets it ends
-abbrev pub indicator_at : Phase → List ℕ → List (List ℕ) → Option ℕ
-indicator_at (Parameters kind) command before = indicator before
-indicator_at _ command before = indicator (command ∷ before)
+abbrev pub indicator_at : Reading → Phase → List ℕ → List (List ℕ) → Option ℕ
+indicator_at reading (Parameters kind) command before = indicator reading before
+indicator_at reading _ command before = indicator reading (command ∷ before)
 
-pub record StandsIn (r : ZplReader) (before : List (List ℕ)) (command : List ℕ) : Type 0 where
-  pub opened : r.in_format ≡ in_format (command ∷ before)
-  pub indicates : r.indicator ≡ indicator_at r.phase command before
-  pub phase : in_phase r.phase r command
+-- the reader reads so, and stands behind these commands in this one
+pub record StandsIn (reading : Reading) (r : ZplReader) (before : List (List ℕ)) (command : List ℕ)
+    : Type 0 where
+  pub reads : r.reading ≡ reading
+  pub opened : r.in_format ≡ in_format reading (command ∷ before)
+  pub indicates : r.indicator ≡ indicator_at reading r.phase command before
+  pub phase : in_phase reading r.phase r command
 
--- the reader stands after these bytes
-unfoldable pub Stands : ZplReader → List ℕ → Type 0
-Stands r bytes = StandsIn r (cut bytes).before (cut bytes).open_one
+-- the reader reads so, and stands after these bytes
+unfoldable pub Stands : Reading → ZplReader → List ℕ → Type 0
+Stands reading r bytes = StandsIn reading r (cut reading bytes).before (cut reading bytes).open_one
 
 -- by a byte that the open command takes
-pub record Goes (items : List Item) (new : ZplReader) (before : List (List ℕ)) (command : List ℕ)
-    (c : ℕ) : Type 0 where
-  pub gives : given before (longer command c) ≡ given before command ++ items
-  pub stands : StandsIn new before (longer command c)
+pub record Goes (reading : Reading) (items : List Item) (new : ZplReader) (before : List (List ℕ))
+    (command : List ℕ) (c : ℕ) : Type 0 where
+  pub gives : given reading before (longer command c) ≡ given reading before command ++ items
+  pub stands : StandsIn reading new before (longer command c)
 
 -- by a sign that ends it
-pub record Ends (items : List Item) (new : ZplReader) (before : List (List ℕ)) (command : List ℕ)
-    (c : ℕ) : Type 0 where
-  pub gives : at_end before command ≡ given before command ++ items
-  pub stands : StandsIn new (command ∷ before) (c ∷ [])
+pub record Ends (reading : Reading) (items : List Item) (new : ZplReader) (before : List (List ℕ))
+    (command : List ℕ) (c : ℕ) : Type 0 where
+  pub gives : at_end reading before command ≡ given reading before command ++ items
+  pub stands : StandsIn reading new (command ∷ before) (c ∷ [])
 
 -- by any byte
-pub record Advances (items : List Item) (new : ZplReader) (s : Cut) (c : ℕ) : Type 0 where
-  pub gives : items_in (with_byte s c) ≡ items_in s ++ items
-  pub stands : StandsIn new (with_byte s c).before (with_byte s c).open_one
+pub record Advances (reading : Reading) (items : List Item) (new : ZplReader) (s : Cut) (c : ℕ)
+    : Type 0 where
+  pub gives : items_in reading (with_byte reading s c) ≡ items_in reading s ++ items
+  pub stands : StandsIn reading new (with_byte reading s c).before (with_byte reading s c).open_one
 
 -- wherever it stood in this phase, a byte that the open command takes gives what the event shows
 abbrev pub Continues : Phase → ℕ → Event → ZplReader → ZplReader → Type 0
 Continues q c event old new =
-    (before : List (List ℕ)) (command : List ℕ) → StandsIn old before command → old.phase ≡ q
-    → Goes (shown_event event new) new before command c
+    (reading : Reading) (before : List (List ℕ)) (command : List ℕ) → StandsIn reading old before command
+    → old.phase ≡ q → Goes reading (shown_event event new) new before command c
 
 -- wherever it stood in a phase of which this holds, a sign that ends the open command does
 abbrev pub at_sign : ZplReader → ℕ → ZplReader
@@ -158,8 +165,9 @@ at_sign r sign = record r { phase = AfterSign sign }
 
 abbrev pub Closes : (Phase → Type 0) → Event → ZplReader → ZplReader → Type 0
 Closes Within event old new =
-    (before : List (List ℕ)) (command : List ℕ) (sign : ℕ) → StandsIn old before command → Within old.phase
-    → Ends (shown_event event (at_sign new sign)) (at_sign new sign) before command sign
+    (reading : Reading) (before : List (List ℕ)) (command : List ℕ) (sign : ℕ)
+    → StandsIn reading old before command → Within old.phase
+    → Ends reading (shown_event event (at_sign new sign)) (at_sign new sign) before command sign
 
 -- the phase behind ^GF's head
 abbrev pub behind_head : List Kept → Phase

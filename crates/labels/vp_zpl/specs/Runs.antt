@@ -1,6 +1,7 @@
 -- How many bytes from the front of these are data by themselves, behind what was read.
 use Rattle.std.specs.Prelude.{ℕ, ◌-◌, ◌==◌, Bool, false, not, ◌&&◌, ◌||◌, Option, Some, None, List, [], ◌∷◌, length, min, if◌then◌else◌}
 use Rattle.std.specs.List.{prefix_len}
+use Rattle.vp_zpl.specs.declared.reading.Reading.{Reading}
 use Rattle.vp_zpl.specs.declared.name.Kind.{Kind}
 use Rattle.vp_zpl.specs.declared.name.Kind.TheVariants as kinds
 use Rattle.vp_zpl.specs.Spelling.{is_sign, is_line_end, behind_commas}
@@ -38,9 +39,10 @@ front_named kinds.Graphic indicated args input = if is_whole args then picture_f
 front_named _ indicated args input = 0
 
 -- by the command that stands open
-unfoldable pub front_in : List (List ℕ) → List ℕ → List ℕ → ℕ
-front_in before (sign ∷ a ∷ b ∷ args) input = front_named (kind_named sign a b) (indicator before) args input
-front_in before _ input = 0
+unfoldable pub front_in : Reading → List (List ℕ) → List ℕ → List ℕ → ℕ
+front_in reading before (sign ∷ a ∷ b ∷ args) input =
+    front_named (kind_named reading sign a b) (indicator reading before) args input
+front_in reading before _ input = 0
 
-abbrev pub data_front : Cut → List ℕ → ℕ
-data_front s input = front_in s.before s.open_one input
+abbrev pub data_front : Reading → Cut → List ℕ → ℕ
+data_front reading s input = front_in reading s.before s.open_one input

@@ -1,13 +1,21 @@
 //! What the parameters of a command mean.
 ghost use Rattle.std.specs.Prelude.{◌≡◌, ◌<◌, ℕ, Some, slice_get};
 ghost use Rattle.vp_zpl.specs.Arguments.{number_at as number_is, byte_at as byte_is, letter_at as letter_is, yes_at as yes_is, inverted_at as inverted_is, orientation_at as orientation_is, either_of, orientation_of as orientation_as, colour_of as colour_as, format_of as format_as, mode_of as mode_as, justification_of as justification_as, space_in, space_if, tenths_of as tenths_as, tenth_behind as tenth_as, tenths_if, field_command_of as field_is, label_command_of as label_is, print_command_of as print_is, bar_command_of as bar_is, plain_command as plain_is, command_of as command_is};
+ghost use Rattle.vp_zpl.specs.Arguments.{codabar_end_of as codabar_end_as, msi_checks_of as msi_checks_as, linear_symbol as linear_is};
+ghost use Rattle.vp_zpl.specs.Arguments.{late_symbol as late_is, linear_command_of as linear_command_is};
+ghost use Rattle.vp_zpl.specs.Arguments.{leaning_of as leaning_as, matrix_command_of as matrix_is, shape_command_of as shape_is};
 ghost use Rattle.vp_zpl.specs.Shown.{shown_part, shown_parts};
 
 use crate::item::{
-    Code128Mode, Colour, Command, GraphicFormat, Justification, LineSpace, Orientation,
+    Code128Mode, Colour, Command, GraphicFormat, Justification, LineSpace, LinearCode, Orientation,
 };
-use crate::name::{BarCommand, FieldCommand, Kind, LabelCommand, Plain, PrintCommand};
+use crate::name::{
+    BarCommand, FieldCommand, Kind, LabelCommand, LinearCommand, MatrixCommand, Plain,
+    PrintCommand, ShapeCommand,
+};
 use crate::part::{Part, capital, is_digit, number_in};
+use vp_bar_code::{CodabarEnd, MsiChecks};
+use vp_shapes::Leaning;
 
 fn number_at(n: usize, parameters: &[Part]) -> Option<u32>
     ensures { result ≡ number_is n (shown_parts parameters.now) }
@@ -85,6 +93,16 @@ fn colour_of(letter: Option<u8>) -> Option<Colour>
     }
 }
 
+fn leaning_of(letter: Option<u8>) -> Option<Leaning>
+    ensures { result ≡ leaning_as letter }
+{
+    match letter {
+        Some(b'R' | b'/') => Some(Leaning::Right),
+        Some(b'L' | b'\\') => Some(Leaning::Left),
+        _ => None,
+    }
+}
+
 fn mode_of(letter: Option<u8>) -> Option<Code128Mode>
     ensures { result ≡ mode_as letter }
 {
@@ -92,6 +110,30 @@ fn mode_of(letter: Option<u8>) -> Option<Code128Mode>
         Some(b'U') => Some(Code128Mode::UccCase),
         Some(b'A') => Some(Code128Mode::Automatic),
         Some(b'D') => Some(Code128Mode::UccEan),
+        _ => None,
+    }
+}
+
+fn msi_checks_of(letter: Option<u8>) -> Option<MsiChecks>
+    ensures { result ≡ msi_checks_as letter }
+{
+    match letter {
+        Some(b'A') => Some(MsiChecks::None),
+        Some(b'B') => Some(MsiChecks::Mod10),
+        Some(b'C') => Some(MsiChecks::Mod10Twice),
+        Some(b'D') => Some(MsiChecks::Mod11Mod10),
+        _ => None,
+    }
+}
+
+fn codabar_end_of(letter: Option<u8>) -> Option<CodabarEnd>
+    ensures { result ≡ codabar_end_as letter }
+{
+    match letter {
+        Some(b'A' | b'T') => Some(CodabarEnd::A),
+        Some(b'B' | b'N') => Some(CodabarEnd::B),
+        Some(b'C' | b'*') => Some(CodabarEnd::C),
+        Some(b'D' | b'E') => Some(CodabarEnd::D),
         _ => None,
     }
 }
@@ -309,6 +351,118 @@ fn bar_command_of(command: BarCommand, sent: &[Part]) -> Command
     }
 }
 
+/// A symbol whose height is its second parameter.
+fn linear_symbol(code: LinearCode, sent: &[Part]) -> Command
+    ensures { result ≡ linear_is code (shown_parts sent.now) }
+{
+    Command::Linear {
+        code,
+        orientation: orientation_at(0, sent),
+        height: number_at(1, sent),
+        text: yes_at(2, sent),
+        above: yes_at(3, sent),
+    }
+}
+
+/// A symbol whose height is its third parameter, behind its check digits.
+fn late_symbol(code: LinearCode, sent: &[Part]) -> Command
+    ensures { result ≡ late_is code (shown_parts sent.now) }
+{
+    Command::Linear {
+        code,
+        orientation: orientation_at(0, sent),
+        height: number_at(2, sent),
+        text: yes_at(3, sent),
+        above: yes_at(4, sent),
+    }
+}
+
+/// ^B: what the whole language adds.
+fn linear_command_of(command: LinearCommand, sent: &[Part]) -> Command
+    ensures { result ≡ linear_command_is command (shown_parts sent.now) }
+{
+    match command {
+        LinearCommand::Code11 => {
+            let one_check = yes_at(1, sent);
+            late_symbol(LinearCode::Code11 { one_check }, sent)
+        }
+        LinearCommand::Interleaved => {
+            let check = yes_at(4, sent);
+            linear_symbol(LinearCode::Interleaved { check }, sent)
+        }
+        LinearCommand::Ean8 => linear_symbol(LinearCode::Ean8, sent),
+        LinearCommand::UpcE => linear_symbol(LinearCode::UpcE, sent),
+        LinearCommand::Code93 => linear_symbol(LinearCode::Code93, sent),
+        LinearCommand::Codabar => {
+            let start = codabar_end_of(letter_at(5, sent));
+            let stop = codabar_end_of(letter_at(6, sent));
+            late_symbol(LinearCode::Codabar { start, stop }, sent)
+        }
+        LinearCommand::Msi => {
+            let checks = msi_checks_of(letter_at(1, sent));
+            late_symbol(LinearCode::Msi { checks }, sent)
+        }
+        LinearCommand::AddOn => linear_symbol(LinearCode::AddOn, sent),
+        LinearCommand::UpcA => linear_symbol(LinearCode::UpcA, sent),
+    }
+}
+
+/// ^B: the two-dimensional symbols that the whole language adds.
+fn matrix_command_of(command: MatrixCommand, sent: &[Part]) -> Command
+    ensures { result ≡ matrix_is command (shown_parts sent.now) }
+{
+    match command {
+        MatrixCommand::DataMatrix => Command::DataMatrix {
+            orientation: orientation_at(0, sent),
+            module: number_at(1, sent),
+            quality: number_at(2, sent),
+            columns: number_at(3, sent),
+            rows: number_at(4, sent),
+            escape: byte_at(6, sent),
+            aspect: number_at(7, sent),
+        },
+        MatrixCommand::Pdf417 => Command::Pdf417 {
+            orientation: orientation_at(0, sent),
+            height: number_at(1, sent),
+            level: number_at(2, sent),
+            columns: number_at(3, sent),
+            rows: number_at(4, sent),
+            truncated: yes_at(5, sent),
+        },
+        MatrixCommand::Aztec => Command::Aztec {
+            orientation: orientation_at(0, sent),
+            module: number_at(1, sent),
+            control: number_at(3, sent),
+        },
+    }
+}
+
+/// ^G: the shapes that the whole language adds.
+fn shape_command_of(command: ShapeCommand, sent: &[Part]) -> Command
+    ensures { result ≡ shape_is command (shown_parts sent.now) }
+{
+    match command {
+        ShapeCommand::Circle => Command::GraphicCircle {
+            diameter: number_at(0, sent),
+            thickness: number_at(1, sent),
+            colour: colour_of(letter_at(2, sent)),
+        },
+        ShapeCommand::Ellipse => Command::GraphicEllipse {
+            width: number_at(0, sent),
+            height: number_at(1, sent),
+            thickness: number_at(2, sent),
+            colour: colour_of(letter_at(3, sent)),
+        },
+        ShapeCommand::Diagonal => Command::GraphicDiagonal {
+            width: number_at(0, sent),
+            height: number_at(1, sent),
+            thickness: number_at(2, sent),
+            colour: colour_of(letter_at(3, sent)),
+            leaning: leaning_of(letter_at(4, sent)),
+        },
+    }
+}
+
 fn plain_command(plain: Plain, sent: &[Part]) -> Command
     ensures { result ≡ plain_is plain (shown_parts sent.now) }
 {
@@ -317,6 +471,9 @@ fn plain_command(plain: Plain, sent: &[Part]) -> Command
         Plain::Label(command) => label_command_of(command, sent),
         Plain::Print(command) => print_command_of(command, sent),
         Plain::Bar(command) => bar_command_of(command, sent),
+        Plain::Linear(command) => linear_command_of(command, sent),
+        Plain::Matrix(command) => matrix_command_of(command, sent),
+        Plain::Shape(command) => shape_command_of(command, sent),
         Plain::GraphicBox => Command::GraphicBox {
             width: number_at(0, sent),
             height: number_at(1, sent),

@@ -5,6 +5,8 @@ ghost use Rattle.vp_zpl.specs.Shown.{data_bytes};
 use crate::name::Name;
 use crate::part::Part;
 use arrayvec::ArrayVec;
+use vp_bar_code::{CodabarEnd, MsiChecks};
+use vp_shapes::Leaning;
 
 /// How a field is turned, clockwise.
 #[derive(Clone, Copy, Debug, PartialEq, Eq)]
@@ -63,6 +65,38 @@ pub enum LineSpace {
     Added(u32),
     /// With `-` before the number.
     Deleted(u32),
+}
+
+/// A linear symbol that the whole language adds, with what it alone says.
+#[derive(Clone, Copy)]
+pub enum LinearCode {
+    /// ^B1: whether there is one check digit, in place of two.
+    Code11 {
+        one_check: Option<bool>,
+    },
+    /// ^B2: whether there is a check digit.
+    Interleaved {
+        check: Option<bool>,
+    },
+    /// ^B8
+    Ean8,
+    /// ^B9
+    UpcE,
+    /// ^BA
+    Code93,
+    /// ^BK: what starts and stops it.
+    Codabar {
+        start: Option<CodabarEnd>,
+        stop: Option<CodabarEnd>,
+    },
+    /// ^BM: A, B, C or D.
+    Msi {
+        checks: Option<MsiChecks>,
+    },
+    /// ^BS
+    AddOn,
+    /// ^BU
+    UpcA,
 }
 
 /// A command with its arguments, by Zebra's names. An argument that is missing or can't be read is `None`:
@@ -161,10 +195,45 @@ pub enum Command {
         above: Option<bool>,
         mode: Option<Code128Mode>,
     },
+    /// ^B1, ^B2, ^B8, ^B9, ^BA, ^BK, ^BM, ^BS, ^BU
+    Linear {
+        code: LinearCode,
+        orientation: Option<Orientation>,
+        height: Option<u32>,
+        text: Option<bool>,
+        above: Option<bool>,
+    },
     /// ^BQ: the model, and the dots of a module's side.
     QrCode {
         model: Option<u32>,
         module: Option<u32>,
+    },
+    /// ^BX: the dots of a module's side, the quality, columns and rows of modules, the sign that begins an
+    /// escape, and the aspect ratio: 1 square, 2 rectangular.
+    DataMatrix {
+        orientation: Option<Orientation>,
+        module: Option<u32>,
+        quality: Option<u32>,
+        columns: Option<u32>,
+        rows: Option<u32>,
+        escape: Option<u8>,
+        aspect: Option<u32>,
+    },
+    /// ^B7: a row's height in modules, the error correction level, columns of data, rows, and whether the
+    /// right row indicators are left out.
+    Pdf417 {
+        orientation: Option<Orientation>,
+        height: Option<u32>,
+        level: Option<u32>,
+        columns: Option<u32>,
+        rows: Option<u32>,
+        truncated: Option<bool>,
+    },
+    /// ^BO, ^B0: the dots of a module's side, and the error control.
+    Aztec {
+        orientation: Option<Orientation>,
+        module: Option<u32>,
+        control: Option<u32>,
     },
     /// ^GB
     GraphicBox {
@@ -172,6 +241,27 @@ pub enum Command {
         height: Option<u32>,
         thickness: Option<u32>,
         colour: Option<Colour>,
+    },
+    /// ^GC
+    GraphicCircle {
+        diameter: Option<u32>,
+        thickness: Option<u32>,
+        colour: Option<Colour>,
+    },
+    /// ^GE
+    GraphicEllipse {
+        width: Option<u32>,
+        height: Option<u32>,
+        thickness: Option<u32>,
+        colour: Option<Colour>,
+    },
+    /// ^GD
+    GraphicDiagonal {
+        width: Option<u32>,
+        height: Option<u32>,
+        thickness: Option<u32>,
+        colour: Option<Colour>,
+        leaning: Option<Leaning>,
     },
     /// ^GF: where nothing is sent for the format it is `None`.
     Graphic {

@@ -1,42 +1,50 @@
 //! What the definitions of `specs/` say of every stream, whichever program reads it.
-ghost use Rattle.std.specs.Prelude.{◌≡◌, ◌++◌, ◌∷◌, [], ℕ, List, IsTrue, true, false, length, ◌<◌, ◌≤◌, if◌then◌else◌, ◌==◌};
+ghost use Rattle.std.specs.Prelude.{◌≡◌, ◌++◌, ◌∷◌, [], ℕ, List, IsTrue, true, false, length, map, ◌<◌, ◌≤◌, if◌then◌else◌, ◌==◌};
 ghost use Rattle.std.specs.List.{AllByRecursion};
+ghost use Rattle.vp_zpl.specs.declared.reading.Reading.{Reading};
+ghost use Rattle.vp_zpl.specs.declared.reading.Reading.TheVariants.{Profile, Whole};
 ghost use Rattle.vp_zpl.specs.declared.name.Kind.TheVariants as kinds;
 ghost use Rattle.vp_zpl.specs.declared.name.Plain.TheVariants as plain;
 ghost use Rattle.vp_zpl.specs.Spelling.{is_line_end, capital, known, undecided, decoded, parameters, behind_commas};
 ghost use Rattle.vp_zpl.specs.Commands.{cut, wants_binary, kind_named, is_whole, is_b, head, count_of};
 ghost use Rattle.vp_zpl.specs.Items.{Item, items, least_bytes, picture, at_rest};
-ghost use Rattle.vp_zpl.specs.Laws.{rows, kind_in, IsCommand, IsCut, cut_of};
+ghost use Rattle.vp_zpl.specs.Laws.{rows, kind_in, narrowed, skipped_at_name, IsCommand, IsCut, cut_of};
 
 /// What is given stays given.
 pub fn only_more()
-    ensures { (bytes more : List ℕ) → (added : List Item) × (items (bytes ++ more) ≡ items bytes ++ added) }
+    ensures { (reading : Reading) (bytes more : List ℕ) →
+        (added : List Item) × (items reading (bytes ++ more) ≡ items reading bytes ++ added) }
 {}
 
 /// Items are of no more bytes than were read: a command of three or more, each byte of data of one or more.
 pub fn items_take_bytes()
-    ensures { (bytes : List ℕ) → least_bytes (items bytes) ≤ length bytes }
+    ensures { (reading : Reading) (bytes : List ℕ) → least_bytes (items reading bytes) ≤ length bytes }
 {}
 
 /// A stream is one list of commands with their data, and what is spelled behind
 /// a command as one is read as one.
 pub fn commands()
-    ensures are { (bytes : List ℕ) → IsCut (cut bytes) }
-    ensures read { (bytes command : List ℕ) → IsCommand command → wants_binary (cut bytes).open_one ≡ false →
-        cut (bytes ++ command) ≡ cut_of ((cut bytes).open_one ∷ (cut bytes).before) command }
+    ensures are { (reading : Reading) (bytes : List ℕ) → IsCut reading (cut reading bytes) }
+    ensures read { (reading : Reading) (bytes command : List ℕ) → IsCommand reading command →
+        wants_binary reading (cut reading bytes).open_one ≡ false →
+        cut reading (bytes ++ command) ≡
+        cut_of ((cut reading bytes).open_one ∷ (cut reading bytes).before) command }
 {}
 
 /// A name behind ^ is read in either case as its row of the table says, ^A with
 /// any font; any other is skipped.
 pub fn names()
-    ensures { (a b : ℕ) → kind_named 0x5E a b ≡
-        (if capital a == 0x41 then kinds.Plain plain.Font else kind_in rows (capital a) (capital b)) }
+    ensures { (reading : Reading) (a b : ℕ) → kind_named reading 0x5E a b ≡
+        (if capital a == 0x41 then kinds.Plain plain.Font
+        else kind_in (rows reading) (capital a) (capital b)) }
 {}
 
 /// The end of a line changes nothing, but in binary data.
 pub fn line_ends()
-    ensures { (bytes : List ℕ) (c : ℕ) → IsTrue (is_line_end c) → wants_binary (cut bytes).open_one ≡ false →
-        (items (bytes ++ c ∷ []) ≡ items bytes) × (cut (bytes ++ c ∷ []) ≡ cut bytes) }
+    ensures { (reading : Reading) (bytes : List ℕ) (c : ℕ) → IsTrue (is_line_end c) →
+        wants_binary reading (cut reading bytes).open_one ≡ false →
+        (items reading (bytes ++ c ∷ []) ≡ items reading bytes)
+        × (cut reading (bytes ++ c ∷ []) ≡ cut reading bytes) }
 {}
 
 /// A blank among parameters changes none, nor what stands behind ^GF's head.
@@ -64,6 +72,14 @@ pub fn binary_data()
 
 /// Whatever was read, more bytes bring the reader to rest.
 pub fn can_be_completed()
-    ensures { (bytes : List ℕ) → (end : List ℕ) × AllByRecursion (λ b. b < 256) end
-        × (at_rest (bytes ++ end) ≡ true) }
+    ensures { (reading : Reading) (bytes : List ℕ) → (end : List ℕ) × AllByRecursion (λ b. b < 256) end
+        × (at_rest reading (bytes ++ end) ≡ true) }
+{}
+
+/// The whole language divides a stream as the profile does, and reads it alike but for the commands that it
+/// adds, which the profile skips at their name.
+pub fn the_profile_is_within()
+    ensures cut { (bytes : List ℕ) → cut Profile bytes ≡ cut Whole bytes }
+    ensures items { (bytes : List ℕ) → items Profile bytes ≡
+        map narrowed (items Whole bytes) ++ skipped_at_name (cut Whole bytes).open_one }
 {}

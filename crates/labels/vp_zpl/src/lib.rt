@@ -4,6 +4,7 @@
 //! `ZplReader` takes one byte at a time and answers what that byte makes known: a command with its arguments,
 //! or data of a field. `ZplItem::line` is an item's line in a listing.
 //!
+//! - `reading`: which commands a stream is read by, those of the profile or of the whole language.
 //! - `item`: what a stream says. `name`: which command a name is. `part`: parameters as they are kept.
 //! - `argument`: what parameters mean. `reader`: one byte at a time. `front`: data, a run at a time.
 //! - `line`: the listing. `laws`: what holds of every stream.
@@ -17,8 +18,10 @@ mod line;
 mod name;
 mod part;
 mod reader;
+pub mod reading;
 
 pub use item::{Command, DataBytes, Sent, ZplItem};
 pub use name::Name;
 pub use part::Part;
 pub use reader::ZplReader;
+pub use reading::Reading;

@@ -1,10 +1,13 @@
 //! Which command a name is, and how it goes on.
 ghost use Rattle.std.specs.Prelude.{◌≡◌, Some};
 ghost use Rattle.vp_zpl.specs.Commands.{kind_of as kind_is, kind_named as kind_is_named, format_command as format_is, field_command as field_is, label_command as label_is, print_command as print_is, bar_command as bar_is, graphic_command as graphic_is, in_format_by};
+ghost use Rattle.vp_zpl.specs.Commands.{profile_kind as profile_is, added_kind as added_is};
+ghost use Rattle.vp_zpl.specs.Commands.{added_bar as added_bar_is, added_matrix as added_matrix_is, added_shape as added_shape_is};
 ghost use Rattle.vp_zpl.specs.Items.{name_of as name_is};
 ghost use Rattle.vp_zpl.specs.Reader.{indicator_behind as indicator_is};
 
 use crate::part::capital;
+use crate::reading::Reading;
 
 /// A command's sign and its name in capitals; the font byte of ^A stands as it came.
 #[derive(Clone, Copy, Debug, PartialEq, Eq)]
@@ -51,6 +54,36 @@ pub enum BarCommand {
     QrCode,
 }
 
+/// ^B: the linear symbols that the whole language adds.
+#[derive(Clone, Copy)]
+pub enum LinearCommand {
+    Code11,
+    Interleaved,
+    Ean8,
+    UpcE,
+    Code93,
+    Codabar,
+    Msi,
+    AddOn,
+    UpcA,
+}
+
+/// ^B: the two-dimensional symbols that the whole language adds.
+#[derive(Clone, Copy)]
+pub enum MatrixCommand {
+    DataMatrix,
+    Pdf417,
+    Aztec,
+}
+
+/// ^G: the shapes that the whole language adds.
+#[derive(Clone, Copy)]
+pub enum ShapeCommand {
+    Circle,
+    Ellipse,
+    Diagonal,
+}
+
 /// The commands whose parameters end with the command.
 #[derive(Clone, Copy)]
 pub enum Plain {
@@ -58,6 +91,9 @@ pub enum Plain {
     Label(LabelCommand),
     Print(PrintCommand),
     Bar(BarCommand),
+    Linear(LinearCommand),
+    Matrix(MatrixCommand),
+    Shape(ShapeCommand),
     /// ^GB
     GraphicBox,
     /// ^A
@@ -156,6 +192,51 @@ fn bar_command(b: u8) -> Kind
     }
 }
 
+/// ^B: the two-dimensional symbols that the whole language adds.
+fn added_matrix(b: u8) -> Kind
+    ensures { result ≡ added_matrix_is b }
+{
+    let command = match b {
+        b'X' => MatrixCommand::DataMatrix,
+        b'7' => MatrixCommand::Pdf417,
+        b'O' | b'0' => MatrixCommand::Aztec,
+        _ => return Kind::Skipped,
+    };
+    Kind::Plain(Plain::Matrix(command))
+}
+
+/// ^G: the shapes that the whole language adds.
+fn added_shape(b: u8) -> Kind
+    ensures { result ≡ added_shape_is b }
+{
+    let command = match b {
+        b'C' => ShapeCommand::Circle,
+        b'E' => ShapeCommand::Ellipse,
+        b'D' => ShapeCommand::Diagonal,
+        _ => return Kind::Skipped,
+    };
+    Kind::Plain(Plain::Shape(command))
+}
+
+/// ^B: what the whole language adds.
+fn added_bar(b: u8) -> Kind
+    ensures { result ≡ added_bar_is b }
+{
+    let command = match b {
+        b'1' => LinearCommand::Code11,
+        b'2' => LinearCommand::Interleaved,
+        b'8' => LinearCommand::Ean8,
+        b'9' => LinearCommand::UpcE,
+        b'A' => LinearCommand::Code93,
+        b'K' => LinearCommand::Codabar,
+        b'M' => LinearCommand::Msi,
+        b'S' => LinearCommand::AddOn,
+        b'U' => LinearCommand::UpcA,
+        _ => return added_matrix(b),
+    };
+    Kind::Plain(Plain::Linear(command))
+}
+
 /// ^G.
 fn graphic_command(b: u8) -> Kind
     ensures { result ≡ graphic_is b }
@@ -181,10 +262,9 @@ impl Name {
     }
 }
 
-/// The command of a name in capitals.
-#[tactic(auto, unfolding(crate::specs::Commands::kind_of))]
-fn kind_of(sign: u8, first: u8, second: u8) -> Kind
-    ensures { result ≡ kind_is sign first second }
+/// The commands of the profile.
+fn profile_kind(sign: u8, first: u8, second: u8) -> Kind
+    ensures { result ≡ profile_is sign first second }
 {
     if sign != b'^' {
         return Kind::Skipped;
@@ -202,11 +282,36 @@ fn kind_of(sign: u8, first: u8, second: u8) -> Kind
     }
 }
 
-/// The command of a name in either case.
-pub(crate) fn kind_named(sign: u8, first: u8, second: u8) -> Kind
-    ensures { result ≡ kind_is_named sign first second }
+/// The commands that the whole language adds.
+fn added_kind(sign: u8, first: u8, second: u8) -> Kind
+    ensures { result ≡ added_is sign first second }
 {
-    kind_of(sign, capital(first), capital(second))
+    match first {
+        b'B' if sign == b'^' => added_bar(second),
+        b'G' if sign == b'^' => added_shape(second),
+        _ => Kind::Skipped,
+    }
+}
+
+/// The command of a name in capitals.
+#[tactic(auto, unfolding(crate::specs::Commands::kind_of))]
+fn kind_of(reading: Reading, sign: u8, first: u8, second: u8) -> Kind
+    ensures { result ≡ kind_is reading sign first second }
+{
+    match profile_kind(sign, first, second) {
+        Kind::Skipped => match reading {
+            Reading::Profile => Kind::Skipped,
+            Reading::Whole => added_kind(sign, first, second),
+        },
+        known => known,
+    }
+}
+
+/// The command of a name in either case.
+pub(crate) fn kind_named(reading: Reading, sign: u8, first: u8, second: u8) -> Kind
+    ensures { result ≡ kind_is_named reading sign first second }
+{
+    kind_of(reading, sign, capital(first), capital(second))
 }
 
 impl Kind {

@@ -1,6 +1,7 @@
 //! The reader: one byte at a time.
 ghost use Rattle.std.specs.Prelude.{◌≡◌, ◌∷◌, ◌++◌, [], ℕ, List, false, take, length, ◌<◌, ◌≤◌, ⊤};
 ghost use Rattle.std.specs.Borrow.{sem};
+ghost use Rattle.vp_zpl.specs.declared.reading.Reading.{Reading};
 ghost use Rattle.vp_zpl.specs.Commands.{Cut, cut, wants_binary};
 ghost use Rattle.vp_zpl.specs.Spelling.{kept};
 ghost use Rattle.vp_zpl.specs.Arguments.{command_of as command_as};
@@ -14,6 +15,7 @@ use crate::front::{code_front, is_line_end, is_sign, text_front};
 use crate::item::{Command, DataBytes, Sent, ZplItem};
 use crate::name::{Kind, Name, kind_named};
 use crate::part::{Part, count_of, hex, hex_byte, indicator_of, is_b};
+use crate::reading::Reading;
 use arrayvec::ArrayVec;
 
 /// Where in a command the reader is.
@@ -49,6 +51,7 @@ enum Event {
 /// A reader of a label's bytes.
 #[derive(Drop)]
 pub struct ZplReader {
+    reading: Reading,
     phase: Phase,
     /// The command in hand, with the parameters that are ended.
     sent: Sent,
@@ -64,12 +67,13 @@ pub struct ZplReader {
 impl ZplReader {
     ghost use Rattle.vp_zpl.specs.Lent.{Leaves};
 
-    /// A reader of no bytes.
-    pub fn new() -> Self
-        ensures stands { Stands result [] }
-        ensures nothing { items [] ≡ [] }
+    /// A reader of no bytes, by these commands.
+    pub fn new(reading: Reading) -> Self
+        ensures stands { Stands reading result [] }
+        ensures nothing { items reading [] ≡ [] }
     {
         ZplReader {
+            reading,
             phase: Phase::Outside,
             sent: Sent {
                 command: Command::Skipped,
@@ -117,7 +121,7 @@ impl ZplReader {
     fn call(&mut self, sign: u8, first: u8, second: u8) -> Event
         ensures { Continues (Phase.AfterFirst sign first) second result self.old self.new }
     {
-        let kind = kind_named(sign, first, second);
+        let kind = kind_named(self.reading, sign, first, second);
         self.sent.name = Name::new(sign, first, second);
         self.sent.parameters.clear();
         self.part = Part::new();
@@ -239,9 +243,9 @@ impl ZplReader {
 
     /// A byte that the open command takes.
     fn more(&mut self, byte: u8) -> Event
-        ensures { (before : List (List ℕ)) (command : List ℕ) → StandsIn self.old before command →
-            wants_binary command ≡ false →
-            Goes (shown_event result self.new) self.new before command byte }
+        ensures { (reading : Reading) (before : List (List ℕ)) (command : List ℕ) →
+            StandsIn reading self.old before command → wants_binary reading command ≡ false →
+            Goes reading (shown_event result self.new) self.new before command byte }
     {
         match self.phase {
             Phase::Outside => Event::Nothing,
@@ -272,9 +276,9 @@ impl ZplReader {
 
     /// A byte of binary data.
     fn binary(&mut self, left: u32, byte: u8) -> Event
-        ensures { (before : List (List ℕ)) (command : List ℕ) → StandsIn self.old before command →
-            left_of self.old.phase ≡ left → 0 < left →
-            Goes (shown_event result self.new) self.new before command byte }
+        ensures { (reading : Reading) (before : List (List ℕ)) (command : List ℕ) →
+            StandsIn reading self.old before command → left_of self.old.phase ≡ left → 0 < left →
+            Goes reading (shown_event result self.new) self.new before command byte }
     {
         self.phase = Phase::Binary(left.saturating_sub(1));
         self.data(DataBytes::One([byte]))
@@ -330,8 +334,8 @@ impl ZplReader {
 
     /// One byte, by the phase.
     fn step(&mut self, byte: u8) -> Event
-        ensures { (s : Cut) → StandsIn self.old s.before s.open_one →
-            Advances (shown_event result self.new) self.new s byte }
+        ensures { (reading : Reading) (s : Cut) → StandsIn reading self.old s.before s.open_one →
+            Advances reading (shown_event result self.new) self.new s byte }
     {
         let left = self.wanted();
         if left > 0 {
@@ -352,10 +356,10 @@ impl ZplReader {
     /// the sign that ends it, or data as soon as they are known, up to three bytes behind ^FH. A command is
     /// the reader's and stands until the next byte.
     pub fn take(&mut self, byte: u8) -> Option<ZplItem<'_>>
-        ensures* stands { sem 𝓛 (Leaves self.entry (λ new. (bytes : List ℕ) → Stands self.old bytes →
-            Stands new (bytes ++ byte ∷ []))) }
-        ensures gives { (bytes : List ℕ) → Stands self.old bytes →
-            items (bytes ++ byte ∷ []) ≡ items bytes ++ shown_items result }
+        ensures* stands { sem 𝓛 (Leaves self.entry (λ new. (reading : Reading) (bytes : List ℕ) →
+            Stands reading self.old bytes → Stands reading new (bytes ++ byte ∷ []))) }
+        ensures gives { (reading : Reading) (bytes : List ℕ) → Stands reading self.old bytes →
+            items reading (bytes ++ byte ∷ []) ≡ items reading bytes ++ shown_items result }
     {
         match self.step(byte) {
             Event::Nothing => None,
@@ -367,12 +371,14 @@ impl ZplReader {
     /// Takes the bytes at the front of the input that are data by themselves: none but in the data of ^FD,
     /// where no byte of them can be one that ^FH spells, and of ^GF. They may be taken one by one as well.
     pub fn take_data(&mut self, input: &[u8]) -> usize
-        ensures count { (bytes : List ℕ) → Stands self.old bytes → result ≡ data_front (cut bytes) input.now }
+        ensures count { (reading : Reading) (bytes : List ℕ) → Stands reading self.old bytes →
+            result ≡ data_front reading (cut reading bytes) input.now }
         ensures fits { result ≤ length input.now }
-        ensures gives { (bytes : List ℕ) (n : ℕ) → Stands self.old bytes → n ≤ result →
-            items (bytes ++ take n input.now) ≡ items bytes ++ data_items (take n input.now) }
-        ensures stands { (bytes : List ℕ) → Stands self.old bytes →
-            Stands self.new (bytes ++ take result input.now) }
+        ensures gives { (reading : Reading) (bytes : List ℕ) (n : ℕ) → Stands reading self.old bytes →
+            n ≤ result →
+            items reading (bytes ++ take n input.now) ≡ items reading bytes ++ data_items (take n input.now) }
+        ensures stands { (reading : Reading) (bytes : List ℕ) → Stands reading self.old bytes →
+            Stands reading self.new (bytes ++ take result input.now) }
     {
         let n = self.phase.front(self.indicator, input);
         self.phase = self.phase.after(n);
@@ -381,7 +387,8 @@ impl ZplReader {
 
     /// Whether nothing is begun that more bytes have to end.
     pub fn at_rest(&self) -> bool
-        ensures { (bytes : List ℕ) → Stands self.now bytes → result ≡ at_rest bytes }
+        ensures { (reading : Reading) (bytes : List ℕ) → Stands reading self.now bytes →
+            result ≡ at_rest reading bytes }
     {
         self.phase.rests(self.in_format)
     }

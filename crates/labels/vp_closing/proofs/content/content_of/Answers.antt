@@ -15,3 +15,25 @@ returns-in-Frame-clause-value g c =
 pub returns-in-Frame-clause-stored : goal.returns-in-Frame-clause-stored
 returns-in-Frame-clause-stored g c =
     subst (λ (s : SizedContent). IsStored c.args.stored.now s.content) (sym (c.graphic_box.ensures c.args.sheets.now c.args.stored.now)) tt
+
+pub returns-in-Ring-clause-value : goal.returns-in-Ring-clause-value
+returns-in-Ring-clause-value g c =
+    let sheets = c.args.sheets.now in
+    let stored = c.args.stored.now in
+    ap (λ (s : SizedContent). Ok s) (c.ring.ensures sheets stored)
+    ∙ sym (ap (λ (o : OpenContent). sized_if sheets stored (content_of stored c.args.settings.now c.args.parts.now o)) c.in-Ring.is)
+
+pub returns-in-Ring-clause-stored : goal.returns-in-Ring-clause-stored
+returns-in-Ring-clause-stored g c =
+    subst (λ (s : SizedContent). IsStored c.args.stored.now s.content) (sym (c.ring.ensures c.args.sheets.now c.args.stored.now)) tt
+
+pub returns-in-Diagonal-clause-value : goal.returns-in-Diagonal-clause-value
+returns-in-Diagonal-clause-value g c =
+    let sheets = c.args.sheets.now in
+    let stored = c.args.stored.now in
+    ap (λ (s : SizedContent). Ok s) (c.diagonal.ensures sheets stored)
+    ∙ sym (ap (λ (o : OpenContent). sized_if sheets stored (content_of stored c.args.settings.now c.args.parts.now o)) c.in-Diagonal.is)
+
+pub returns-in-Diagonal-clause-stored : goal.returns-in-Diagonal-clause-stored
+returns-in-Diagonal-clause-stored g c =
+    subst (λ (s : SizedContent). IsStored c.args.stored.now s.content) (sym (c.diagonal.ensures c.args.sheets.now c.args.stored.now)) tt

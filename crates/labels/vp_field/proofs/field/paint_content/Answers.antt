@@ -46,3 +46,21 @@ returns-in-Qr-clause-counted g c = let n = c.requires.kept.near in rw c.in-Qr.is
 
 pub returns-in-Picture-clause-counted : goal.returns-in-Picture-clause-counted
 returns-in-Picture-clause-counted g c = let n = c.requires.kept.near in rw c.in-Picture.is (rw (left_of n, top_of n, left_of n, top_of n) at (c.paint_picture.ensures.counted c.args.sheets.now))
+
+pub returns-in-Matrix-clause-dots : goal.returns-in-Matrix-clause-dots
+returns-in-Matrix-clause-dots g c = let n = c.requires.kept.near in rw c.in-Matrix.is (rw (left_of n, top_of n) at (c.paint_matrix.ensures.dots c.args.sheets.now))
+
+pub returns-in-Ring-clause-dots : goal.returns-in-Ring-clause-dots
+returns-in-Ring-clause-dots g c = let n = c.requires.kept.near in rw c.in-Ring.is (rw (left_of n, top_of n, left_of n, top_of n) at (c.paint_ring.ensures.dots c.args.sheets.now c.args.stored.now))
+
+pub returns-in-Diagonal-clause-dots : goal.returns-in-Diagonal-clause-dots
+returns-in-Diagonal-clause-dots g c = let n = c.requires.kept.near in rw c.in-Diagonal.is (rw (left_of n, top_of n, left_of n, top_of n) at (c.paint_diagonal.ensures.dots c.args.sheets.now c.args.stored.now))
+
+pub returns-in-Matrix-clause-counted : goal.returns-in-Matrix-clause-counted
+returns-in-Matrix-clause-counted g c = let n = c.requires.kept.near in rw c.in-Matrix.is (rw (left_of n, top_of n) at (c.paint_matrix.ensures.counted c.args.sheets.now))
+
+pub returns-in-Ring-clause-counted : goal.returns-in-Ring-clause-counted
+returns-in-Ring-clause-counted g c = let n = c.requires.kept.near in rw c.in-Ring.is (rw (left_of n, top_of n, left_of n, top_of n) at (c.paint_ring.ensures.counted c.args.sheets.now c.args.stored.now))
+
+pub returns-in-Diagonal-clause-counted : goal.returns-in-Diagonal-clause-counted
+returns-in-Diagonal-clause-counted g c = let n = c.requires.kept.near in rw c.in-Diagonal.is (rw (left_of n, top_of n, left_of n, top_of n) at (c.paint_diagonal.ensures.counted c.args.sheets.now c.args.stored.now))

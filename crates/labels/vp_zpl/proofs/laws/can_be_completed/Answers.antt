@@ -2,4 +2,4 @@ use Rattle.vp_zpl.proofs.Completion.{completed}
 use Rattle.vp_zpl.proofs.laws.can_be_completed.Goals as goal
 
 pub returns : goal.returns
-returns c bytes = completed bytes
+returns c reading bytes = completed reading bytes

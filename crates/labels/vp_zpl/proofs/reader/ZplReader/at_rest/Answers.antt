@@ -7,4 +7,5 @@ use Rattle.vp_zpl.proofs.reader.ZplReader.at_rest.Goals as goal
 
 pub returns : goal.returns
 unfolding Stands at_rest
-returns c bytes stands = c.rests.ensures ∙ rests_is c.args.self.now.phase c.args.self.now (cut bytes).before (cut bytes).open_one stands refl
+returns c reading bytes stands =
+    c.rests.ensures ∙ rests_is c.args.self.now.phase c.args.self.now (cut reading bytes).before (cut reading bytes).open_one stands refl

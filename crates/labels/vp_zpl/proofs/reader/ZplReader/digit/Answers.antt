@@ -6,7 +6,7 @@ use Rattle.vp_zpl.proofs.Phases.{data_shows, at_phase, at_indicator, text_goes}
 use Rattle.vp_zpl.proofs.reader.ZplReader.digit.Goals as goal
 
 pub returns-in-Some : goal.returns-in-Some
-returns-in-Some c before command stands p =
+returns-in-Some c reading before command stands p =
     let r = c.args.self.now in let q = phases.AfterDigit c.args.x c.args.high in
     let h = at_phase r before command q stands p in
     data_shows _ (record r { phase = phases.Text }) _ (known.One (c.in-Some.both ∷ [])) before command
@@ -16,7 +16,7 @@ returns-in-Some c before command stands p =
     (λ y. refl) (λ _ _ g. g) (grind (arith, h.0, c.hex_byte.ensures)))
 
 pub returns-then-byte-x : goal.returns-then-byte-x
-returns-then-byte-x c before command stands p =
+returns-then-byte-x c reading before command stands p =
     let x = c.args.x in let r = c.args.self.now in let q = phases.AfterDigit x c.args.high in
     let h = at_phase r before command q stands p in
     data_shows _ (record r { phase = phases.AfterIndicator x }) _ (known.Two (x ∷ c.args.high ∷ [])) before
@@ -27,7 +27,7 @@ returns-then-byte-x c before command stands p =
     (λ y. refl) (λ _ e g. (e ∙ h.0, g)) (grind (arith, nat_tests, h.0, c.hex_byte.ensures)))
 
 pub returns : goal.returns
-returns c before command stands p =
+returns c reading before command stands p =
     let r = c.args.self.now in let q = phases.AfterDigit c.args.x c.args.high in
     let h = at_phase r before command q stands p in
     data_shows _ (record r { phase = phases.Text }) _

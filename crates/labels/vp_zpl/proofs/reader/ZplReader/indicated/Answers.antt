@@ -6,7 +6,7 @@ use Rattle.vp_zpl.proofs.Phases.{data_shows, at_phase, at_indicator, text_goes}
 use Rattle.vp_zpl.proofs.reader.ZplReader.indicated.Goals as goal
 
 pub returns-in-Some : goal.returns-in-Some
-returns-in-Some c before command stands p =
+returns-in-Some c reading before command stands p =
     let r = c.args.self.now in let q = phases.AfterIndicator c.args.x in
     let h = at_phase r before command q stands p in
     text_goes r before command _ [] (c.args.x ∷ c.args.byte ∷ []) _ (phases.AfterDigit c.args.x c.args.byte)
@@ -15,7 +15,7 @@ returns-in-Some c before command stands p =
     (grind (arith, h.0, c.hex.ensures))
 
 pub returns-then-byte-x : goal.returns-then-byte-x
-returns-then-byte-x c before command stands p =
+returns-then-byte-x c reading before command stands p =
     let r = c.args.self.now in let q = phases.AfterIndicator c.args.x in
     let h = at_phase r before command q stands p in
     data_shows _ (record r { phase = q }) _ (known.One (c.args.x ∷ [])) before command c.args.byte
@@ -27,7 +27,7 @@ returns-then-byte-x c before command stands p =
     (λ y. refl) (λ _ e g. (e ∙ h.0, g)) (grind (arith, nat_tests, h.0, c.hex.ensures)))
 
 pub returns : goal.returns
-returns c before command stands p =
+returns c reading before command stands p =
     let r = c.args.self.now in let q = phases.AfterIndicator c.args.x in
     let h = at_phase r before command q stands p in
     data_shows _ (record r { phase = phases.Text }) _ (known.Two (c.args.x ∷ c.args.byte ∷ [])) before command

@@ -6,7 +6,7 @@ use Rattle.vp_zpl.proofs.reader.ZplReader.new.Goals as goal
 
 pub returns-clause-stands : goal.returns-clause-stands
 unfolding Stands cut in_format indicator kind
-returns-clause-stands c = record { opened = refl; indicates = refl; phase = refl }
+returns-clause-stands c = record { reads = refl; opened = refl; indicates = refl; phase = refl }
 
 pub returns-clause-nothing : goal.returns-clause-nothing
 unfolding items cut given all_ended

@@ -6,7 +6,7 @@ use Rattle.vp_zpl.proofs.Phases.{data_shows, at_phase, at_indicator, text_goes}
 use Rattle.vp_zpl.proofs.reader.ZplReader.text.Goals as goal
 
 pub returns-in_default : goal.returns-in_default
-returns-in_default c before command stands p =
+returns-in_default c reading before command stands p =
     let r = c.args.self.now in
     data_shows _ (record r { phase = phases.Text }) _ (known.One (c.args.byte ∷ [])) before command
     c.args.byte c.data.ensures.event
@@ -17,7 +17,7 @@ returns-in_default c before command stands p =
     (at_indicator r before command phases.Text stands p) (λ y. refl) (λ _ _ g. g) (grind arith))
 
 pub returns-then-byte-x : goal.returns-then-byte-x
-returns-then-byte-x c before command stands p =
+returns-then-byte-x c reading before command stands p =
     let r = c.args.self.now in
     text_goes r before command _ [] (c.args.byte ∷ []) _ (phases.AfterIndicator c.args.byte) r.known stands
     (at_phase r before command phases.Text stands p) (at_indicator r before command phases.Text stands p)
@@ -25,7 +25,7 @@ returns-then-byte-x c before command stands p =
     (λ _ e g. (grind arith, g)) (grind (arith, nat_tests))
 
 pub returns : goal.returns
-returns c before command stands p =
+returns c reading before command stands p =
     let r = c.args.self.now in
     data_shows _ (record r { phase = phases.Text }) _ (known.One (c.args.byte ∷ [])) before command
     c.args.byte c.data-2.ensures.event
