@@ -56,11 +56,12 @@ typedef struct vp {
 
 /* What a stream is written in, and on which paper it is printed. */
 enum vp_language {
-    VP_RECEIPT = 0,         /* the profile of ESC/POS, paper of 576 dots */
-    VP_RECEIPT_58 = 1,      /* the profile of ESC/POS, paper of 384 dots */
-    VP_LABEL = 2,           /* ZPL II, labels as wide and as long as they say */
-    VP_WHOLE_RECEIPT = 3,   /* the whole language of ESC/POS, paper of 576 dots */
-    VP_WHOLE_RECEIPT_58 = 4 /* the whole language of ESC/POS, paper of 384 dots */
+    VP_RECEIPT = 0,          /* the profile of ESC/POS, paper of 576 dots */
+    VP_RECEIPT_58 = 1,       /* the profile of ESC/POS, paper of 384 dots */
+    VP_LABEL = 2,            /* the profile of ZPL II, labels as wide and as long as they say */
+    VP_WHOLE_RECEIPT = 3,    /* the whole language of ESC/POS, paper of 576 dots */
+    VP_WHOLE_RECEIPT_58 = 4, /* the whole language of ESC/POS, paper of 384 dots */
+    VP_WHOLE_LABEL = 5       /* the whole language of ZPL II, labels as wide and as long as they say */
 };
 
 /* Answers. Of a sheet that is none, which one it is and its first offence. */

@@ -6,6 +6,7 @@ use Rattle.vp_esc.specs.Reader.{Stands as EscStands}
 use Rattle.vp_glyph.specs.Sheets.{Sheets}
 use Rattle.vp_receipt_settings.specs.Setup.{Setup as ReceiptSetup}
 use Rattle.vp_receipt.specs.Standing.{Printing, Stands as ReceiptStands}
+use Rattle.vp_zpl.specs.declared.reading.Reading.{Reading as ZplReading}
 use Rattle.vp_zpl.specs.declared.reader.ZplReader.{ZplReader}
 use Rattle.vp_zpl.specs.Reader.{Stands as ZplStands}
 use Rattle.vp_label.specs.Standing.{Printing as LabelPrinting, Stands as LabelStands}
@@ -42,23 +43,23 @@ module _ (P : (setup : Setup) → List ℕ → List (Item setup) → Type 0) whe
   at_lines machine reader lines is f setup t before at = by_lines reader lines f setup t before (subst (λ m. MachineStands (machine_of m) setup t before) is at)
 
   by_label : (reader : ZplReader) (label : LabelPrinting (Unit {0})) →
-      ((s : Sheets) (t : List ℕ) (before : List (Item (Labels s))) → ZplStands reader t × LabelStands s label before → P (Labels s) t before) →
+      ((by : ZplReading) (s : Sheets) (t : List ℕ) (before : List (Item (Labels by s))) → ZplStands by reader t × LabelStands s label before → P (Labels by s) t before) →
       (setup : Setup) (t : List ℕ) (before : List (Item setup)) → MachineStands (Label reader label) setup t before → P setup t before
-  by_label reader label f (Labels s) t before at = f s t before at
+  by_label reader label f (Labels by s) t before at = f by s t before at
   by_label reader label f setup t before at = absurd at
 
   pub at_label : {A : Type 0} (machine : MachineOver A) (reader : ZplReader) (label : LabelPrinting A) → machine ≡ over.Label reader label →
-      ((s : Sheets) (t : List ℕ) (before : List (Item (Labels s))) → ZplStands reader t × LabelStands s label before → P (Labels s) t before) →
+      ((by : ZplReading) (s : Sheets) (t : List ℕ) (before : List (Item (Labels by s))) → ZplStands by reader t × LabelStands s label before → P (Labels by s) t before) →
       (setup : Setup) (t : List ℕ) (before : List (Item setup)) → MachineStands (machine_of machine) setup t before → P setup t before
-  at_label machine reader label is f setup t before at = by_label reader (plain label) (λ s t before stands. f s t before (stands.0, from_plain s label before stands.1)) setup t before (subst (λ m. MachineStands (machine_of m) setup t before) is at)
+  at_label machine reader label is f setup t before at = by_label reader (plain label) (λ by s t before stands. f by s t before (stands.0, from_plain s label before stands.1)) setup t before (subst (λ m. MachineStands (machine_of m) setup t before) is at)
 
   by_label_lines : (reader : ZplReader) (lines : Listed) →
-      ((w : Bool) (t : List ℕ) (before : List (Item (ListingIn w Zpl))) → ZplStands reader t × AreLines w lines t before → P (ListingIn w Zpl) t before) →
+      ((by : ZplReading) (w : Bool) (t : List ℕ) (before : List (Item (ListingIn w (Zpl by)))) → ZplStands by reader t × AreLines w lines t before → P (ListingIn w (Zpl by)) t before) →
       (setup : Setup) (t : List ℕ) (before : List (Item setup)) → MachineStands (LabelLines reader lines) setup t before → P setup t before
-  by_label_lines reader lines f (ListingIn w Zpl) t before at = f w t before at
+  by_label_lines reader lines f (ListingIn w (Zpl by)) t before at = f by w t before at
   by_label_lines reader lines f setup t before at = absurd at
 
   pub at_label_lines : {A : Type 0} (machine : MachineOver A) (reader : ZplReader) (lines : Listed) → machine ≡ over.LabelLines reader lines →
-      ((w : Bool) (t : List ℕ) (before : List (Item (ListingIn w Zpl))) → ZplStands reader t × AreLines w lines t before → P (ListingIn w Zpl) t before) →
+      ((by : ZplReading) (w : Bool) (t : List ℕ) (before : List (Item (ListingIn w (Zpl by)))) → ZplStands by reader t × AreLines w lines t before → P (ListingIn w (Zpl by)) t before) →
       (setup : Setup) (t : List ℕ) (before : List (Item setup)) → MachineStands (machine_of machine) setup t before → P setup t before
   at_label_lines machine reader lines is f setup t before at = by_label_lines reader lines f setup t before (subst (λ m. MachineStands (machine_of m) setup t before) is at)

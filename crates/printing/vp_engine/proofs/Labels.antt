@@ -6,6 +6,7 @@ use Rattle.vp_dots.specs.declared.fault.Fault.{Fault}
 use Rattle.vp_glyph.specs.Sheets.{Sheets}
 use Rattle.vp_esc.specs.declared.item.EscItem.TheVariants.{RasterByte}
 use Rattle.vp_esc.specs.Lines.{line_of as raster_line}
+use Rattle.vp_zpl.specs.declared.reading.Reading.{Reading as ZplReading}
 use Rattle.vp_zpl.specs.Commands.{cut}
 use Rattle.vp_zpl.specs.declared.item.ZplItem.{ZplItem}
 use Rattle.vp_zpl.specs.declared.item.ZplItem.TheVariants as lent
@@ -26,18 +27,18 @@ use Rattle.vp_engine.specs.Takes.{AreAccepted, Comes}
 use Rattle.vp_engine.proofs.Faults.{none_first, none_second}
 use Rattle.vp_engine.proofs.Plain.{to_plain}
 
-pub items_none : items [] ≡ []
+pub items_none : (by : ZplReading) → items by [] ≡ []
 unfolding items cut given all_ended
-items_none = refl
+items_none by = refl
 
 -- the lines of bytes of data, all behind one place or without
 pub data_lines : (place : Option ℕ) (bytes : List ℕ) → flat_map (λ b. listed_line place (raster_line (RasterByte b))) bytes ≡ flat_map (λ i. listed_line place (line_of i)) (data_items bytes)
 data_lines place [] = refl
 data_lines place (b ∷ bytes) = ap (λ x. listed_line place (raster_line (RasterByte b)) ++ x) (data_lines place bytes)
 
-module _ (sheets : Sheets) where
+module _ (by : ZplReading) (sheets : Sheets) where
   abbrev rules : Rules Item
-  rules = rules_of (Labels sheets)
+  rules = rules_of (Labels by sheets)
 
   -- where none is refused, each is accepted
   pub all_accepted : (items before : List Item) → first_refusal sheets before items ≡ None → AreAccepted rules before items

@@ -6,6 +6,7 @@ use Rattle.vp_esc.specs.declared.reading.Reading.{Reading as EscReading}
 use Rattle.vp_esc.specs.declared.item.EscItem.{EscItem}
 use Rattle.vp_receipt_settings.specs.Setup.{Setup as ReceiptSetup}
 use Rattle.vp_receipt.specs.Images.{images, begun}
+use Rattle.vp_zpl.specs.declared.reading.Reading.{Reading as ZplReading}
 use Rattle.vp_zpl.specs.Items.{Item}
 use Rattle.vp_label.specs.Images as label
 use Rattle.vp_engine.specs.Paper.{Rules, history, before_fault, fault_at_end}
@@ -28,11 +29,11 @@ images_of by setup bytes =
 abbrev pub begun_of : EscReading → ReceiptSetup → List ℕ → List ℕ
 begun_of by setup bytes = begun setup (history (receipts by setup) (before_fault (receipts by setup) bytes))
 
--- the rules of labels with sheets
-abbrev pub labels : Sheets → Rules Item
-labels sheets = rules_of (Labels sheets)
+-- the rules of labels by these commands with sheets
+abbrev pub labels : ZplReading → Sheets → Rules Item
+labels by sheets = rules_of (Labels by sheets)
 
 -- the images of the bytes before the first fault, one after the other
-abbrev pub images_of_labels : Sheets → List ℕ → List Image
-images_of_labels sheets bytes =
-    label.images sheets (history (labels sheets) (before_fault (labels sheets) bytes))
+abbrev pub images_of_labels : ZplReading → Sheets → List ℕ → List Image
+images_of_labels by sheets bytes =
+    label.images sheets (history (labels by sheets) (before_fault (labels by sheets) bytes))

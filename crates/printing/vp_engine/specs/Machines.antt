@@ -57,10 +57,10 @@ MachineStands (Receipt reader receipt) (Receipts by setup) bytes before =
     EscStands by reader bytes × ReceiptStands setup receipt before
 MachineStands (ReceiptLines reader lines) (ListingIn with_offsets (EscPos by)) bytes before =
     EscStands by reader bytes × AreLines with_offsets lines bytes before
-MachineStands (Label reader label) (Labels sheets) bytes before =
-    ZplStands reader bytes × LabelStands sheets label before
-MachineStands (LabelLines reader lines) (ListingIn with_offsets Zpl) bytes before =
-    ZplStands reader bytes × AreLines with_offsets lines bytes before
+MachineStands (Label reader label) (Labels by sheets) bytes before =
+    ZplStands by reader bytes × LabelStands sheets label before
+MachineStands (LabelLines reader lines) (ListingIn with_offsets (Zpl by)) bytes before =
+    ZplStands by reader bytes × AreLines with_offsets lines bytes before
 MachineStands machine setup bytes before = ⊥
 
 -- A machine took nothing.

@@ -10,7 +10,7 @@ use Rattle.vp_engine.specs.Stands.{Engine}
 -- the bytes of memory that a printer is made with: a listing takes none
 abbrev pub memory_of : Setup → ℕ
 memory_of (Receipts by setup) = receipt_memory setup.sheets
-memory_of (Labels sheets) = label_memory sheets
+memory_of (Labels by sheets) = label_memory sheets
 memory_of (ListingIn with_offsets commands) = 0
 
 -- those that a machine holds

@@ -29,6 +29,6 @@ abbrev pub IsWorkAfter : (setup : Setup) → List (Item setup) → List ℕ → 
 IsWorkAfter (Receipts by receipt) before pending work =
     mode receipt before ≡ Page →
     (min (least_work receipt before) MOST ≤ work) × (work ≤ most_work receipt before)
-IsWorkAfter (Labels sheets) before pending work =
+IsWorkAfter (Labels by sheets) before pending work =
     (work ≤ most_painting sheets before) × (pending ≡ [] → least_painting sheets before ≤ work)
 IsWorkAfter (ListingIn with_offsets commands) before pending work = work ≡ 0

@@ -15,6 +15,7 @@ ghost use Rattle.vp_receipt_settings.specs.declared.text.TheConstants.{LINE_ROWS
 ghost use Rattle.vp_receipt_settings.specs.Setup.{Setup as ReceiptSetup, across};
 ghost use Rattle.vp_language.specs.declared.language.Language.{Language};
 ghost use Rattle.vp_esc.specs.declared.reading.Reading.{Reading};
+ghost use Rattle.vp_zpl.specs.declared.reading.Reading.{Reading as ZplReading};
 ghost use Rattle.vp_engine.specs.Bytes.{IsPrefix};
 ghost use Rattle.vp_engine.specs.Images.{receipts, IsPrinted, images_of, begun_of, labels, images_of_labels};
 ghost use Rattle.vp_engine.specs.Listing.{lines};
@@ -127,9 +128,10 @@ pub fn a_receipt_is_joined()
 /// The paper of any bytes of labels is images, one after the other: the copies of each format that has ended,
 /// each as wide and as high as a label may be, and of a dot or more.
 pub fn a_label_is_images()
-    ensures images { (sheets : Sheets) (bytes : List ℕ) →
-        paper (labels sheets) bytes ≡ flat_map pbm (images_of_labels sheets bytes) }
-    ensures sizes { (sheets : Sheets) (bytes : List ℕ) → AreOfLabels (images_of_labels sheets bytes) }
+    ensures images { (by : ZplReading) (sheets : Sheets) (bytes : List ℕ) →
+        paper (labels by sheets) bytes ≡ flat_map pbm (images_of_labels by sheets bytes) }
+    ensures sizes { (by : ZplReading) (sheets : Sheets) (bytes : List ℕ) →
+        AreOfLabels (images_of_labels by sheets bytes) }
 {
     vp_label::laws::what_is_printed_is_images();
 }
@@ -141,8 +143,8 @@ pub fn work_is_by_bytes()
     ensures receipts { (by : Reading) (setup : ReceiptSetup) (bytes : List ℕ) →
         most_work setup (history (receipts by setup) (before_fault (receipts by setup) bytes))
         ≤ PAGE_ROWS + PAPER_DOTS + (LINE_ROWS + PAGE_ROWS + PAPER_DOTS) * length bytes }
-    ensures labels { (sheets : Sheets) (bytes : List ℕ) →
-        most_painting sheets (history (labels sheets) (before_fault (labels sheets) bytes))
+    ensures labels { (by : ZplReading) (sheets : Sheets) (bytes : List ℕ) →
+        most_painting sheets (history (labels by sheets) (before_fault (labels by sheets) bytes))
         ≤ 7327 * (250 * length bytes) }
 {
     items_grow();

@@ -30,7 +30,7 @@ use vp_label::Label;
 use vp_label::laws::{data_in_turn, in_turn};
 use vp_language::Language;
 use vp_receipt::{Receipt, Width};
-use vp_zpl::{ZplItem, ZplReader};
+use vp_zpl::{Reading as ZplReading, ZplItem, ZplReader};
 
 /// How many bytes were taken, and put out.
 #[derive(Clone, Copy)]
@@ -165,7 +165,8 @@ impl<A: Small + Copy> Machine<A> {
                 Width::W384,
                 Reading::Whole,
             ),
-            Language::Label => Machine::label(alloc, sheets),
+            Language::Label => Machine::label(alloc, sheets, ZplReading::Profile),
+            Language::WholeLabel => Machine::label(alloc, sheets, ZplReading::Whole),
         }
     }
 
@@ -186,13 +187,13 @@ impl<A: Small + Copy> Machine<A> {
         })
     }
 
-    fn label(alloc: A, sheets: Sheets<A>) -> Result<Self, AllocError>
-        ensures stands { IfOk result (λ m. MachineStands (machine_of m) (Labels sheets) [] []) }
+    fn label(alloc: A, sheets: Sheets<A>, reading: ZplReading) -> Result<Self, AllocError>
+        ensures stands { IfOk result (λ m. MachineStands (machine_of m) (Labels reading sheets) [] []) }
         ensures pending { IfOk result (λ m. pending_of (machine_of m) ≡ []) }
     {
         let label = Label::new(alloc, sheets)?;
         Ok(Machine::Label {
-            reader: ZplReader::new(),
+            reader: ZplReader::new(reading),
             label,
         })
     }
@@ -214,7 +215,8 @@ impl<A: Small> Machine<A> {
                 Reading::Whole,
                 with_offsets,
             ),
-            Language::Label => Machine::label_lines(with_offsets),
+            Language::Label => Machine::label_lines(ZplReading::Profile, with_offsets),
+            Language::WholeLabel => Machine::label_lines(ZplReading::Whole, with_offsets),
         }
     }
 
@@ -228,12 +230,12 @@ impl<A: Small> Machine<A> {
         }
     }
 
-    fn label_lines(with_offsets: bool) -> Self
-        ensures stands { MachineStands (machine_of result) (ListingIn with_offsets Zpl) [] [] }
+    fn label_lines(reading: ZplReading, with_offsets: bool) -> Self
+        ensures stands { MachineStands (machine_of result) (ListingIn with_offsets (Zpl reading)) [] [] }
         ensures pending { pending_of (machine_of result) ≡ [] }
     {
         Machine::LabelLines {
-            reader: ZplReader::new(),
+            reader: ZplReader::new(reading),
             lines: Lines::new(with_offsets),
         }
     }

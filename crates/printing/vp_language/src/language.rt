@@ -11,6 +11,8 @@ pub enum Language {
     WholeReceipt,
     /// The whole language of ESC/POS, on paper of 384 dots.
     WholeReceipt58,
-    /// ZPL II, on labels as wide and as long as they say.
+    /// The profile of ZPL II, on labels as wide and as long as they say.
     Label,
+    /// The whole language of ZPL II, on such labels.
+    WholeLabel,
 }

@@ -3,6 +3,7 @@ use Rattle.std.proofs.Common.{◌≡◌, ℕ, ◌+◌, ◌≤◌, ◌<◌, ◌==
 use Rattle.std.specs.List.{prefix_len}
 use Rattle.std.proofs.lemmas.List.{take_all, length-take-le, reverse-append, length-reverse}
 use Rattle.vp_streams.specs.Count.{counted, grown}
+use Rattle.vp_zpl.specs.declared.reading.Reading.TheVariants.{Profile}
 use Rattle.vp_zpl.specs.declared.name.Kind.{Kind}
 use Rattle.vp_zpl.specs.declared.name.Kind.TheVariants as kinds
 use Rattle.vp_zpl.specs.declared.reader.ZplReader.{ZplReader}
@@ -18,15 +19,15 @@ use Rattle.vp_requests.specs.Labels.{ask_of, most_arguments, begins, is_dropped,
 use Rattle.vp_requests.specs.Standing.{LabelsStand, kept_full, kept_full_by, kept_short, kept_short_by, Divides, GoesOn, with_more}
 use Rattle.vp_requests.proofs.FirstBytes.{again}
 
-pub cut-push : (bytes : List ℕ) (c : ℕ) → cut (bytes ++ c ∷ []) ≡ with_byte (cut bytes) c
+pub cut-push : (bytes : List ℕ) (c : ℕ) → cut Profile (bytes ++ c ∷ []) ≡ with_byte Profile (cut Profile bytes) c
 unfolding cut
-cut-push bytes c = ap cut_back (reverse-append bytes (c ∷ []))
+cut-push bytes c = ap (cut_back Profile) (reverse-append bytes (c ∷ []))
 
-cut-is : (bytes : List ℕ) → cut bytes ≡ cut_back (reverse bytes)
+cut-is : (bytes : List ℕ) → cut Profile bytes ≡ cut_back Profile (reverse bytes)
 unfolding cut
 cut-is bytes = refl
 
-begun-push : (bytes : List ℕ) (c : ℕ) → begun_at (bytes ++ c ∷ []) ≡ (if begins (cut bytes).open_one c then length (reverse bytes) else begun_at bytes)
+begun-push : (bytes : List ℕ) (c : ℕ) → begun_at (bytes ++ c ∷ []) ≡ (if begins (cut Profile bytes).open_one c then length (reverse bytes) else begun_at bytes)
 unfolding begun_back
 begun-push bytes c = rw (reverse-append bytes (c ∷ []), cut-is bytes) refl
 
@@ -55,14 +56,14 @@ named_is kinds.FieldData indicated args c e = no_text indicated (waiting indicat
 named_is kinds.Graphic indicated args c e = picture_is args c e
 named_is _ indicated args c e = refl
 
-front_is : (before : List (List ℕ)) (command : List ℕ) (c : ℕ) → ends_data c ≡ true → front_in before command (c ∷ []) ≡ (if wants_binary command then 1 else 0)
+front_is : (before : List (List ℕ)) (command : List ℕ) (c : ℕ) → ends_data c ≡ true → front_in Profile before command (c ∷ []) ≡ (if wants_binary Profile command then 1 else 0)
 unfolding front_in wants_binary
 front_is before [] c e = refl
 front_is before (sign ∷ []) c e = refl
 front_is before (sign ∷ a ∷ []) c e = refl
-front_is before (sign ∷ a ∷ b ∷ args) c e = named_is (kind_named sign a b) (indicator before) args c e
+front_is before (sign ∷ a ∷ b ∷ args) c e = named_is (kind_named Profile sign a b) (indicator Profile before) args c e
 
-pub data_is : (s : Cut) (c : ℕ) → ends_data c ≡ true → data_front s (c ∷ []) ≡ (if wants_binary s.open_one then 1 else 0)
+pub data_is : (s : Cut) (c : ℕ) → ends_data c ≡ true → data_front Profile s (c ∷ []) ≡ (if wants_binary Profile s.open_one then 1 else 0)
 data_is s c e = front_is s.before s.open_one c e
 
 most_le : (ask : Ask) → most_arguments ask ≤ 1024
@@ -135,7 +136,7 @@ short_is l command start end k s t = by_test (nat_lt 1028 (length command)) refl
         rw (same, s, t) (by_same (ask_of command))
 
 pub last_is : (l : Labels) (bytes : List ℕ) → LabelsStand l bytes → kept_short l ≡ last_request bytes
-last_is l bytes s = short_is l (cut bytes).open_one (begun_at bytes) (length bytes) s.kept s.start s.taken
+last_is l bytes s = short_is l (cut Profile bytes).open_one (begun_at bytes) (length bytes) s.kept s.start s.taken
 
 true_is_not_false : true ≡ false → ⊥
 true_is_not_false e = cc
@@ -149,7 +150,7 @@ line_end_no_sign c e = grind (arith, e)
 
 -- a sign, or the end of a line, that is no data
 module _ (l : Labels) (before : List ℕ) (c : ℕ) (s : LabelsStand l before) (e : ends_data c ≡ true)
-    (w : wants_binary (cut before).open_one ≡ false) (reader : ZplReader) (reads : ZplStands reader (before ++ c ∷ [])) where
+    (w : wants_binary Profile (cut Profile before).open_one ≡ false) (reader : ZplReader) (reads : ZplStands Profile reader (before ++ c ∷ [])) where
   abbrev Comes : List Request → Labels → Type 0
   Comes asked new = LabelsStand new (before ++ c ∷ []) × (asked ≡ label_request before c)
 
@@ -165,33 +166,33 @@ module _ (l : Labels) (before : List ℕ) (c : ℕ) (s : LabelsStand l before) (
       by_test : (ends : Bool) → is_line_end c ≡ ends → Comes asked new
       by_test true q =
           let n = line_end_no_sign c q in
-          let same : cut (before ++ c ∷ []) ≡ cut before = cut-push before c ∙ rw (w, q) refl in
+          let same : cut Profile (before ++ c ∷ []) ≡ cut Profile before = cut-push before c ∙ rw (w, q) refl in
           let at : begun_at (before ++ c ∷ []) ≡ begun_at before = begun-push before c ∙ rw n refl in
           rw (d.new_is, d.asks, q, n, w) (record { reads = reads; kept = rw same s.kept; start = s.start ∙ sym (ap counted at); taken = more }, refl)
       by_test false q =
           let n : is_sign c ≡ true = grind (arith, e, q) in
-          let now : (cut (before ++ c ∷ [])).open_one ≡ c ∷ [] = ap (λ (s : Cut). s.open_one) (cut-push before c) ∙ rw (w, q, n) refl in
+          let now : (cut Profile (before ++ c ∷ [])).open_one ≡ c ∷ [] = ap (λ (s : Cut). s.open_one) (cut-push before c) ∙ rw (w, q, n) refl in
           let at : begun_at (before ++ c ∷ []) ≡ length before = begun-push before c ∙ rw (n, w) (length-reverse before) in
           rw (d.new_is, d.asks, q, n, w) (
             record { reads = reads; kept = rw now refl; start = s.taken ∙ sym (ap counted at); taken = more },
-            short_is (record l { reader = reader }) (cut before).open_one (begun_at before) (length before) s.kept s.start s.taken,
+            short_is (record l { reader = reader }) (cut Profile before).open_one (begun_at before) (length before) s.kept s.start s.taken,
           )
 
-opened : (s : Cut) (c : ℕ) (wants sign ends : Bool) → wants_binary s.open_one ≡ wants → is_sign c ≡ sign → is_line_end c ≡ ends
-    → begins s.open_one c ≡ false → is_dropped s.open_one c ≡ false → (with_byte s c).open_one ≡ longer s.open_one c
+opened : (s : Cut) (c : ℕ) (wants sign ends : Bool) → wants_binary Profile s.open_one ≡ wants → is_sign c ≡ sign → is_line_end c ≡ ends
+    → begins s.open_one c ≡ false → is_dropped s.open_one c ≡ false → (with_byte Profile s c).open_one ≡ longer s.open_one c
 opened s c true sign ends w n q b d = rw w refl
 opened s c false true ends w n q b d = absurd (true_is_not_false (sym (rw (n, w) refl) ∙ b))
 opened s c false false true w n q b d = absurd (true_is_not_false (sym (rw (q, w) refl) ∙ d))
 opened s c false false false w n q b d = rw (w, q, n) refl
 
 -- a byte that goes on with the open command
-module _ (l : Labels) (before : List ℕ) (c : ℕ) (s : LabelsStand l before) (b : begins (cut before).open_one c ≡ false)
-    (d : is_dropped (cut before).open_one c ≡ false) (reader : ZplReader) (reads : ZplStands reader (before ++ c ∷ [])) where
-  longer_is : (cut (before ++ c ∷ [])).open_one ≡ longer (cut before).open_one c
-  longer_is = ap (λ (s : Cut). s.open_one) (cut-push before c) ∙ opened (cut before) c _ _ _ refl refl refl b d
+module _ (l : Labels) (before : List ℕ) (c : ℕ) (s : LabelsStand l before) (b : begins (cut Profile before).open_one c ≡ false)
+    (d : is_dropped (cut Profile before).open_one c ≡ false) (reader : ZplReader) (reads : ZplStands Profile reader (before ++ c ∷ [])) where
+  longer_is : (cut Profile (before ++ c ∷ [])).open_one ≡ longer (cut Profile before).open_one c
+  longer_is = ap (λ (s : Cut). s.open_one) (cut-push before c) ∙ opened (cut Profile before) c _ _ _ refl refl refl b d
 
-  kept_is : take 1028 (longer l.bytes.items c) ≡ take 1028 (longer (cut before).open_one c)
-  kept_is = ap (λ (xs : List ℕ). take 1028 (longer xs c)) s.kept ∙ longer_again 1027 (cut before).open_one c
+  kept_is : take 1028 (longer l.bytes.items c) ≡ take 1028 (longer (cut Profile before).open_one c)
+  kept_is = ap (λ (xs : List ℕ). take 1028 (longer xs c)) s.kept ∙ longer_again 1027 (cut Profile before).open_one c
 
   one_more : grown l.taken 1 ≡ counted (suc (length before))
   one_more = omega (arith, s.taken)
@@ -208,7 +209,7 @@ module _ (l : Labels) (before : List ℕ) (c : ℕ) (s : LabelsStand l before) (
           start = s.start ∙ sym (ap counted at);
           taken = one_more ∙ ap counted long;
         },
-        full_is (with_more (record l { reader = reader }) c) (longer (cut before).open_one c) (begun_at before) (suc (length before)) kept_is s.start one_more,
+        full_is (with_more (record l { reader = reader }) c) (longer (cut Profile before).open_one c) (begun_at before) (suc (length before)) kept_is s.start one_more,
       )
 
 -- what is taken as data, of a sign or the end of a line
@@ -221,20 +222,20 @@ no_data n true le e = absurd (omega (arith, le, e))
 no_data n false le e = (refl, e)
 
 -- data go on with the open command
-pub data_goes_on : (l : Labels) (before : List ℕ) (c : ℕ) → LabelsStand l before → wants_binary (cut before).open_one ≡ true → (reader : ZplReader)
-    → ZplStands reader (before ++ c ∷ []) → (asked : List Request) (new : Labels) → GoesOn (record l { reader = reader }) c asked new
+pub data_goes_on : (l : Labels) (before : List ℕ) (c : ℕ) → LabelsStand l before → wants_binary Profile (cut Profile before).open_one ≡ true → (reader : ZplReader)
+    → ZplStands Profile reader (before ++ c ∷ []) → (asked : List Request) (new : Labels) → GoesOn (record l { reader = reader }) c asked new
     → LabelsStand new (before ++ c ∷ []) × (asked ≡ label_request before c)
 data_goes_on l before c s w = goes_on l before c s (rw w (and_false (is_sign c))) (rw w (and_false (is_line_end c)))
 
 -- and so does any byte that is no sign and no end of a line
 pub other_goes_on : (l : Labels) (before : List ℕ) (c : ℕ) → LabelsStand l before → ends_data c ≡ false → (reader : ZplReader)
-    → ZplStands reader (before ++ c ∷ []) → (asked : List Request) (new : Labels) → GoesOn (record l { reader = reader }) c asked new
+    → ZplStands Profile reader (before ++ c ∷ []) → (asked : List Request) (new : Labels) → GoesOn (record l { reader = reader }) c asked new
     → LabelsStand new (before ++ c ∷ []) × (asked ≡ label_request before c)
 other_goes_on l before c s e =
     let n : is_sign c ≡ false = grind (arith, e) in
     let q : is_line_end c ≡ false = grind (arith, e) in
     goes_on l before c s (rw n refl) (rw q refl)
 
-pub stand_first : (l : Labels) → ZplStands l.reader [] → l.bytes.items ≡ [] → l.start ≡ 0 → l.taken ≡ 0 → LabelsStand l []
+pub stand_first : (l : Labels) → ZplStands Profile l.reader [] → l.bytes.items ≡ [] → l.start ≡ 0 → l.taken ≡ 0 → LabelsStand l []
 unfolding cut begun_back
 stand_first l reads k s t = record { reads = reads; kept = k; start = s; taken = t }

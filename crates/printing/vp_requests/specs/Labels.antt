@@ -1,9 +1,11 @@
--- The commands of a label that ask (ZPL II, "host" commands and those for the printer's state).
+-- The commands of a label that ask (ZPL II, "host" commands and those for the printer's state). Both readings of
+-- labels divide a stream alike, so that the profile's tells of either.
 use Rattle.std.specs.Prelude.{ℕ, suc, ◌+◌, ◌==◌, Bool, not, ◌&&◌, Option, None, Some, List, [], ◌∷◌, length}
 use Rattle.std.specs.Prelude.{reverse, nat_lt, if◌then◌else◌}
 use Prim.Native.Char.{code}
 use Rattle.vp_streams.specs.Count.{counted}
 use Rattle.vp_zpl.specs.Spelling.{is_sign, is_line_end, capital}
+use Rattle.vp_zpl.specs.declared.reading.Reading.TheVariants.{Profile}
 use Rattle.vp_zpl.specs.Commands.{cut, cut_back, longer, wants_binary}
 use Rattle.vp_requests.specs.declared.request.Ask.{Ask}
 use Rattle.vp_requests.specs.declared.request.Ask.TheVariants as asks
@@ -87,17 +89,17 @@ most_arguments _ = 0
 
 -- a command begins with this byte: a sign that is no binary data
 abbrev pub begins : List ℕ → ℕ → Bool
-begins command c = is_sign c && not (wants_binary command)
+begins command c = is_sign c && not (wants_binary Profile command)
 
 -- the end of a line, which is dropped where it is no binary data
 abbrev pub is_dropped : List ℕ → ℕ → Bool
-is_dropped command c = is_line_end c && not (wants_binary command)
+is_dropped command c = is_line_end c && not (wants_binary Profile command)
 
 -- where the command begins that stands open behind these bytes, the newest first
 unfoldable pub begun_back : List ℕ → ℕ
 begun_back [] = 0
 begun_back (c ∷ before) =
-    if begins (cut_back before).open_one c then length before else begun_back before
+    if begins (cut_back Profile before).open_one c then length before else begun_back before
 
 -- and behind these
 abbrev pub begun_at : List ℕ → ℕ
@@ -129,11 +131,11 @@ short_request command start end = short_by (ask_of command) command start end
 -- fewer arguments; else the open one, as soon as it is full.
 abbrev pub label_request : List ℕ → ℕ → List Request
 label_request before c =
-    if begins (cut before).open_one c
-    then short_request (cut before).open_one (begun_at before) (length before)
-    else if is_dropped (cut before).open_one c then []
-    else full_request (longer (cut before).open_one c) (begun_at before) (suc (length before))
+    if begins (cut Profile before).open_one c
+    then short_request (cut Profile before).open_one (begun_at before) (length before)
+    else if is_dropped (cut Profile before).open_one c then []
+    else full_request (longer (cut Profile before).open_one c) (begun_at before) (suc (length before))
 
 -- what the end of the stream asks behind these bytes
 abbrev pub last_request : List ℕ → List Request
-last_request bytes = short_request (cut bytes).open_one (begun_at bytes) (length bytes)
+last_request bytes = short_request (cut Profile bytes).open_one (begun_at bytes) (length bytes)

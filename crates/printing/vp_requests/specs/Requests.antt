@@ -32,6 +32,7 @@ unit_requests bytes = behind unit_request [] bytes
 
 abbrev pub is_label : Language → Bool
 is_label languages.Label = true
+is_label languages.WholeLabel = true
 is_label _ = false
 
 -- what each byte makes known, one after the other

@@ -6,6 +6,7 @@ use Rattle.vp_streams.specs.Count.{counted, grown}
 use Rattle.vp_esc.specs.declared.reading.Reading.TheVariants as readings
 use Rattle.vp_esc.specs.Split.{split}
 use Rattle.vp_esc.specs.Reader.{Stands as EscStands}
+use Rattle.vp_zpl.specs.declared.reading.Reading.TheVariants.{Profile}
 use Rattle.vp_zpl.specs.Spelling.{is_line_end}
 use Rattle.vp_zpl.specs.Commands.{cut, longer}
 use Rattle.vp_zpl.specs.Reader.{Stands as ZplStands}
@@ -96,8 +97,8 @@ pub record IsIdle (r : Receipts) : Type 0 where
 
 -- the open command, as far as it is kept
 pub record LabelsStand (l : Labels) (bytes : List ℕ) : Type 0 where
-  pub reads : ZplStands l.reader bytes
-  pub kept : l.bytes.items ≡ take COMMAND_BYTES (cut bytes).open_one
+  pub reads : ZplStands Profile l.reader bytes
+  pub kept : l.bytes.items ≡ take COMMAND_BYTES (cut Profile bytes).open_one
   pub start : l.start ≡ counted (begun_at bytes)
   pub taken : l.taken ≡ counted (length bytes)
 

@@ -9,7 +9,7 @@ use crate::kept::keep;
 use crate::name::{ask_of, ends_data, is_line_end, most_arguments};
 use crate::request::{Found, Request};
 use arrayvec::ArrayVec;
-use vp_zpl::ZplReader;
+use vp_zpl::{Reading, ZplReader};
 
 /// How many bytes a name has.
 const NAME: usize = 3;
@@ -32,7 +32,7 @@ impl Labels {
         ensures { LabelsTold result [] [] }
     {
         Labels {
-            reader: ZplReader::new(),
+            reader: ZplReader::new(Reading::Profile),
             bytes: ArrayVec::new(),
             start: 0,
             taken: 0,

@@ -28,7 +28,7 @@ impl Requests {
         ensures { Told language result [] [] }
     {
         let machine = match language {
-            Language::Label => Machine::Label(Labels::new()),
+            Language::Label | Language::WholeLabel => Machine::Label(Labels::new()),
             _ => Machine::Receipt(Receipts::new()),
         };
         Requests { machine }

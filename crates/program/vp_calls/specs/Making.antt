@@ -6,7 +6,7 @@ use Rattle.vp_glyph.specs.declared.sheet.SheetError.{SheetError}
 use Rattle.vp_glyph.specs.declared.sheet.SheetError.TheVariants.{Memory as SheetMemory}
 use Rattle.vp_language.specs.declared.language.Language.{Language}
 use Rattle.vp_language.specs.declared.language.Language.TheVariants.{Receipt, Receipt58, Label}
-use Rattle.vp_language.specs.declared.language.Language.TheVariants.{WholeReceipt, WholeReceipt58}
+use Rattle.vp_language.specs.declared.language.Language.TheVariants.{WholeReceipt, WholeReceipt58, WholeLabel}
 use Rattle.vp_engine.specs.Setups.{Setup, setup_of, Listing, ListingWithOffsets}
 use Rattle.vp_engine.specs.Stands.{Engine, Stands}
 use Rattle.vp_calls.specs.Answers.{number_of}
@@ -21,6 +21,7 @@ language_of number =
     if number == 2 then Some Label else
     if number == 3 then Some WholeReceipt else
     if number == 4 then Some WholeReceipt58 else
+    if number == 5 then Some WholeLabel else
     None
 
 abbrev pub some_sheet : Result Glyphs SheetError → Result (Option Glyphs) SheetError

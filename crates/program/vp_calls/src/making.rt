@@ -17,6 +17,7 @@ pub fn language_of(number: u32) -> Option<Language>
         2 => Some(Language::Label),
         3 => Some(Language::WholeReceipt),
         4 => Some(Language::WholeReceipt58),
+        5 => Some(Language::WholeLabel),
         _ => None,
     }
 }

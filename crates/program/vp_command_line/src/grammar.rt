@@ -41,12 +41,33 @@ fn width<'a>(alloc: Global) -> Arg<'a> {
         .help("Width of the paper")
 }
 
-/// Whether all commands of receipts are read.
-fn whole<'a>(alloc: Global) -> Arg<'a> {
+/// Whether the whole language is read.
+fn whole<'a>(alloc: Global, help: &'a str) -> Arg<'a> {
     Arg::new(alloc, "whole")
         .long("whole")
         .action(ArgAction::SetTrue)
-        .help("Read all commands of receipts, and past unknown ones, where else they are a fault")
+        .help(help)
+}
+
+fn whole_receipt<'a>(alloc: Global) -> Arg<'a> {
+    whole(
+        alloc,
+        "Read all commands of receipts, and past unknown ones, where else they are a fault",
+    )
+}
+
+fn whole_label<'a>(alloc: Global) -> Arg<'a> {
+    whole(
+        alloc,
+        "Read more commands of labels, as of more symbols, which else are skipped",
+    )
+}
+
+fn whole_stream<'a>(alloc: Global) -> Arg<'a> {
+    whole(
+        alloc,
+        "Read all commands of receipts, and past unknown ones, or more commands of labels",
+    )
 }
 
 /// The file of a sheet.
@@ -95,7 +116,7 @@ fn receipt<'a>(alloc: Global) -> Result<Command<'a>, AllocError> {
     Command::new(alloc, "receipt")
         .about("Prints a receipt (ESC/POS)")
         .arg(width(alloc))?
-        .arg(whole(alloc))?
+        .arg(whole_receipt(alloc))?
         .arg(font_a(alloc))?
         .arg(font_b(alloc))?
         .arg(file(alloc))
@@ -104,6 +125,7 @@ fn receipt<'a>(alloc: Global) -> Result<Command<'a>, AllocError> {
 fn label<'a>(alloc: Global) -> Result<Command<'a>, AllocError> {
     Command::new(alloc, "label")
         .about("Prints labels (ZPL II)")
+        .arg(whole_label(alloc))?
         .arg(font_a(alloc))?
         .arg(file(alloc))
 }
@@ -112,7 +134,7 @@ fn list<'a>(alloc: Global) -> Result<Command<'a>, AllocError> {
     Command::new(alloc, "list")
         .about("Lists the commands of a stream, a line for each")
         .arg(lang(alloc))?
-        .arg(whole(alloc))?
+        .arg(whole_stream(alloc))?
         .arg(offsets(alloc))?
         .arg(file(alloc))
 }

@@ -24,7 +24,7 @@ fn printed_labels<'a>(words: &ArgMatches<'a>) -> Stream<'a> {
             a: words.get_str("font-a"),
             b: None,
         }),
-        language: Language::Label,
+        language: labels(words.get_flag("whole")),
         file: words.get_str("FILE"),
     }
 }
@@ -90,6 +90,15 @@ fn receipts(whole: bool) -> Language {
     }
 }
 
+/// Labels, by their whole language or by its profile.
+fn labels(whole: bool) -> Language {
+    if whole {
+        Language::WholeLabel
+    } else {
+        Language::Label
+    }
+}
+
 /// A listing, with places or without.
 fn listing<'a>(offsets: bool) -> Task<'a> {
     if offsets {
@@ -104,11 +113,10 @@ fn form(png: bool) -> Form {
     if png { Form::Png } else { Form::Pbm }
 }
 
-/// The language of this name, one of those that can be listed. Labels have no profile: all their commands are
-/// read.
+/// The language of this name, one of those that can be listed.
 fn language_named(name: Option<&str>, whole: bool) -> Language {
     match name {
-        Some("label") => Language::Label,
+        Some("label") => labels(whole),
         _ => receipts(whole),
     }
 }

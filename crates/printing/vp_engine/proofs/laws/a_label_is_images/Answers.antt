@@ -6,9 +6,9 @@ use Rattle.vp_engine.proofs.Labels.{printed_same}
 use Rattle.vp_engine.proofs.laws.a_label_is_images.Goals as goal
 
 pub returns-clause-images : goal.returns-clause-images
-returns-clause-images c = λ sheets bytes.
-    let items = history (labels sheets) (before_fault (labels sheets) bytes) in
-    paper_is (labels sheets) bytes ∙ printed_same sheets items ∙ c.what_is_printed_is_images.ensures.images sheets items
+returns-clause-images c = λ by sheets bytes.
+    let items = history (labels by sheets) (before_fault (labels by sheets) bytes) in
+    paper_is (labels by sheets) bytes ∙ printed_same by sheets items ∙ c.what_is_printed_is_images.ensures.images sheets items
 
 pub returns-clause-sizes : goal.returns-clause-sizes
-returns-clause-sizes c = λ sheets bytes. c.what_is_printed_is_images.ensures.sizes sheets (history (labels sheets) (before_fault (labels sheets) bytes))
+returns-clause-sizes c = λ by sheets bytes. c.what_is_printed_is_images.ensures.sizes sheets (history (labels by sheets) (before_fault (labels by sheets) bytes))

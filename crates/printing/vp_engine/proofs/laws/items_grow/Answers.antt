@@ -1,4 +1,5 @@
 use Rattle.vp_esc.specs.declared.reading.Reading.{Reading as EscReading}
+use Rattle.vp_zpl.specs.declared.reading.Reading.{Reading as ZplReading}
 use Rattle.vp_engine.specs.Paper.{Reads}
 use Rattle.vp_engine.specs.Setups.{esc_reading, zpl_reading}
 use Rattle.vp_engine.specs.Setups.{EscPos, Zpl}
@@ -17,16 +18,16 @@ escs c by = record {
   stays = c.fault_stays.ensures by;
 }
 
-zpls : (c : goal.After-only_more-2) → Reads zpl_reading
-zpls c = record {
-  nothing = labels_none;
+zpls : (c : goal.After-only_more-2) (by : ZplReading) → Reads (zpl_reading by)
+zpls c by = record {
+  nothing = labels_none by;
   no_fault = refl;
-  grows = λ bytes more. let p = c.only_more-2.ensures bytes more in (p.0, sym p.1);
+  grows = λ bytes more. let p = c.only_more-2.ensures by bytes more in (p.0, sym p.1);
   stays = λ bytes more f e. cc;
 }
 
 pub returns : goal.returns
 returns c (Receipts by receipt) = escs c by
-returns c (Labels sheets) = zpls c
+returns c (Labels by sheets) = zpls c by
 returns c (ListingIn w (EscPos by)) = listed_reads (esc_reading by) w (escs c by)
-returns c (ListingIn w Zpl) = listed_reads zpl_reading w (zpls c)
+returns c (ListingIn w (Zpl by)) = listed_reads (zpl_reading by) w (zpls c by)

@@ -9,9 +9,9 @@ use Rattle.vp_engine.proofs.laws.the_fault_tells_the_end.Goals as goal
 
 of_byte : (setup : Setup) (bytes : List ℕ) → SomeOfByte (fault (rules_of setup) bytes)
 of_byte (Receipts by receipt) = fault_of_byte (rules_of (Receipts by receipt)) (esc_of_byte by) (receipts_of_byte receipt)
-of_byte (Labels sheets) = fault_of_byte (rules_of (Labels sheets)) (λ bytes. tt) (labels_of_byte sheets)
+of_byte (Labels by sheets) = fault_of_byte (rules_of (Labels by sheets)) (λ bytes. tt) (labels_of_byte sheets)
 of_byte (ListingIn w (EscPos by)) = fault_of_byte (rules_of (ListingIn w (EscPos by))) (esc_of_byte by) (λ before item. tt)
-of_byte (ListingIn w Zpl) = fault_of_byte (rules_of (ListingIn w Zpl)) (λ bytes. tt) (λ before item. tt)
+of_byte (ListingIn w (Zpl by)) = fault_of_byte (rules_of (ListingIn w (Zpl by))) (λ bytes. tt) (λ before item. tt)
 
 of_end : (is_between at_rest : Bool) (f : Fault) → missing is_between at_rest ≡ Some f → IsOfEnd f
 of_end true true f e = cc

@@ -36,6 +36,6 @@ returns-clause-receipts c = λ by setup bytes.
     (before_few (receipts by setup) bytes)
 
 pub returns-clause-labels : goal.returns-clause-labels
-returns-clause-labels c = λ sheets bytes.
-    let all = c.bytes_cost_at_most-2.ensures.last sheets (before_fault (labels sheets) bytes) in
-    omega (arith, all, before_few (labels sheets) bytes)
+returns-clause-labels c = λ by sheets bytes.
+    let all = c.bytes_cost_at_most-2.ensures.last sheets by (before_fault (labels by sheets) bytes) in
+    omega (arith, all, before_few (labels by sheets) bytes)

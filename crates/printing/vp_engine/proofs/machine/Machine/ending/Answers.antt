@@ -11,9 +11,9 @@ returns-in-ReceiptLines g c = at_lines _ _ _ _ c.in-ReceiptLines.is
     (λ by w t before at none. c.missing-in-ReceiptLines.ensures ∙ missing_is _ true true _ _ none (c.at_rest-in-ReceiptLines.ensures by t at.0) (λ e. e, λ e. e))
 
 pub returns-in-Label : goal.returns-in-Label
-returns-in-Label g c = at_label _ _ _ _ c.in-Label.is (λ s t before at none.
-    c.missing-in-Label.ensures ∙ missing_where _ _ _ _ (c.at_rest-in-Label.ensures t at.0) (c.at_rest-in-Label-2.ensures s before at.1))
+returns-in-Label g c = at_label _ _ _ _ c.in-Label.is (λ by s t before at none.
+    c.missing-in-Label.ensures ∙ missing_where _ _ _ _ (c.at_rest-in-Label.ensures by t at.0) (c.at_rest-in-Label-2.ensures s before at.1))
 
 pub returns-in-LabelLines : goal.returns-in-LabelLines
 returns-in-LabelLines g c = at_label_lines _ _ _ _ c.in-LabelLines.is
-    (λ w t before at none. c.missing-in-LabelLines.ensures ∙ missing_where _ true _ true (c.at_rest-in-LabelLines.ensures t at.0) (λ e. e, λ e. e))
+    (λ by w t before at none. c.missing-in-LabelLines.ensures ∙ missing_where _ true _ true (c.at_rest-in-LabelLines.ensures by t at.0) (λ e. e, λ e. e))

@@ -13,15 +13,15 @@ returns-in-Receipt-clause-value g c = at_receipt _ _ _ _ c.in-Receipt.is (λ by 
     ∙ ap (λ n. record nothing_held { line_rows = line_rows_after s before (pending_of (machine_of c.args.self.now)); page_rows = n }) (c.page_rows.ensures.value s before at.1 ∙ ap (λ m. page_rows_after s before (pending_of (machine_of m))) (sym c.in-Receipt.is)))
 
 pub returns-in-Label-clause-value : goal.returns-in-Label-clause-value
-returns-in-Label-clause-value g c = at_label _ _ _ _ c.in-Label.is (λ s t before at.
+returns-in-Label-clause-value g c = at_label _ _ _ _ c.in-Label.is (λ by s t before at.
     let pending = c.in-Label.label.pending in
     ap (λ n. record nothing_held { band_rows = n; stored = c.stored.result; fields = c.fields.result }) (c.band_rows.ensures.value s before at.1)
     ∙ ap (λ n. record nothing_held { band_rows = band_rows_after s before pending; stored = n; fields = c.fields.result }) (c.stored.ensures.value s before at.1)
     ∙ ap (λ n. record nothing_held { band_rows = band_rows_after s before pending; stored = stored_after before pending; fields = n }) (c.fields.ensures.value s before at.1)
-    ∙ ap (λ m. (rules_of (Labels s)).held before (pending_of (machine_of m))) (sym c.in-Label.is))
+    ∙ ap (λ m. (rules_of (Labels by s)).held before (pending_of (machine_of m))) (sym c.in-Label.is))
 
 pub returns-in-ReceiptLines-clause-value : goal.returns-in-ReceiptLines-clause-value
 returns-in-ReceiptLines-clause-value g c = at_lines _ _ _ _ c.in-ReceiptLines.is (λ by w t before at. refl)
 
 pub returns-in-LabelLines-clause-value : goal.returns-in-LabelLines-clause-value
-returns-in-LabelLines-clause-value g c = at_label_lines _ _ _ _ c.in-LabelLines.is (λ w t before at. refl)
+returns-in-LabelLines-clause-value g c = at_label_lines _ _ _ _ c.in-LabelLines.is (λ by w t before at. refl)

@@ -11,7 +11,7 @@ returns-in-ReceiptLines-clause-stands g c =
     at_lines _ _ _ _ c.in-ReceiptLines.is (λ by w t before at. (at.0, record { count = c.put-in-ReceiptLines.ensures.count ∙ at.1.count; taken = c.put-in-ReceiptLines.ensures.taken ∙ at.1.taken }))
 
 pub returns-in-Label-clause-stands : goal.returns-in-Label-clause-stands
-returns-in-Label-clause-stands g c = at_label _ _ _ _ c.in-Label.is (λ s t before at. (at.0, to_plain s _ before (c.put-in-Label.ensures.stands s before at.1)))
+returns-in-Label-clause-stands g c = at_label _ _ _ _ c.in-Label.is (λ by s t before at. (at.0, to_plain s _ before (c.put-in-Label.ensures.stands s before at.1)))
 
 pub returns-in-LabelLines-clause-stands : goal.returns-in-LabelLines-clause-stands
-returns-in-LabelLines-clause-stands g c = at_label_lines _ _ _ _ c.in-LabelLines.is (λ w t before at. (at.0, record { count = c.put-in-LabelLines.ensures.count ∙ at.1.count; taken = c.put-in-LabelLines.ensures.taken ∙ at.1.taken }))
+returns-in-LabelLines-clause-stands g c = at_label_lines _ _ _ _ c.in-LabelLines.is (λ by w t before at. (at.0, record { count = c.put-in-LabelLines.ensures.count ∙ at.1.count; taken = c.put-in-LabelLines.ensures.taken ∙ at.1.taken }))

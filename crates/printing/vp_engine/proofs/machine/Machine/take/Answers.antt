@@ -68,33 +68,33 @@ returns-in-Err-take g c = at_lines _ _ _ _ c.in-ReceiptLines.is (λ by w t befor
     (ap (λ (l : Listed). l.count) c.advance.ensures) (ap (λ (l : Listed). l.taken) c.advance.ensures))
 
 pub returns-in-Some : goal.returns-in-Some
-returns-in-Some g c = at_label _ _ _ _ c.in-Label.is (λ s t before at.
+returns-in-Some g c = at_label _ _ _ _ c.in-Label.is (λ by s t before at.
     let a = c.apply-in-Some.ensures in
     record {
       given = Ok (shown_item c.in-Some.item);
-      gives = (refl, c.in-Some.ensures.gives t at.0);
-      comes = items_come s c.in_turn.ensures.order (c.data_in_turn.ensures.full s) (ZplStands c.take-in-Label.follows.lender-at-none) c.in-Label.label c.apply-in-Some.new.self _ before c.in-Some.item c.apply-in-Some.result
-          (c.take-in-Label.follows.holds-at-none t at.0) at.1 (sym (ap (λ m. pending_of (machine_of m)) c.in-Label.is) ∙ c.requires) (a.refusal s before at.1) a.stands a.pending a.err;
+      gives = (refl, c.in-Some.ensures.gives by t at.0);
+      comes = items_come by s c.in_turn.ensures.order (c.data_in_turn.ensures.full s) (ZplStands by c.take-in-Label.follows.lender-at-none) c.in-Label.label c.apply-in-Some.new.self _ before c.in-Some.item c.apply-in-Some.result
+          (c.take-in-Label.follows.holds-at-none by t at.0) at.1 (sym (ap (λ m. pending_of (machine_of m)) c.in-Label.is) ∙ c.requires) (a.refusal s before at.1) a.stands a.pending a.err;
     })
 
 pub returns-in-None : goal.returns-in-None
-returns-in-None g c = at_label _ _ _ _ c.in-Label.is (λ s t before at. record {
+returns-in-None g c = at_label _ _ _ _ c.in-Label.is (λ by s t before at. record {
   given = Ok [];
-  gives = (refl, c.in-None.ensures.gives t at.0);
-  comes = (tt, (c.take-in-Label.follows.holds-at-none t at.0, to_plain s _ before at.1), none_printed (rules_of (Labels s)) _ before (sym (ap (λ m. pending_of (machine_of m)) c.in-Label.is) ∙ c.requires));
+  gives = (refl, c.in-None.ensures.gives by t at.0);
+  comes = (tt, (c.take-in-Label.follows.holds-at-none by t at.0, to_plain s _ before at.1), none_printed (rules_of (Labels by s)) _ before (sym (ap (λ m. pending_of (machine_of m)) c.in-Label.is) ∙ c.requires));
 })
 
 pub returns-in-Some-take : goal.returns-in-Some-take
-returns-in-Some-take g c = at_label_lines _ _ _ _ c.in-LabelLines.is (λ w t before at.
+returns-in-Some-take g c = at_label_lines _ _ _ _ c.in-LabelLines.is (λ by w t before at.
     let b = c.begin_label_lines.ensures in let counted_one = c.advance-in-LabelLines.ensures in
-    lists zpl_reading label_line_of (c.items_grow-in-LabelLines.ensures (ListingIn false Zpl)).grows w (ZplStands c.take-in-LabelLines.follows.lender-at-none) c.in-LabelLines.lines c.begin_label_lines.new.lines
-    t c.args.byte (shown_item c.in-Some-take.item) before at.1 refl (c.in-Some-take.ensures.gives t at.0) (c.take-in-LabelLines.follows.holds-at-none t at.0)
+    lists (zpl_reading by) label_line_of (c.items_grow-in-LabelLines.ensures (ListingIn false (Zpl by))).grows w (ZplStands by c.take-in-LabelLines.follows.lender-at-none) c.in-LabelLines.lines c.begin_label_lines.new.lines
+    t c.args.byte (shown_item c.in-Some-take.item) before at.1 refl (c.in-Some-take.ensures.gives by t at.0) (c.take-in-LabelLines.follows.holds-at-none by t at.0)
     (b.pending ∙ ap (λ o. flat_map (λ i. listed_line o (label_line_of i)) (shown_item c.in-Some-take.item)) (sym b.taken))
     (b.count ∙ ap (λ (l : Listed). grown l.count (length (shown_item c.in-Some-take.item))) counted_one) (b.taken ∙ ap (λ (l : Listed). l.taken) counted_one))
 
 pub returns-in_default : goal.returns-in_default
-returns-in_default g c = at_label_lines _ _ _ _ c.in-LabelLines.is (λ w t before at.
-    lists_none zpl_reading label_line_of (c.items_grow-in-LabelLines.ensures (ListingIn false Zpl)).grows w (ZplStands c.take-in-LabelLines.follows.lender-at-none) c.in-LabelLines.lines c.advance-in-LabelLines.new.self
-    t c.args.byte before at.1 refl (c.in_default.ensures.gives t at.0) (c.take-in-LabelLines.follows.holds-at-none t at.0)
+returns-in_default g c = at_label_lines _ _ _ _ c.in-LabelLines.is (λ by w t before at.
+    lists_none (zpl_reading by) label_line_of (c.items_grow-in-LabelLines.ensures (ListingIn false (Zpl by))).grows w (ZplStands by c.take-in-LabelLines.follows.lender-at-none) c.in-LabelLines.lines c.advance-in-LabelLines.new.self
+    t c.args.byte before at.1 refl (c.in_default.ensures.gives by t at.0) (c.take-in-LabelLines.follows.holds-at-none by t at.0)
     (ap (λ (l : Listed). l.pending) c.advance-in-LabelLines.ensures ∙ sym (ap (λ m. pending_of (machine_of m)) c.in-LabelLines.is) ∙ c.requires)
     (ap (λ (l : Listed). l.count) c.advance-in-LabelLines.ensures) (ap (λ (l : Listed). l.taken) c.advance-in-LabelLines.ensures))

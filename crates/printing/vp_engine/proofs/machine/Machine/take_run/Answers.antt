@@ -36,7 +36,7 @@ returns-in-ReceiptLines-clause-takes g c = at_lines _ _ _ _ c.in-ReceiptLines.is
     (take_written _ _ _ _ p.put p.bytes) p.count p.taken)
 
 pub returns-in-Label-clause-takes : goal.returns-in-Label-clause-takes
-returns-in-Label-clause-takes g c = at_label _ _ _ _ c.in-Label.is (λ s t before at known.
+returns-in-Label-clause-takes g c = at_label _ _ _ _ c.in-Label.is (λ by s t before at known.
     let e = c.take_data-n.ensures in let n = c.take_data-n.result in let room = c.min-room-in-Label.result in
     let input = c.args.input.now in
     let within : room ≤ length input = omega (arith, c.min-room-in-Label.ensures) in
@@ -48,21 +48,21 @@ returns-in-Label-clause-takes g c = at_label _ _ _ _ c.in-Label.is (λ s t befor
     let items = data_items (take n input) in
     record {
       added = items;
-      gives = ap (λ x. zpl.items (t ++ x)) (sym front) ∙ e.gives t n at.0 (omega arith) ∙ ap (λ x. zpl.items t ++ data_items x) front;
+      gives = ap (λ x. zpl.items by (t ++ x)) (sym front) ∙ e.gives by t n at.0 (omega arith) ∙ ap (λ x. zpl.items by t ++ data_items x) front;
       known = known;
-      accepted = all_accepted s items before (c.data_room.ensures.room s before at.1 (take n input) fits);
-      prints = all_printed s items before ∙ ap (λ x. printed (rules_of (Labels s)) before ++ x) (c.data_in_turn.ensures.silent s before (take n input));
-      stands = (subst (λ x. ZplStands c.take_data-n.new.self (t ++ x)) front (e.stands t at.0), to_plain s _ _ (subst (LabelStands s c.apply_data.new.self) (c.in_turn.ensures.order before items) (c.apply_data.ensures.stands s before at.1)));
+      accepted = all_accepted by s items before (c.data_room.ensures.room s before at.1 (take n input) fits);
+      prints = all_printed by s items before ∙ ap (λ x. printed (rules_of (Labels by s)) before ++ x) (c.data_in_turn.ensures.silent s before (take n input));
+      stands = (subst (λ x. ZplStands by c.take_data-n.new.self (t ++ x)) front (e.stands by t at.0), to_plain s _ _ (subst (LabelStands s c.apply_data.new.self) (c.in_turn.ensures.order before items) (c.apply_data.ensures.stands s before at.1)));
     })
 
 pub returns-in-LabelLines-clause-rest : goal.returns-in-LabelLines-clause-rest
 returns-in-LabelLines-clause-rest g c = drop_written _ _ _ _ c.put_bytes-put-in-LabelLines.ensures.put c.put_bytes-put-in-LabelLines.ensures.bytes
 
 pub returns-in-LabelLines-clause-takes : goal.returns-in-LabelLines-clause-takes
-returns-in-LabelLines-clause-takes g c = at_label_lines _ _ _ _ c.in-LabelLines.is (λ w t before at known.
+returns-in-LabelLines-clause-takes g c = at_label_lines _ _ _ _ c.in-LabelLines.is (λ by w t before at known.
     let e = c.take_data-n-in-LabelLines.ensures in let p = c.put_bytes-put-in-LabelLines.ensures in
-    lists_run zpl_reading zpl_lines.line_of (c.items_grow-in-LabelLines.ensures (ListingIn false Zpl)).grows Data (λ b. refl) w (ZplStands c.take_data-n-in-LabelLines.new.self)
+    lists_run (zpl_reading by) zpl_lines.line_of (c.items_grow-in-LabelLines.ensures (ListingIn false (Zpl by))).grows Data (λ b. refl) w (ZplStands by c.take_data-n-in-LabelLines.new.self)
     c.in-LabelLines.lines c.put_bytes-put-in-LabelLines.new.self t c.args.input.now c.min-room-in-LabelLines.result c.take_data-n-in-LabelLines.result
     (take c.put_bytes-put-in-LabelLines.result c.put_bytes-put-in-LabelLines.new.output) before at.1
-    (omega (arith, c.min-room-in-LabelLines.ensures)) e.fits (λ k l. e.gives t k at.0 l) known (e.stands t at.0)
+    (omega (arith, c.min-room-in-LabelLines.ensures)) e.fits (λ k l. e.gives by t k at.0 l) known (e.stands by t at.0)
     (take_written _ _ _ _ p.put p.bytes) p.count p.taken)

@@ -8,11 +8,11 @@ returns-in-Receipt-clause-bounds g c = at_receipt _ _ _ _ c.in-Receipt.is (λ by
     (c.work.ensures.at_least s before at.1 paged, c.work.ensures.at_most s before at.1 paged))
 
 pub returns-in-Label-clause-bounds : goal.returns-in-Label-clause-bounds
-returns-in-Label-clause-bounds g c = at_label _ _ _ _ c.in-Label.is (λ s t before at.
+returns-in-Label-clause-bounds g c = at_label _ _ _ _ c.in-Label.is (λ by s t before at.
     (c.work-in-Label.ensures.at_most s before at.1, λ none. c.work-in-Label.ensures.at_least s before at.1 (ap (λ m. pending_of (machine_of m)) (sym c.in-Label.is) ∙ none)))
 
 pub returns-in-ReceiptLines-clause-bounds : goal.returns-in-ReceiptLines-clause-bounds
 returns-in-ReceiptLines-clause-bounds g c = at_lines _ _ _ _ c.in-ReceiptLines.is (λ by w t before at. refl)
 
 pub returns-in-LabelLines-clause-bounds : goal.returns-in-LabelLines-clause-bounds
-returns-in-LabelLines-clause-bounds g c = at_label_lines _ _ _ _ c.in-LabelLines.is (λ w t before at. refl)
+returns-in-LabelLines-clause-bounds g c = at_label_lines _ _ _ _ c.in-LabelLines.is (λ by w t before at. refl)
