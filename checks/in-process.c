@@ -89,7 +89,10 @@ static uint32_t made(const char *language, bytes a, bytes b, vp *printer) {
     if (strcmp(language, "whole") == 0) return vp_new(VP_WHOLE_RECEIPT, a.at, a.length, b.at, b.length, printer);
     if (strcmp(language, "whole58") == 0) return vp_new(VP_WHOLE_RECEIPT_58, a.at, a.length, b.at, b.length, printer);
     if (strcmp(language, "label") == 0) return vp_new(VP_LABEL, a.at, a.length, b.at, b.length, printer);
-    uint32_t kind = strstr(language, "label") ? VP_LABEL : strstr(language, "whole") ? VP_WHOLE_RECEIPT : VP_RECEIPT;
+    if (strcmp(language, "wholelabel") == 0) return vp_new(VP_WHOLE_LABEL, a.at, a.length, b.at, b.length, printer);
+    int whole = strstr(language, "whole") != NULL;
+    uint32_t receipts = whole ? VP_WHOLE_RECEIPT : VP_RECEIPT, labels = whole ? VP_WHOLE_LABEL : VP_LABEL;
+    uint32_t kind = strstr(language, "label") ? labels : receipts;
     return vp_new_listing(kind, strncmp(language, "offsets", 7) == 0, printer);
 }
 
@@ -230,7 +233,7 @@ static int bad(void) {
     expect(vp_held(&none, &held) == VP_NO_PRINTER && held.stored == 0 && held.band_rows == 0, "held of none");
     expect(vp_memory(&none, &bytes) == VP_NO_PRINTER && bytes == 0, "memory of none");
     vp_free(&none);
-    expect(vp_new(5, NULL, 0, NULL, 0, &printer) == VP_NO_LANGUAGE && printer.printer == NULL, "no such language");
+    expect(vp_new(6, NULL, 0, NULL, 0, &printer) == VP_NO_LANGUAGE && printer.printer == NULL, "no such language");
     expect(vp_new_listing(9, 0, &printer) == VP_NO_LANGUAGE && printer.printer == NULL, "a listing of none");
     const uint8_t p4[] = "P4\n192 384\n", p5[] = "P5\n";
     expect(vp_new(VP_RECEIPT, p5, 3, NULL, 0, &printer) == VP_SHEET_A_S1, "S1 of font A");

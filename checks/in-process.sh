@@ -80,6 +80,8 @@ compared() {
     whole58) set -- "$@" receipt --whole --width 384 --font-a "$a" --font-b "$b" ;;
     list-whole) set -- "$@" list --lang receipt --whole ;;
     offsets-whole) set -- "$@" list --lang receipt --whole --offsets ;;
+    wholelabel) set -- "$@" label --whole --font-a "$a" && second=- ;;
+    list-wholelabel) set -- "$@" list --lang label --whole ;;
     label) set -- "$@" label --font-a "$a" && second=- ;;
     list-*) set -- "$@" list --lang "${2#list-}" ;;
     offsets-*) set -- "$@" list --offsets --lang "${2#offsets-}" ;;
@@ -101,7 +103,9 @@ for caller in shared counted; do
         done
     done
     for stream in examples/*.zpl; do
-        for language in label list-label offsets-label; do compared "$caller" "$language" "$stream" 1; done
+        for language in label wholelabel list-label offsets-label list-wholelabel; do
+            compared "$caller" "$language" "$stream" 1
+        done
     done
 done
 mkdir "$room/streams"
@@ -109,7 +113,7 @@ python3 checks/streams.py "$room/streams" "$count"
 nth=0
 for stream in "$room/streams"/*; do
     nth=$((nth + 1))
-    case $stream in *.bin) languages='receipt receipt58 whole list-receipt list-whole' ;; *) languages='label offsets-label' ;; esac
+    case $stream in *.bin) languages='receipt receipt58 whole list-receipt list-whole' ;; *) languages='label wholelabel offsets-label' ;; esac
     for language in $languages; do compared counted "$language" "$stream" "$nth"; done
 done
 echo "the examples and $nth random streams, cut at random, without memory behind vp_new: ok"

@@ -1,9 +1,10 @@
 #!/usr/bin/env python3
 """symbols.py [PROGRAM [NUMBER [SEED]]]: draws so many random payloads, 60 where none is said, as Data Matrix
-symbols of all sizes and leads, and as many as PDF417 symbols of all levels and shapes and as Aztec symbols of all
-layers, and has ZXingReader, and of Data Matrix dmtxread too, read them back. Each rune has the modules that zint
-draws. As many are drawn of each linear code that no printer draws with: ZXingReader and zbarimg read those that they
-know, and each has the modules that zint draws. PROGRAM is vp_draw_symbols as the gate builds it."""
+symbols of all sizes and leads, and as many as PDF417 symbols of all levels and shapes, as Aztec symbols of all
+layers and, in dots, as MaxiCode symbols of all modes, and has ZXingReader, and of Data Matrix dmtxread too, read
+them back. Each rune has the modules that zint draws, and so have as many MaxiCode symbols of one code set. As many
+are drawn of each linear code that no printer draws with: ZXingReader and zbarimg read those that they know, and
+each has the modules that zint draws. PROGRAM is vp_draw_symbols as the gate builds it."""
 import os
 import random
 import shutil
@@ -24,9 +25,11 @@ HEADS = {b"5": b"[)>\x1e05\x1d", b"6": b"[)>\x1e06\x1d"}
 COMMANDS = {"ZXingReader": ["ZXingReader", "-format", "DataMatrix", "-ispure", "-bytes"],
             "dmtxread": ["dmtxread", "-N1", "-m", "5000"],
             "ZXingReader of PDF417": ["ZXingReader", "-format", "PDF417", "-ispure", "-bytes"],
-            "ZXingReader of Aztec": ["ZXingReader", "-format", "Aztec", "-ispure", "-bytes"]}
+            "ZXingReader of Aztec": ["ZXingReader", "-format", "Aztec", "-ispure", "-bytes"],
+            "ZXingReader of MaxiCode": ["ZXingReader", "-format", "MaxiCode", "-ispure", "-bytes"]}
 # what each of them reads, by the letter of vp_draw_symbols
-READS = {"ZXingReader": b"D", "dmtxread": b"D", "ZXingReader of PDF417": b"FC", "ZXingReader of Aztec": b"A"}
+READS = {"ZXingReader": b"D", "dmtxread": b"D", "ZXingReader of PDF417": b"FC", "ZXingReader of Aztec": b"A",
+         "ZXingReader of MaxiCode": b"m"}
 # kinds of text, each of which another encodation takes in the fewest codewords, and how many of its characters a
 # codeword has at most
 CAPITALS = b"ABCDEFGHIJKLMNOPQRSTUVWXYZ"
@@ -43,6 +46,13 @@ MODES = {"digits": b"0123456789,. ", "capitals": CAPITALS + b" ", "words": STACK
          "mixed": bytes(range(1, 14)) + bytes(range(27, 32)) + b"@\\^_`|~\x7f Aa0", "text": STACKED["text"],
          "marks": b"\r\n.,:; !?[]{}()<>=+-*/$%&#'\" aB1", "bytes": bytes(range(256)),
          "high": CAPITALS + b"\0\x1a\xe9\xff"}
+# and of MaxiCode: of each code set
+CODE_SETS = {"digits": b"0123456789", "capitals": CAPITALS + b" 0123456789,.-/:", "words": STACKED["words"],
+             "text": bytes(range(32, 127)), "c": bytes(range(0xc0, 0xe0)) + b"\x80\x89\xaa\xbe \x1d",
+             "d": bytes(range(0xe0, 256)) + b"\x8a\x94\xa1\xbf \x1e", "e": bytes(range(32)) + b"\x95\x9f\xa0\xb6 ",
+             "bytes": bytes(range(256))}
+# what stands before a text, of a year
+HEADER = b"[)>\x1e01\x1d"
 # the linear codes by the letters of vp_draw_symbols: zint's arguments, the dots of a wide element, and the words by
 # which ZXingReader and zbarimg know them
 DIGITS = "0123456789"
@@ -140,6 +150,37 @@ def layered(number: int) -> List[Case]:
     return some
 
 
+def carried(mode: int) -> bytes:
+    """Returns what stands in front of a text of MaxiCode in a mode: a random carrier's message, in 2 and 3."""
+    digits = bytes(random.choices(DIGITS.encode(), k=6 + 9 * (mode == 2)))
+    return {2: digits, 3: digits + bytes(random.choices(CODE_SETS["capitals"], k=6))}.get(mode, b"")
+
+
+def joined() -> Tuple[int, int]:
+    """Returns which of how many symbols one is, of none more often."""
+    of = random.choice([0, 0, 0, random.randint(2, 8)])
+    return (random.randint(1, of), of) if of else (0, 0)
+
+
+def hexagonal(number: int) -> List[Case]:
+    """Returns what is asked for of MaxiCode in dots: each mode by turns, with texts of one code set or of several."""
+    some = []
+    for at in range(number):
+        mode = 2 + at % 5
+        # a character of capitals takes one codeword, and of others three at most, where a latch is behind it
+        length = random.randint(1, 75) if at % 3 == 0 else random.randint(1, 25)
+        data = b""
+        while len(data) < length:
+            run = random.choice([length, random.randint(1, 12), random.randint(1, 4)])
+            letters = CODE_SETS["capitals" if at % 3 == 0 else random.choice(list(CODE_SETS))]
+            data += bytes(random.choices(letters, k=run))
+        data = data[:length]
+        if mode < 4 and random.randrange(2):
+            data = HEADER + b"%02d" % random.randrange(100) + data[:max(1, length - 20)]
+        some.append((b"m%d" % mode, *joined(), carried(mode) + data))
+    return some
+
+
 def check_digit(digits: str) -> str:
     """Returns the check digit by the weights 3 and 1 from the right."""
     return str(-sum(int(it) * (3, 1)[at % 2] for at, it in enumerate(reversed(digits))) % 10)
@@ -173,13 +214,12 @@ def linear(letter: str) -> Tuple[str, str, str]:
         data = random.choice("ABCD") + some(DIGITS + "-$:/.+", 4, 30) + random.choice("ABCD")
         return data, data, data
     if letter == "9":
-        data = some(DIGITS + CAPITALS.decode() + "-. $/+%", 1, 30).strip() or "0"
+        data = some("".join(map(chr, range(33, 127))), 1, 30)
         return data, data, data
     if letter == "E":
-        system = random.choice("001")
-        long, six = short(system)
-        data = six if system == "0" and random.randrange(2) else long + random.choice(["", "0"])
-        return data, system + six, system + six + check_digit(long)
+        long, six = short("0")
+        data = random.choice([six, "0" + six, f"0{six}0", long, long + "0"])
+        return data, "0" + six, "0" + six + check_digit(long)
     if letter == "+":
         data = some(DIGITS, 2, 2) if random.randrange(2) else some(DIGITS, 5, 5)
         return data, data, data
@@ -225,8 +265,7 @@ def linear_offences(program: str, room: str, number: int, tools: List[str]) -> L
         if "zint" in tools and modules_of_zint(LINEAR[letter][0], for_zint) != row.rstrip("0"):
             wrong.append(f"zint: {letter} {data}: {row}")
         for tool in tools:
-            # zbarimg knows no UPC-E of number system 1
-            if tool == "zint" or tool == "zbarimg" and letter == "E" and text[0] == "1":
+            if tool == "zint":
                 continue
             said_text = read_linear(letter, tool, room, row, book[0])
             bare = text[1:-1] if letter == "B" and tool == "ZXingReader" else text
@@ -286,7 +325,13 @@ def said(tool: str, room: str, rows: List[str]) -> bytes:
 
 
 def wanted(lead: bytes, data: bytes) -> bytes:
-    """Returns what a symbol says: a macro stands for its head and its end."""
+    """Returns what a symbol says: a macro stands for its head and its end. Of a carrier's message the reader tells
+    the parts before the text, behind its header."""
+    if lead in (b"m2", b"m3"):
+        front = 15 if lead == b"m2" else 12
+        service, country, postal, text = data[:3], data[3:6], data[6:front], data[front:]
+        header = text[:9] if text.startswith(HEADER) else b""
+        return header + b"\x1d".join([postal, country, service, text[len(header):]])
     head = HEADS.get(lead[1:]) if lead[:1] == b"D" else None
     return data if head is None else head + data + b"\x1e\x04"
 
@@ -310,6 +355,26 @@ def runes_offences(program: str) -> List[str]:
     return wrong
 
 
+def hexagons_offences(program: str, number: int) -> List[str]:
+    """Returns the MaxiCode symbols of capitals and digits that have other modules than zint's."""
+    some: List[Case] = []
+    for at in range(number):
+        mode = 2 + at % 5
+        text = bytes(random.choices(CODE_SETS[random.choice(["capitals", "digits"])], k=random.randint(1, 75)))
+        some.append((b"M%d" % mode, *joined(), carried(mode) + text))
+    wrong = []
+    for (lead, position, of, data), rows in zip(some, drawn(program, some)):
+        front = {b"M2": 15, b"M3": 12}.get(lead, 0)
+        words = ["zint", "-b", "57", f"--mode={lead[1:].decode()}", "-d", data[front:].decode(), "--dump"]
+        words += ["--primary=" + (data[6:front] + data[3:6] + data[:3]).decode()] if front else []
+        words += [f"--structapp={position},{of}"] if of else []
+        ran = subprocess.run(words, stdout=subprocess.PIPE, stderr=subprocess.DEVNULL, check=False)
+        lines = [line for line in ran.stdout.decode().split("\n") if line and not line.startswith("Warning")]
+        if [bin(int("1" + line.replace(" ", ""), 16))[3:33] for line in lines] != rows:
+            wrong.append(f"zint: {lead!r} {position} of {of}, {data!r}")
+    return wrong
+
+
 def offences(room: str, some: List[Case], symbols: List[List[str]], tools: List[str]) -> List[str]:
     """Returns what a reader reads otherwise."""
     wrong = []
@@ -322,6 +387,9 @@ def offences(room: str, some: List[Case], symbols: List[List[str]], tools: List[
                 continue
             text = said(tool, room, rows)
             if lead[:1] == b"A" and is_read(text, data):
+                continue
+            # the reader takes CR of code set A for LF
+            if lead[:1] == b"m" and text.replace(b"\r", b"\n") == wanted(lead, data).replace(b"\r", b"\n"):
                 continue
             if text != wanted(lead, data) and not (lead == b"DG" and text.lstrip(b"\x1d") == data):
                 wrong.append(f"{tool}: symbol {at} of {len(rows)} rows, {some[at]}: {text!r}")
@@ -341,7 +409,7 @@ def main() -> int:
         if "VP_LEFT_OUT" in os.environ:
             with open(os.environ["VP_LEFT_OUT"], "a", encoding="utf-8") as left:
                 left.write(f"symbols {tool}\n")
-    some = cases(number) + stacked(number) + layered(number)
+    some = cases(number) + stacked(number) + layered(number) + hexagonal(number)
     symbols = drawn(program, some)
     if len(symbols) != len(some):
         print(f"checks/symbols: {len(symbols)} symbols of {len(some)}")
@@ -349,12 +417,12 @@ def main() -> int:
     with tempfile.TemporaryDirectory() as room:
         wrong = offences(room, some, symbols, tools) + linear_offences(program, room, number, of_bars)
     if "zint" in of_bars:
-        wrong += runes_offences(program)
+        wrong += runes_offences(program) + hexagons_offences(program, number)
     for it in wrong:
         print(f"checks/symbols: {it}")
     if not wrong:
-        print(f"{number} Data Matrix, {number} PDF417 and {number} Aztec symbols, and {number} of each linear code, "
-              f"are read back by {', '.join(tools + of_bars[1:]) or 'no reader: none is there'}: ok")
+        print(f"{number} Data Matrix, {number} PDF417, {number} Aztec and {number} MaxiCode symbols, and {number} of "
+              f"each linear code, are read back by {', '.join(tools + of_bars[1:]) or 'no reader: none is there'}: ok")
     return 1 if wrong else 0
 
 

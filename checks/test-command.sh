@@ -39,7 +39,7 @@ for check in $checks tools/gate/minutes.py; do
 done
 chmod 755 "$room/with/rt"
 
-without=$(($(echo "$checks" | wc -w) - 4))
+without=$(($(echo "$checks" | wc -w) - 5))
 is 0 'without rt' "$alone"
 says "^$without checks passed$"
 tail -n 2 "$room/said" | grep -q "^The proofs weren't tried" || fail "the last lines don't say that proofs weren't tried"
@@ -54,7 +54,7 @@ is 0 'with --quick and no rt' "$alone" --quick
 # with rt all, and the words are the gate's
 is 0 'with rt' "$with" --all --seed 7
 says '^ran: tools/gate/minutes.py out/gate.log tools/gate/gate.py --all --seed 7 $'
-says "^$((without + 6)) checks passed$"
+says "^$((without + 7)) checks passed$"
 says 'ran: ./checks/evidence.py out/gate.log'
 silent "weren't tried"
 

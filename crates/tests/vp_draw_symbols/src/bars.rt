@@ -2,7 +2,10 @@
 
 use std::alloc::{AllocError, Global};
 use std::io::Write;
-use vp_bars::{BarCode, Code11Checks, Code128Data, HriPosition, MsiChecks, linear};
+use vp_bars::{
+    BarCode, CodabarEnds, Code11Checks, Code93Data, Code128Data, HriPosition, MsiChecks, UpcEData,
+    linear,
+};
 use vp_dots::{Ink, Op};
 use vp_glyph::{Font, Sheets};
 
@@ -16,14 +19,18 @@ fn code_of(letter: u8) -> Option<BarCode> {
         },
         b'I' => BarCode::Interleaved { check: false },
         b'i' => BarCode::Interleaved { check: true },
-        b'B' => BarCode::Codabar,
+        b'B' => BarCode::Codabar {
+            ends: CodabarEnds::Data,
+        },
         b'1' => BarCode::Code11 {
             checks: Code11Checks::One,
         },
         b'2' => BarCode::Code11 {
             checks: Code11Checks::Two,
         },
-        b'9' => BarCode::Code93,
+        b'9' => BarCode::Code93 {
+            data: Code93Data::Ascii,
+        },
         _ => return other_code_of(letter),
     };
     Some(code)
@@ -44,10 +51,12 @@ fn other_code_of(letter: u8) -> Option<BarCode> {
         b'o' => BarCode::Msi {
             checks: MsiChecks::Mod11Mod10,
         },
-        b'8' => BarCode::Ean8,
-        b'A' => BarCode::UpcA,
-        b'E' => BarCode::UpcE,
-        b'+' => BarCode::AddOn,
+        b'8' => BarCode::Ean8 { padded: false },
+        b'A' => BarCode::UpcA { padded: false },
+        b'E' => BarCode::UpcE {
+            data: UpcEData::Digits,
+        },
+        b'+' => BarCode::AddOn { padded: false },
         _ => return None,
     };
     Some(code)

@@ -9,6 +9,9 @@
 //! - `A`, Aztec: the percentage of check codewords, 0 where it is left open, and the number of layers, after 1 for
 //!   a compact and 2 for a full symbol, and 0 for any; a dot a module
 //! - `R`, a rune: its number; a dot a module
+//! - `M`, MaxiCode: the digit of the mode, and which of how many symbols it is, 0 for one alone; the data of modes
+//!   2 and 3 as label printers are given them; a dot a module
+//! - `m`, the same in dots
 //! - `L`, a linear symbol: a letter of its kind (`bars`), and the dots of a narrow and of a wide element; one
 //!   row of its bars
 //! - `E`, the same as `F`, but not drawn: its columns and rows alone, for bench/peers.sh
@@ -16,9 +19,11 @@
 
 mod aztec;
 mod bars;
+mod maxicode;
 
 use crate::aztec::{draw_aztec, draw_rune};
 use crate::bars::draw_bars;
+use crate::maxicode::draw_maxicode;
 use std::alloc::{AllocError, Global};
 use std::io::{Read, Write};
 use std::process::ExitCode;
@@ -142,6 +147,9 @@ fn draw_one(
     }
     if kind == b'A' {
         return draw_aztec(paper, first, rows, columns, bytes);
+    }
+    if kind == b'M' || kind == b'm' {
+        return draw_maxicode(paper, kind == b'm', first, rows, columns, bytes);
     }
     if kind == b'R' {
         return draw_rune(paper, first);

@@ -14,7 +14,7 @@ use std::process::Abort;
 use vp_dots::Fault;
 use vp_format::{Content, Field, Span};
 use vp_label::Gathered;
-use vp_zpl::{ZplItem, ZplReader};
+use vp_zpl::{Reading, ZplItem, ZplReader};
 
 /// The first stored byte.
 const ONE: Span = Span { start: 0, len: 1 };
@@ -38,7 +38,7 @@ fn take(gathered: &mut Gathered, item: ZplItem) -> Option<Fault>
 
 /// What is gathered behind a stream, and why an item of it is refused, the last one that is.
 fn behind(alloc: Global, stream: &[u8]) -> Result<(Gathered, Option<Fault>), AllocError> {
-    let mut reader = ZplReader::new();
+    let mut reader = ZplReader::new(Reading::Profile);
     let mut gathered = Gathered::new(alloc)?;
     let mut refused = None;
     for byte in stream {

@@ -6,7 +6,7 @@ use std::process::Abort;
 use std::test::Fail;
 use vp_dots::{Fault, Why};
 use vp_label::Label;
-use vp_zpl::ZplReader;
+use vp_zpl::{Reading, ZplReader};
 
 /// Takes the bytes of a stream up to the first item that prints something or is refused: how many bytes are
 /// taken, and why it is refused.
@@ -27,7 +27,7 @@ fn fed(label: &mut Label, reader: &mut ZplReader, stream: &[u8]) -> (usize, Opti
 /// A printer behind the bytes of a stream up to the first item that prints something or is refused.
 fn behind(alloc: Global, stream: &[u8]) -> Result<(Label, usize, Option<Fault>), AllocError> {
     let mut label = Label::new(alloc, NONE)?;
-    let (taken, fault) = fed(&mut label, &mut ZplReader::new(), stream);
+    let (taken, fault) = fed(&mut label, &mut ZplReader::new(Reading::Profile), stream);
     Ok((label, taken, fault))
 }
 
@@ -153,7 +153,7 @@ static COUNTS: [(usize, (u16, u32, u16)); 9] = [
 #[test]
 fn counts(rt: HostRuntime) -> Result<(), Fail> {
     let mut label = Label::new(rt.alloc(), NONE)?;
-    let mut reader = ZplReader::new();
+    let mut reader = ZplReader::new(Reading::Profile);
     fed(&mut label, &mut reader, b"^XA^PW8^LL34^PQ2^FDabc^FDde^FS");
     same(&rt, &held(&label), &(0, 5, 1));
     fed(&mut label, &mut reader, TWO_BANDS);
@@ -174,7 +174,7 @@ fn took(rt: &impl Abort, label: &Label, least: u64, most: u64) {
 #[test]
 fn looks(rt: HostRuntime) -> Result<(), Fail> {
     let mut label = Label::new(rt.alloc(), NONE)?;
-    let mut reader = ZplReader::new();
+    let mut reader = ZplReader::new(Reading::Profile);
     fed(&mut label, &mut reader, b"^XA^PW8^LL34^PQ2");
     fed(&mut label, &mut reader, TWO_BANDS);
     took(&rt, &label, 0, 0);
@@ -187,7 +187,7 @@ fn looks(rt: HostRuntime) -> Result<(), Fail> {
 
 /// A thousand boxes in the first of 250 bands.
 fn looks_in_the_first_band(rt: &impl Abort, label: &mut Label) {
-    let mut reader = ZplReader::new();
+    let mut reader = ZplReader::new(Reading::Profile);
     fed(label, &mut reader, b"^XA^PW8^LL8000");
     for _ in 0..1000 {
         fed(label, &mut reader, b"^FO0,0^GB8,1,1^FS");
@@ -201,7 +201,7 @@ fn looks_in_the_first_band(rt: &impl Abort, label: &mut Label) {
 /// A box below a label of two bands.
 fn looks_below(rt: &impl Abort, label: &mut Label) {
     let stream = b"^XA^PW8^LL34^FO0,100^GB8,1,1^FS^XZ";
-    fed(label, &mut ZplReader::new(), stream);
+    fed(label, &mut ZplReader::new(Reading::Profile), stream);
     put_out(rt, label, 42);
     took(rt, label, 0, 2);
 }
@@ -299,7 +299,7 @@ fn taken_in_a_run(label: &mut Label, reader: &mut ZplReader, data: &[u8]) -> Opt
 #[test]
 fn data_by_runs(rt: HostRuntime) -> Result<(), Fail> {
     let mut label = Label::new(rt.alloc(), NONE)?;
-    let mut reader = ZplReader::new();
+    let mut reader = ZplReader::new(Reading::Profile);
     fed(&mut label, &mut reader, b"^XA^PW32^LL1^FO0,0^GFA,4,4,4,");
     let taken = taken_in_a_run(&mut label, &mut reader, b"MB");
     same(&rt, &(taken, held(&label)), &(Some(2), (0, 2, 0)));

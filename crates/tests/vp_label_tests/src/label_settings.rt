@@ -2,12 +2,15 @@
 use crate::checks::same;
 use std::process::Abort;
 use std::test::Fail;
-use vp_label_settings::{Home, InForce, Settings};
-use vp_zpl::{ZplItem, ZplReader};
+use vp_bars::{
+    BarCode, CodabarEnd, CodabarEnds, Code11Checks, Code93Data, HriPosition, MsiChecks, UpcEData,
+};
+use vp_label_settings::{BarChoice, Home, InForce, Settings, SymbolChoice};
+use vp_zpl::{Reading, ZplItem, ZplReader};
 
 /// What is in force behind a stream, of which no command is refused.
-fn in_force(stream: &[u8]) -> Option<InForce> {
-    let mut reader = ZplReader::new();
+fn in_force(reading: Reading, stream: &[u8]) -> Option<InForce> {
+    let mut reader = ZplReader::new(reading);
     let mut now = InForce::new();
     for byte in stream {
         if let Some(ZplItem::Command(sent)) = reader.take(*byte) {
@@ -24,7 +27,7 @@ fn in_force(stream: &[u8]) -> Option<InForce> {
 fn wrong_settings(rows: &[(&[u8], Settings)]) -> Option<usize> {
     for i in 0..rows.len() {
         let (stream, settings) = rows[i];
-        match in_force(stream) {
+        match in_force(Reading::Profile, stream) {
             Some(found) if found.settings == settings => {}
             _ => return Some(i),
         }
@@ -107,5 +110,107 @@ fn formats(rt: HostRuntime) -> Result<(), Fail> {
         (b"^XA^PQ999999999^FX".as_slice(), copies(99_999_999)),
     ];
     right(&rt, &rows);
+    Ok(())
+}
+
+/// The bars that the open field asks for behind a stream of the whole language.
+fn bars(stream: &[u8]) -> Option<BarChoice> {
+    match in_force(Reading::Whole, stream)?.parts.symbol {
+        Some(SymbolChoice::Bars(choice)) => Some(choice),
+        _ => None,
+    }
+}
+
+/// A command in a format and the sign behind it, the code that it asks for, and where its text stands.
+type Asked = (&'static [u8], BarCode, HriPosition);
+
+/// The first row whose stream doesn't ask for its symbol.
+fn wrong_bars(rows: &[Asked]) -> Option<usize> {
+    for i in 0..rows.len() {
+        let (stream, code, place) = rows[i];
+        match bars(stream) {
+            Some(choice) if choice.code == code && choice.place == place => {}
+            _ => return Some(i),
+        }
+    }
+    None
+}
+
+const TWO: BarCode = BarCode::Code11 {
+    checks: Code11Checks::Two,
+};
+
+const ONE: BarCode = BarCode::Code11 {
+    checks: Code11Checks::One,
+};
+
+const MOD_10: BarCode = BarCode::Msi {
+    checks: MsiChecks::Mod10,
+};
+
+const NO_CHECK: BarCode = BarCode::Msi {
+    checks: MsiChecks::None,
+};
+
+const BOTH: BarCode = BarCode::Msi {
+    checks: MsiChecks::Mod11Mod10,
+};
+
+/// Codabar between a start and a stop.
+const fn codabar(start: CodabarEnd, stop: CodabarEnd) -> BarCode {
+    BarCode::Codabar {
+        ends: CodabarEnds::Around { start, stop },
+    }
+}
+
+const UPC_E: BarCode = BarCode::UpcE {
+    data: UpcEData::MakerArticle,
+};
+
+const CODE_93: BarCode = BarCode::Code93 {
+    data: Code93Data::Signs,
+};
+
+const ADD_ON: BarCode = BarCode::AddOn { padded: true };
+
+static SYMBOLS: [Asked; 16] = [
+    (b"^XA^B1^", TWO, HriPosition::Below),
+    (b"^XA^B1N,Y,9,N^", ONE, HriPosition::None),
+    (
+        b"^XA^B2^",
+        BarCode::Interleaved { check: false },
+        HriPosition::Below,
+    ),
+    (
+        b"^XA^B2N,9,Y,Y,Y^",
+        BarCode::Interleaved { check: true },
+        HriPosition::Above,
+    ),
+    (b"^XA^B8^", BarCode::Ean8 { padded: true }, HriPosition::Below),
+    (b"^XA^B9,,N^", UPC_E, HriPosition::None),
+    (b"^XA^BA,,Y,Y^", CODE_93, HriPosition::Above),
+    (
+        b"^XA^BK,,,N^",
+        codabar(CodabarEnd::A, CodabarEnd::A),
+        HriPosition::None,
+    ),
+    (
+        b"^XA^BKN,N,9,,,b,*^",
+        codabar(CodabarEnd::B, CodabarEnd::C),
+        HriPosition::Below,
+    ),
+    (b"^XA^BM^", MOD_10, HriPosition::Below),
+    (b"^XA^BMN,A^", NO_CHECK, HriPosition::Below),
+    (b"^XA^BMN,d,,Y,Y^", BOTH, HriPosition::Above),
+    (b"^XA^BS^", ADD_ON, HriPosition::Above),
+    (b"^XA^BS,,,N^", ADD_ON, HriPosition::Below),
+    (b"^XA^BS,,N,Y^", ADD_ON, HriPosition::None),
+    (b"^XA^BU^", BarCode::UpcA { padded: true }, HriPosition::Below),
+];
+
+/// The linear symbols of the whole language, and what stands where nothing is said.
+#[test]
+fn symbols(rt: HostRuntime) -> Result<(), Fail> {
+    same(&rt, &wrong_bars(&SYMBOLS), &None);
     Ok(())
 }

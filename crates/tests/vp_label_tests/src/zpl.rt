@@ -2,6 +2,7 @@
 mod pictures;
 mod rows;
 mod table;
+mod whole;
 
 use crate::checks::same;
 use arrayvec::ArrayVec;
@@ -9,7 +10,7 @@ use std::alloc::{AllocError, Global};
 use std::process::Abort;
 use std::test::Fail;
 use vp_dots::list;
-use vp_zpl::ZplReader;
+use vp_zpl::{Reading, ZplReader};
 
 /// Appends the lines of the items that the bytes give.
 fn list_items(reader: &mut ZplReader, bytes: &[u8], lines: &mut Vec<u8>) -> Result<(), AllocError> {
@@ -22,8 +23,8 @@ fn list_items(reader: &mut ZplReader, bytes: &[u8], lines: &mut Vec<u8>) -> Resu
 }
 
 /// The lines of the bytes' items, and whether the reader is at rest.
-fn listing(alloc: Global, bytes: &[u8]) -> Result<(Vec<u8>, bool), AllocError> {
-    let mut reader = ZplReader::new();
+fn listing(alloc: Global, reading: Reading, bytes: &[u8]) -> Result<(Vec<u8>, bool), AllocError> {
+    let mut reader = ZplReader::new(reading);
     let mut lines = Vec::new(alloc);
     list_items(&mut reader, bytes, &mut lines)?;
     Ok((lines, reader.at_rest()))
@@ -36,7 +37,7 @@ type Row = (&'static [u8], &'static [u8], bool);
 fn wrong_row(alloc: Global, rows: &[Row]) -> Result<Option<usize>, AllocError> {
     for i in 0..rows.len() {
         let (bytes, lines, rests) = rows[i];
-        let (found, found_rests) = listing(alloc, bytes)?;
+        let (found, found_rests) = listing(alloc, Reading::Profile, bytes)?;
         if found.as_slice() != lines || found_rests != rests {
             return Ok(Some(i));
         }
@@ -225,7 +226,7 @@ fn listing_by_run(
     head: &[u8],
     input: &[u8],
 ) -> Result<(Vec<u8>, usize, bool), AllocError> {
-    let mut reader = ZplReader::new();
+    let mut reader = ZplReader::new(Reading::Profile);
     let mut lines = Vec::new(alloc);
     list_items(&mut reader, head, &mut lines)?;
     let n = reader.take_data(input);
@@ -239,7 +240,7 @@ type Run = (&'static [u8], &'static [u8], &'static [u8], usize);
 
 /// Whether a run has `run` bytes, and its items and rest are those of single bytes.
 fn is_run(alloc: Global, (whole, head, input, run): Run) -> Result<bool, AllocError> {
-    let (lines, rests) = listing(alloc, whole)?;
+    let (lines, rests) = listing(alloc, Reading::Profile, whole)?;
     let (found, n, found_rests) = listing_by_run(alloc, head, input)?;
     Ok(found.as_slice() == lines.as_slice() && n == run && found_rests == rests)
 }

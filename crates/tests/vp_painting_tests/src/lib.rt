@@ -11,6 +11,8 @@ mod dots;
 #[cfg(test)]
 mod elements;
 #[cfg(test)]
+mod escapes;
+#[cfg(test)]
 mod glyph;
 #[cfg(test)]
 mod inflate;

@@ -2,7 +2,7 @@
 use crate::labels::{Label, Printed};
 use crate::sheet::repeat;
 use crate::streams::{Image, Stream};
-use crate::{fields, labels, pages, streams, symbols};
+use crate::{fields, labels, pages, streams, symbols, whole};
 use std::alloc::{AllocError, Global};
 use std::io::Write;
 use std::test::Fail;
@@ -148,10 +148,10 @@ fn label_paper(alloc: Global, label: &Label) -> Result<Vec<u8>, Fail> {
 }
 
 /// What a label must come to.
-fn label(alloc: Global, label: &Label) -> Result<Case, Fail> {
+fn label(alloc: Global, language: Language, label: &Label) -> Result<Case, Fail> {
     Ok(Case {
         name: label.name,
-        language: Language::Label,
+        language,
         bytes: label.bytes,
         paper: label_paper(alloc, label)?,
         fault: label.fault,
@@ -162,11 +162,12 @@ fn label(alloc: Global, label: &Label) -> Result<Case, Fail> {
 fn add_labels(
     alloc: Global,
     cases: &mut Vec<Case>,
+    language: Language,
     tables: &[&'static [Label]],
 ) -> Result<(), Fail> {
     for table in tables {
         for each in *table {
-            cases.push(label(alloc, each)?)?;
+            cases.push(label(alloc, language, each)?)?;
         }
     }
     Ok(())
@@ -179,8 +180,9 @@ fn add_cases(alloc: Global, cases: &mut Vec<Case>, kind: Kind) -> Result<(), Fai
         Kind::Pages => add_receipts(alloc, cases, &pages::tables()),
         Kind::Symbols => add_receipts(alloc, cases, &symbols::tables()),
         Kind::Labels => {
-            add_labels(alloc, cases, &labels::tables())?;
-            add_labels(alloc, cases, &fields::tables())
+            add_labels(alloc, cases, Language::Label, &labels::tables())?;
+            add_labels(alloc, cases, Language::Label, &fields::tables())?;
+            add_labels(alloc, cases, Language::WholeLabel, &whole::tables())
         }
     }
 }

@@ -37,3 +37,5 @@ mod symbols;
 mod tests;
 #[cfg(test)]
 mod ways;
+#[cfg(test)]
+mod whole;

@@ -14,7 +14,7 @@ const NEVER: usize = 0;
 /// The languages of receipts, and those of labels.
 const RECEIPTS: &[Language] = &[Language::Receipt, Language::Receipt58];
 
-const LABELS: &[Language] = &[Language::Label];
+const LABELS: &[Language] = &[Language::Label, Language::WholeLabel];
 
 /// With places, or without.
 #[derive(Clone, Copy)]
@@ -109,6 +109,21 @@ static LISTINGS: &[Listing] = &[
         bytes: b"^XA^FDA^ZZ1^XZ",
         lines: b"^XA\n^FD\nbyte 41\n^ZZ skipped\n^XZ\n",
         placed: b"3 ^XA\n6 ^FD\n7 byte 41\n10 ^ZZ skipped\n14 ^XZ\n",
+        answer: Ok(5),
+    },
+    // a symbol that the whole language adds, and the profile skips
+    Listing {
+        languages: &[Language::WholeLabel],
+        bytes: b"^XA^B2N,1^FDA^XZ",
+        lines: b"^XA\n^B2N,1\n^FD\nbyte 41\n^XZ\n",
+        placed: b"3 ^XA\n10 ^B2N,1\n12 ^FD\n13 byte 41\n16 ^XZ\n",
+        answer: Ok(5),
+    },
+    Listing {
+        languages: &[Language::Label],
+        bytes: b"^XA^B2N,1^FDA^XZ",
+        lines: b"^XA\n^B2 skipped\n^FD\nbyte 41\n^XZ\n",
+        placed: b"3 ^XA\n6 ^B2 skipped\n12 ^FD\n13 byte 41\n16 ^XZ\n",
         answer: Ok(5),
     },
     // a font, a block, and data by hex digits, of which three and then two bytes are known at once

@@ -7,7 +7,7 @@ use std::test::Fail;
 use vp_dots::Fault;
 use vp_glyph::Sheets;
 use vp_label::Label;
-use vp_zpl::{ZplItem, ZplReader};
+use vp_zpl::{Reading, ZplItem, ZplReader};
 
 /// Prints an item, if nothing is pending.
 fn apply(label: &mut Label, item: ZplItem<'_>) -> Result<(), Fault> {
@@ -20,7 +20,7 @@ fn apply(label: &mut Label, item: ZplItem<'_>) -> Result<(), Fault> {
 /// A label printer behind all of a stream, of which only the last byte prints.
 fn printing(alloc: Global, stream: &[u8]) -> Result<Label, AllocError> {
     let mut label = Label::new(alloc, Sheets { a: None, b: None })?;
-    let mut reader = ZplReader::new();
+    let mut reader = ZplReader::new(Reading::Profile);
     for byte in stream {
         if let Some(item) = reader.take(*byte) {
             let _ = apply(&mut label, item);

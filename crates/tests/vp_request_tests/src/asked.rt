@@ -167,4 +167,5 @@ static LABELS: [Row; 8] = [
 #[test]
 fn labels(rt: HostRuntime) {
     each_asks(&rt, Language::Label, &LABELS);
+    each_asks(&rt, Language::WholeLabel, &LABELS);
 }

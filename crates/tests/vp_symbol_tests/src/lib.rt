@@ -9,6 +9,10 @@ mod codewords;
 #[cfg(test)]
 mod data_matrix;
 #[cfg(test)]
+mod matrix;
+#[cfg(test)]
+mod maxicode;
+#[cfg(test)]
 mod pdf417;
 #[cfg(test)]
 mod shapes;

@@ -5,14 +5,14 @@ use arrayvec::ArrayVec;
 use std::alloc::{AllocError, Global};
 use std::process::Abort;
 use std::test::Fail;
-use vp_zpl::{Command, ZplItem, ZplReader};
+use vp_zpl::{Command, Reading, ZplItem, ZplReader};
 
 /// The bytes of a command and the sign behind it, the command and its lines.
 pub type Row = (&'static [u8], Command, &'static [u8]);
 
 /// The last command of the bytes.
 fn last_command(bytes: &[u8]) -> Option<Command> {
-    let mut reader = ZplReader::new();
+    let mut reader = ZplReader::new(Reading::Profile);
     let mut last = None;
     for byte in bytes {
         if let Some(ZplItem::Command(sent)) = reader.take(*byte) {
@@ -41,7 +41,7 @@ fn gives(alloc: Global, bytes: &[u8], command: Command, lines: &[u8]) -> Result<
     let Some(found) = last_command(bytes) else {
         return Ok(false);
     };
-    let (found_lines, _) = listing(alloc, bytes)?;
+    let (found_lines, _) = listing(alloc, Reading::Profile, bytes)?;
     Ok(is_same(found, command) && found_lines.as_slice() == lines)
 }
 
