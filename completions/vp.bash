@@ -14,7 +14,7 @@ _vp() {
         # a file, unless an option is begun
         case $command:$word in
         receipt:-*) options='--width --whole --font-a --font-b --help' ;;
-        label:-*) options='--font-a --help' ;;
+        label:-*) options='--whole --font-a --help' ;;
         list:-*) options='--lang --whole --offsets --help' ;;
         join:-*) options='--png --help' ;;
         esac

@@ -9,7 +9,7 @@ complete -c vp -n "not __fish_seen_subcommand_from $commands" -a help -d 'Tells 
 complete -c vp -n "not __fish_seen_subcommand_from $commands" -s V -l version -d 'Tells the version'
 complete -c vp -s h -l help -d 'Tells what can be asked for'
 complete -c vp -n '__fish_seen_subcommand_from receipt' -l width -x -a '576 384' -d 'Width of the paper'
-complete -c vp -n '__fish_seen_subcommand_from receipt list' -l whole -d 'Reads all commands of receipts, and past unknown ones'
+complete -c vp -n '__fish_seen_subcommand_from receipt label list' -l whole -d 'Reads the whole language'
 complete -c vp -n '__fish_seen_subcommand_from receipt label' -l font-a -r -F -d 'Glyph sheet of font A'
 complete -c vp -n '__fish_seen_subcommand_from receipt' -l font-b -r -F -d 'Glyph sheet of font B'
 complete -c vp -n '__fish_seen_subcommand_from list' -l lang -x -a 'receipt label' -d 'What the stream is written in'

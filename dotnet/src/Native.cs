@@ -44,7 +44,8 @@ namespace VirtualReceiptPrinter
 
     static class Native
     {
-        public const uint Receipt = 0, Receipt58 = 1, Label = 2, WholeReceipt = 3, WholeReceipt58 = 4;
+        public const uint Receipt = 0, Receipt58 = 1, Label = 2, WholeReceipt = 3, WholeReceipt58 = 4,
+            WholeLabel = 5;
         public const uint Ok = 0, NoMemory = 1;
         public const uint More = 0, Room = 1, Stopped = 2;
         const int Line = 96;

@@ -76,11 +76,12 @@ namespace VirtualReceiptPrinter
         }
     }
 
-    /// <summary>Printers of labels, ZPL II. All is as with receipts; every font is of font A's sheet.</summary>
+    /// <summary>Printers of labels, ZPL II. All is as with receipts; every font is of font A's sheet. By the whole language
+    /// more commands are read, as of more symbols: else they are skipped.</summary>
     public sealed class Label : Printers
     {
-        public Label(byte[] fontA = null, long mostRows = DefaultRows, long mostBytes = DefaultBytes)
-            : base(Native.Label, fontA, new byte[0], mostRows, mostBytes) { }
+        public Label(byte[] fontA = null, long mostRows = DefaultRows, long mostBytes = DefaultBytes, bool whole = false)
+            : base(whole ? Native.WholeLabel : Native.Label, fontA, new byte[0], mostRows, mostBytes) { }
     }
 
     /// <summary>A printer that is fed as bytes come, and gives each image once it is whole. One thread at a time uses it.

@@ -86,6 +86,9 @@ static class Tests
         Same("read again", Paper.Read(paper.ToPbm()).DifferenceFrom(paper), null);
         var whole = new Receipt(width: 384, whole: true).Print(Ascii("\u001b\u007f\u001bJ\u0002"));
         Same("an unknown command is read past", $"{whole.Joined().Width} {whole.Joined().Height} {whole.Fault}", "384 2 ");
+        var added = Ascii("^XA^PW24^LL1^BY1,2^B2N,1,N^FD12^FS^XZ");
+        Same("a symbol is drawn", BitConverter.ToString(new Label(whole: true).Print(added)[0].ToBytes()), "AD-2B-34");
+        Same("a symbol is skipped", BitConverter.ToString(new Label(new byte[0]).Print(added)[0].ToBytes()), "00-00-00");
         Same("fewer", Paper.Read(paper[0].ToPbm()).DifferenceFrom(paper), "1 images in place of 2");
         Throws<ArgumentException>("no paper", "what vp prints", () => Paper.Read(Ascii("P4\n8 8\n1")));
         Throws<VpException>("nothing", "nothing is printed", () => new Receipt().Print(new byte[0]).Joined());

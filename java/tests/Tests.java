@@ -96,6 +96,9 @@ final class Tests {
         same("fewer", Paper.read(paper.get(0).toPbm()).differenceFrom(paper), "images: 1 in place of 2");
         Paper whole = new Receipt(384, null, null, 100, 10_000, true).print(bytes("\u001b\u007f\u001bJ\u0002"));
         same("an unknown command is read past", whole.joined() + " " + whole.fault(), "an image of 384 by 2 dots null");
+        byte[] added = bytes("^XA^PW24^LL1^BY1,2^B2N,1,N^FD12^FS^XZ");
+        same("a symbol is drawn", new Label(null, 100, 10_000, true).print(added).get(0).isBlack(4, 0), true);
+        same("a symbol is skipped", new Label(new byte[0], 100, 10_000).print(added).get(0).isBlack(4, 0), false);
         refused("no paper", "what vp prints", () -> Paper.read(bytes("P4\n8 8\n1")));
         refused("no head", "what vp prints", () -> Paper.read(bytes("P5")));
         refused("nothing", "nothing is printed", () -> new Receipt().print(new byte[0]).joined());

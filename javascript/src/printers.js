@@ -68,9 +68,9 @@ export class Receipt extends Printers {
   constructor(options = {}) { super('receipt', options, ['width', 'whole', 'fontA', 'fontB', ...BOUNDS]); }
 }
 
-/** Printers of labels, ZPL II; every font is of font A's sheet. */
+/** Printers of labels, ZPL II, by the profile or by the whole language; every font is of font A's sheet. */
 export class Label extends Printers {
-  constructor(options = {}) { super('label', options, ['fontA', ...BOUNDS]); }
+  constructor(options = {}) { super('label', options, ['whole', 'fontA', ...BOUNDS]); }
 }
 
 // One stream on its way through a machine.

@@ -62,7 +62,17 @@ test('the whole language, in which no command is unknown', async () => {
   assert.deepEqual((await new PrinterWorker().print(printer, stream)).toPBM(), paper.toPBM());
   const { items, fault } = await list('\x1b\x7fA', 'receipt', { whole: true });
   assert.deepEqual([items.map(it => it.text), fault], [['esc 7f', 'char 41'], null]);
-  assert.deepEqual(await list(BOX, 'label', { whole: true }), await list(BOX, 'label'));
+});
+
+test('the whole language of labels has more symbols', async () => {
+  const stream = '^XA^PW24^LL1^BY1,2^B2N,1,N^FD12^FS^XZ';
+  const printer = new Label({ whole: true });
+  const paper = await printer.print(stream);
+  assert.deepEqual([paper.fault, paper.images.map(it => [...it.rows])], [null, [[0xAD, 0x2B, 0x34]]]);
+  assert.deepEqual((await new PrinterWorker().print(printer, stream)).toPBM(), paper.toPBM());
+  const lines = async whole => (await list('^B2N,1^ZZ1^', 'label', { whole })).items.map(it => it.text);
+  assert.deepEqual([await lines(true), await lines(false)],
+    [['^B2N,1', '^ZZ skipped'], ['^B2 skipped', '^ZZ skipped']]);
 });
 
 test('a PNG and an SVG have the dots in their true size', async () => {

@@ -15,7 +15,7 @@ export async function printed(stream: Stream): Promise<[number, string]> {
 }
 
 export async function others(): Promise<void> {
-  for await (const it of new Label().images('^XA^XZ')) it.toRGBA();
+  for await (const it of new Label({ whole: true }).images('^XA^XZ')) it.toRGBA();
   const { readable } = new Label().through();
   readable.getReader();
   const printer = await new Label().start();

@@ -30,14 +30,15 @@ export interface Bounds {
 export interface LabelOptions extends Bounds {
   /** The shipped sheet where nothing is said. */
   fontA?: Sheet;
+  /** Whether the whole language is read: of ESC/POS all commands, and past what is none, which without it is a fault, F1;
+   * of ZPL II more commands, as of more symbols, which without it are skipped. */
+  whole?: boolean;
 }
 
 export interface ReceiptOptions extends LabelOptions {
   fontB?: Sheet;
   /** The paper's width in dots: 576 where nothing is said, 384 on paper of 58 mm. */
   width?: 576 | 384;
-  /** Whether all commands of ESC/POS are read, and past what is none: without it that is a fault, F1. */
-  whole?: boolean;
 }
 
 export interface PrintOptions {
@@ -186,7 +187,7 @@ export class PrinterWorker {
   end(): void;
 }
 
-/** A line for each command of a stream, and with offsets how many bytes come before its end; whole as of receipts. */
+/** A line for each command of a stream, and with offsets how many bytes come before its end; whole as of printers. */
 export function list(stream: Stream, language: 'receipt' | 'label',
   options?: { offsets?: boolean; whole?: boolean; mostBytes?: number | null; mostSeconds?: number | null },
 ): Promise<{ items: { text: string; place: number | null }[]; fault: Fault | null }>;

@@ -15,6 +15,8 @@ COUNT = int(os.environ.get('COUNT', '300'))
 LANGUAGES = {'receipt': vp.Receipt(), 'label': vp.Label()}
 # What is no command of the profile: a family that is read by its count, and what no printer has.
 UNKNOWN = b'A\x1c(A\x02\0\n\n\n\x1b\x7fB\n'
+# Symbols that the whole language of labels adds.
+ADDED = b'^XA^PW400^LL99^FO9,9^B2N,20^FD1234^FS^FO9,60^BUN,9,N^FD01234567890^FS^XZ'
 
 
 def random_streams(draw, language):
@@ -86,6 +88,8 @@ class AsTheProgram(unittest.TestCase):
             (vp.Receipt(whole=True), receipt, ['receipt', '--whole', *SHEETS['receipt']]),
             (vp.Receipt(whole=True), UNKNOWN, ['receipt', '--whole', *SHEETS['receipt']]),
             (vp.Receipt(width=384, whole=True), UNKNOWN, ['receipt', '--whole', '--width', '384', *SHEETS['receipt']]),
+            (vp.Label(whole=True), ADDED, ['label', '--whole', *SHEETS['label']]),
+            (vp.Label(), ADDED, ['label', *SHEETS['label']]),
             (vp.Receipt(font_a=data), receipt, ['receipt', '--font-a', font_a]),
             (vp.Receipt(font_b=font_b), receipt, ['receipt', '--font-b', font_b]),
             (vp.Receipt(font_a, font_b), receipt, ['receipt', *SHEETS['receipt']]),

@@ -38,8 +38,13 @@ class Faults(unittest.TestCase):
         self.assertEqual([it.width for it in vp.Receipt(width=384, whole=True).print(b'\x1b\x7f\x1bJ\x03')], [384])
         listing = vp.list(b'\x1b\x7fA', 'receipt', whole=True)
         self.assertEqual(([it.text for it in listing], listing.fault), (['esc 7f', 'char 41'], None))
-        label = b'^XA^ZZ1^XZ'
-        self.assertEqual(vp.list(label, 'label', whole=True).text(), vp.list(label, 'label').text())
+
+    def test_the_whole_language_of_labels_has_more_symbols(self):
+        label = b'^XA^PW24^LL1^BY1,2^B2N,1,N^FD12^FS^XZ'
+        self.assertEqual([it.rows for it in vp.Label(whole=True).print(label)], [b'\xad\x2b\x34'])
+        self.assertEqual([it.rows for it in vp.Label(None).print(label)], [bytes(3)])
+        told = [vp.list(b'^B2N,1,N^ZZ1^', 'label', whole=whole).text() for whole in (True, False)]
+        self.assertEqual(told, ['^B2N,1,N\n^ZZ skipped\n', '^B2 skipped\n^ZZ skipped\n'])
 
     def test_behind_a_fault_nothing_is_printed(self):
         with vp.Receipt().start() as printer:

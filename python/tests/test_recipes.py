@@ -18,6 +18,7 @@ DONE = [
     ['label'], ['label', '--font-a', A], ['list', '--lang', 'receipt'], ['list', '--lang=receipt', '--offsets'],
     ['list', '--offsets', '--lang', 'label'], ['receipt', '--font-a', A, '--font-b', __file__],
     ['receipt', '--whole', '--width', '384'], ['list', '--whole', '--lang', 'receipt'], ['list', '--lang=label', '--whole'],
+    ['label', '--whole', '--font-a', A],
 ]
 NOT_DONE = [
     [], ['join'], ['--version'], ['list'], ['list', '--lang', 'epl'], ['receipt', '--width', '80'], ['receipt', A],

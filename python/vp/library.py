@@ -10,7 +10,7 @@ from typing import Callable, NamedTuple, Optional, Tuple
 from .faults import BadSheet, Fault, NoLibrary, NoMemory
 
 # Languages, as the library numbers them.
-RECEIPT, RECEIPT_58, LABEL, WHOLE_RECEIPT, WHOLE_RECEIPT_58 = 0, 1, 2, 3, 4
+RECEIPT, RECEIPT_58, LABEL, WHOLE_RECEIPT, WHOLE_RECEIPT_58, WHOLE_LABEL = 0, 1, 2, 3, 4, 5
 # Answers of calls, and what a step has come to.
 OK, NO_MEMORY = 0, 1
 MORE, ROOM, STOPPED = 0, 1, 2

@@ -7,10 +7,11 @@ from typing import Iterator, List, NamedTuple, Optional, Sequence, Union, overlo
 from .bounds import HELD, Cutter, Reached
 from .faults import BadArgument, Fault, TooMuchPaper
 from .handle import Handle
-from .library import LABEL, RECEIPT, WHOLE_RECEIPT
+from .library import LABEL, RECEIPT, WHOLE_LABEL, WHOLE_RECEIPT
 from .printers import Stream, bytes_of
 
-LANGUAGES = {'receipt': RECEIPT, 'label': LABEL}
+# Languages by their names, of the profile and whole.
+LANGUAGES = {'receipt': (RECEIPT, WHOLE_RECEIPT), 'label': (LABEL, WHOLE_LABEL)}
 
 
 class Item(NamedTuple):
@@ -67,11 +68,11 @@ class Listing(Sequence[Item]):
 
 def list_stream(stream: Stream, lang: str, offsets: bool = False, most_bytes: Optional[int] = HELD.bytes,
                 whole: bool = False) -> Listing:
-    """Lists a stream, 'receipt' or 'label', as `vp list` does; `whole` is of receipts, as of Receipt."""
+    """Lists a stream, 'receipt' or 'label', as `vp list` does; `whole` reads the whole language, as of the printers."""
     if lang not in LANGUAGES:
         raise BadArgument(f'vp: a language is receipt or label, and not {lang}')
     lines, cutter = bytearray(), Cutter(HELD._replace(bytes=most_bytes), is_paper=False)
-    handle = Handle.listing(WHOLE_RECEIPT if whole and lang == 'receipt' else LANGUAGES[lang], offsets)
+    handle = Handle.listing(LANGUAGES[lang][bool(whole)], offsets)
 
     def put(part: memoryview) -> None:
         nonlocal lines

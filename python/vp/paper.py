@@ -10,7 +10,7 @@ from .images import Image
 
 
 class Source(NamedTuple):
-    """What was printed: 'receipt' or 'label', the stream, and whether the whole language of receipts was read."""
+    """What was printed: 'receipt' or 'label', the stream, and whether its whole language was read."""
 
     language: str
     stream: bytes

@@ -8,14 +8,15 @@ from .bounds import HELD, Bounds
 from .faults import BadArgument, Fault, TooMuchPaper
 from .handle import Handle
 from .images import Image
-from .library import LABEL, RECEIPT, RECEIPT_58, WHOLE_RECEIPT, WHOLE_RECEIPT_58, Held
+from .library import LABEL, RECEIPT, RECEIPT_58, WHOLE_LABEL, WHOLE_RECEIPT, WHOLE_RECEIPT_58, Held
 from .paper import Cutter, Paper, Source
 from .sheets import SHIPPED, Sheet, read
 
 Stream = Union[bytes, bytearray, memoryview]
 # Papers by their dots, of the profile and of the whole language.
 PAPERS = {576: (RECEIPT, WHOLE_RECEIPT), 384: (RECEIPT_58, WHOLE_RECEIPT_58)}
-WHOLE = WHOLE_RECEIPT, WHOLE_RECEIPT_58
+LABELS = LABEL, WHOLE_LABEL
+WHOLE = WHOLE_RECEIPT, WHOLE_RECEIPT_58, WHOLE_LABEL
 
 
 def bytes_of(stream: Stream) -> bytes:
@@ -54,7 +55,7 @@ class _Printers:
         handle, cutter, data = self._handle(), Cutter(self._bounds), bytes_of(stream)
         try:
             fed(handle, cutter, data, self._bounds.seconds)
-            language, whole = 'label' if self._language == LABEL else 'receipt', self._language in WHOLE
+            language, whole = 'label' if self._language in LABELS else 'receipt', self._language in WHOLE
             return cutter.paper(handle.finish(), Source(language, data, whole))
         finally:
             handle.close()
@@ -86,12 +87,13 @@ class Receipt(_Printers):
 
 
 class Label(_Printers):
-    """Printers of labels, ZPL II. All is as with receipts; every font is of font A's sheet."""
+    """Printers of labels, ZPL II. All is as with receipts; every font is of font A's sheet. `whole` reads more
+    commands, as of more symbols: else they are skipped."""
 
     def __init__(self, font_a: Sheet = SHIPPED, most_rows: Optional[int] = HELD.rows,
                  most_bytes: Optional[int] = HELD.bytes, most_images: Optional[int] = HELD.images,
-                 most_seconds: Optional[float] = HELD.seconds) -> None:
-        super().__init__(LABEL, (read(font_a, 'font_a'), (b'', 'font_b')),
+                 most_seconds: Optional[float] = HELD.seconds, whole: bool = False) -> None:
+        super().__init__(LABELS[bool(whole)], (read(font_a, 'font_a'), (b'', 'font_b')),
                          Bounds(most_rows, most_bytes, most_images, most_seconds))
 
 

@@ -16,7 +16,7 @@ HERE = os.path.dirname(os.path.dirname(os.path.realpath(__file__)))
 # The words behind each of vp's.
 OPTIONS = {'receipt': ('--font-a', '--font-b', '--width'), 'label': ('--font-a',), 'list': ('--lang',)}
 # Those that have no word behind them.
-FLAGS = {'receipt': ('--whole',), 'label': (), 'list': ('--offsets', '--whole')}
+FLAGS = {'receipt': ('--whole',), 'label': ('--whole',), 'list': ('--offsets', '--whole')}
 SHEETS = '--font-a', '--font-b'
 VALUES = {'--width': ('576', '384'), '--lang': ('receipt', 'label')}
 

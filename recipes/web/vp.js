@@ -3,9 +3,9 @@
 //
 // Each printer has a memory of its own, takes all that it needs when it is made, and goes when nothing names it.
 
-// Languages by their papers, as the library numbers them; and where all commands are read, which labels' always are.
+// Languages by their papers, as the library numbers them; and where the whole language is read.
 const LANGUAGES = { receipt: { 576: 0, 384: 1 }, label: { 576: 2 } };
-const WHOLE = { receipt: { 576: 3, 384: 4 }, label: { 576: 2 } };
+const WHOLE = { receipt: { 576: 3, 384: 4 }, label: { 576: 5 } };
 const [MORE, ROOM, STOPPED] = [0, 1, 2];
 // What goes in and out in one step, and where the answers of calls lie: the handle, a step's progress, a line of text.
 const PIECE = 1 << 16;
@@ -140,8 +140,8 @@ class Machine {
   }
 }
 
-// Prints 'receipt' or 'label', with the bytes of glyph sheets; a receipt on paper of 576 or 384 dots, by the profile or
-// by the whole language.
+// Prints 'receipt' or 'label', with the bytes of glyph sheets, by the profile or by the whole language; a receipt on
+// paper of 576 or 384 dots.
 export class Printer extends Machine {
   constructor(language, { fontA = new Uint8Array(0), fontB = new Uint8Array(0), width = 576, whole = false } = {}) {
     super([fontA, fontB], (calls, [a, lengthA, b, lengthB], made) =>

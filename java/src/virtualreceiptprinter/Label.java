@@ -8,6 +8,11 @@ public final class Label extends Printers {
     }
 
     public Label(byte[] fontA, long mostRows, long mostBytes) {
-        super(VpLibrary.LABEL, fontA, new byte[0], mostRows, mostBytes);
+        this(fontA, mostRows, mostBytes, false);
+    }
+
+    /** By the whole language more commands are read, as of more symbols: else they are skipped. */
+    public Label(byte[] fontA, long mostRows, long mostBytes, boolean whole) {
+        super(whole ? VpLibrary.WHOLE_LABEL : VpLibrary.LABEL, fontA, new byte[0], mostRows, mostBytes);
     }
 }

@@ -8,7 +8,7 @@ import java.nio.charset.StandardCharsets;
 /** The library's calls, as include/vp.h has them. Lengths are size_t, which has 64 bits on each system of this package. */
 interface VpLibrary extends Library {
     VpLibrary CALLS = Native.load("vp", VpLibrary.class);
-    int RECEIPT = 0, RECEIPT_58 = 1, LABEL = 2, WHOLE_RECEIPT = 3, WHOLE_RECEIPT_58 = 4;
+    int RECEIPT = 0, RECEIPT_58 = 1, LABEL = 2, WHOLE_RECEIPT = 3, WHOLE_RECEIPT_58 = 4, WHOLE_LABEL = 5;
     int OK = 0, NO_MEMORY = 1;
     int MORE = 0, ROOM = 1, STOPPED = 2;
     /** How long a text of the library is at most, with its 0. */

@@ -43,9 +43,10 @@ def printers(words: Tuple[str, ...], _: Any) -> Any:
     """Printers as words ask for them, with the sheets as they were seen."""
     package, found = package_of(list(words)), in_process.options(words[1:])
     font_a, none = found.get('--font-a'), {'most_rows': None, 'most_bytes': None}
+    whole = '--whole' in found
     if words[1] == 'label':
-        return package.Label(font_a, **none)
-    width, whole = int(found.get('--width', '576')), '--whole' in found
+        return package.Label(font_a, **none, whole=whole)
+    width = int(found.get('--width', '576'))
     return package.Receipt(font_a, found.get('--font-b'), width, **none, whole=whole)
 
 
