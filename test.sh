@@ -122,6 +122,7 @@ if [ -z "$quick" ]; then
     run ./checks/memory.sh
     run ./checks/symbols.py
     run ./checks/fonts.py
+    run ./checks/codes.py
     run ./checks/evidence.py out/gate.log
     run ./checks/trust.py out/gate.log
 fi

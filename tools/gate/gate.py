@@ -31,7 +31,7 @@ import subprocess
 import sys
 import tempfile
 import time
-from typing import Any, Dict, List, Tuple
+from typing import Any, Callable, Dict, List, Tuple
 
 PROGRAM, LIBRARY = "crates/program/vp_cli/out/vp_cli", "crates/program/vp_c"
 TOOLS = os.path.dirname(os.path.dirname(os.path.realpath(__file__)))
@@ -111,6 +111,14 @@ def tried_by_rounds(rt: Any, crate: Any, edits: List[Edit], flags: List[str], ke
 REFUSED, KEPT = "must-fail %s: refused, as it must be", " (kept)"
 
 
+class Untried(int):
+    """What an rt that adds up what edits come to is told of one that there was no time for: it adds nothing, and is no
+    failure."""
+
+    def __bool__(self) -> bool:
+        return True
+
+
 def must_fail_all(rt: Any, crate: Any, files: List[str], flags: List[str]) -> List[Result]:
     """Tries edits of a crate that is proved, behind its right bodies: by rounds, and by rt itself what no round
     refused. What isn't refused so either is tried once more from nothing, and so is what rt tried where the crate
@@ -141,9 +149,35 @@ def tried_anew(rt: Any, kept: record.Record, crate: Any, files: List[str], flags
     for file, (kind, said) in zip(files, done):
         word = said.removeprefix(label_of(crate, file))
         # (what is refused only for a name or by a limit is tried each time)
-        if kind == rt.REFUSED and word != said and not word.startswith(" ("):
+        if kind == getattr(rt, "REFUSED", True) and word != said and not word.startswith(" ("):
             kept.add(crate, file, word.removeprefix(": "))
     return done
+
+
+def kept_or_tried(
+    rt: Any, kept: record.Record, crate: Any, edits: List[str], try_new: Callable[[List[str]], List[Result]]
+) -> Tuple[Dict[str, Result], Dict[str, Result]]:
+    """Returns what is taken from the record of a crate's edits, and what the others come to."""
+    known = kept.taken(crate, edits)
+    refused = getattr(rt, "REFUSED", True)
+    taken = {it: (refused, f"{label_of(crate, it)}{KEPT}: {word}") for it, word in known.items()}
+    new = [it for it in edits if it not in known]
+    done = dict.fromkeys(new, LATE)
+    if is_late():
+        OF_RIGHT_BODIES[crate.name] = []
+    else:
+        done.update(zip(new, try_new(new)))
+    kept.late += [record.name_of(crate, it) for it in new if done[it] is LATE]
+    for file in kept.files:
+        kept.write(file)
+    return taken, done
+
+
+def all_edits(rt: Any, kept: record.Record, crate: Any, files: List[str], flags: List[str]) -> List[Result]:
+    """Tries a crate's edits, but for those that are taken from the record, for an rt that takes no tasks."""
+    taken, done = kept_or_tried(rt, kept, crate, files, lambda new: tried_anew(rt, kept, crate, new, flags))
+    said = {it: (Untried(), f"not tried: {record.name_of(crate, it)}") for it in done if done[it] is LATE}
+    return [{**taken, **done, **said}[it] for it in files]
 
 
 def add_edits(
@@ -160,18 +194,13 @@ def add_edits(
     def call(given: Any, jobs: int) -> Any:
         if not is_well(given):
             return False
-        known = kept.taken(crate, edits)
-        taken.update((it, (rt.REFUSED, f"{label_of(crate, it)}{KEPT}: {word}")) for it, word in known.items())
-        new = [it for it in edits if it not in known]
-        done = dict.fromkeys(new, LATE)
-        if is_late():
-            OF_RIGHT_BODIES[crate.name] = []
-        else:
+
+        def try_new(new: List[str]) -> List[Result]:
             is_well(given, len(new))
-            done.update(zip(new, tried_anew(rt, kept, crate, new, ["--jobs", str(jobs)])))
-        kept.late += [record.name_of(crate, it) for it in new if done[it] is LATE]
-        for file in kept.files:
-            kept.write(file)
+            return tried_anew(rt, kept, crate, new, ["--jobs", str(jobs)])
+
+        known, done = kept_or_tried(rt, kept, crate, edits, try_new)
+        taken.update(known)
         edits[:] = [it for it in edits if done.get(it) is not LATE]
         return [taken.get(it) or done[it] for it in edits]
 
@@ -211,6 +240,24 @@ def leave_what_is_made(room: str, listed: str) -> None:
         it.writelines(lines)
 
 
+def leave_others(room: str, names: List[str]) -> None:
+    """Takes out of a copy all crates but these and those below them, for an rt that takes no names."""
+    with open(f"{room}/crates.txt", encoding="utf-8") as it:
+        lines = {line.split(":")[0].split()[0]: line for line in it if ":" in line}
+    wanted: Dict[str, str] = {}
+    left = list(names)
+    while left:
+        name = left.pop()
+        if name in lines and name not in wanted:
+            wanted[name] = lines[name]
+            left += lines[name].split(":")[1].split()
+    for folder in glob.glob(f"{room}/crates/*"):
+        if os.path.basename(folder) not in wanted:
+            shutil.rmtree(folder)
+    with open(f"{room}/crates.txt", "w", encoding="utf-8") as it:
+        it.writelines(wanted.values())
+
+
 def sources(root: str) -> bytes:
     """Returns the sum of what the program is made from, as the repository stands."""
     told = ["sh", "-c", 'root=$1 && . "$2/dist/dist.sh" && sources', "sh", root, TOOLS]
@@ -244,7 +291,7 @@ def by_rounds(rt: Any, kept: record.Record) -> None:
         # (what the record tells may be of another machine)
         rt.say = lambda text, *to: say(text.replace(" on this machine", "") if "must-fail edits" in text else text, *to)
     elif not lacking[WITH_ALL]:
-        rt.must_fail_all = lambda *of: must_fail_all(rt, *of)
+        rt.must_fail_all = lambda *of: all_edits(rt, kept, *of)
     else:
         names = " or ".join(", ".join(it) for it in lacking.values())
         print(f"gate: this rt has no {names}: it tries each edit in a check of its own, which takes longer")
@@ -343,7 +390,11 @@ def main() -> int:
                 leave_what_is_made(f"{room}/all", it.read())
         else:
             kept.forget([os.path.basename(it) for it in glob.glob("crates/*")])
-        status = int(rt.main(["ci", *words.crates]))
+        takes_names = hasattr(rt, "add_edits")
+        if words.crates and not takes_names:
+            leave_others(f"{room}/all", words.crates)
+            print("This is not the gate: only named crates are proved, with those below them", flush=True)
+        status = int(rt.main(["ci", *words.crates * takes_names]))
         if words.make:
             print("gate: no edit was tried, and no test run: this is not the gate", flush=True)
         else:
