@@ -110,7 +110,8 @@ content_width sheets stored (contents.Picture p) = 8 * p.row_bytes
 content_width sheets stored (contents.Bars b) =
     bars_width sheets b.narrow b.wide b.height b.place (symbol_of b.code (bytes_of stored b.bytes))
 content_width sheets stored (contents.Qr q) = qr_side q.level q.mode (bytes_of stored q.bytes) q.module
-content_width sheets stored (contents.Matrix m) = matrix_width m.code m.escape (bytes_of stored m.bytes) m.wide
+content_width sheets stored (contents.Matrix m) =
+    matrix_width m.code m.escape (bytes_of stored m.bytes) m.wide
 content_width sheets stored (contents.Ring r) = r.width
 content_width sheets stored (contents.Diagonal d) = d.width
 
@@ -123,7 +124,8 @@ content_height sheets stored (contents.Picture p) = p.rows
 content_height sheets stored (contents.Bars b) =
     bars_height sheets b.narrow b.wide b.height b.place (symbol_of b.code (bytes_of stored b.bytes))
 content_height sheets stored (contents.Qr q) = qr_side q.level q.mode (bytes_of stored q.bytes) q.module
-content_height sheets stored (contents.Matrix m) = matrix_height m.code m.escape (bytes_of stored m.bytes) m.high
+content_height sheets stored (contents.Matrix m) =
+    matrix_height m.code m.escape (bytes_of stored m.bytes) m.high
 content_height sheets stored (contents.Ring r) = r.height
 content_height sheets stored (contents.Diagonal d) = d.height
 

@@ -75,8 +75,8 @@ pub struct QrSymbol {
     pub mask: u8,
 }
 
-/// A two-dimensional symbol (^BX, ^B7, ^BO): its data, the sign that begins an escape among them, if one does,
-/// and the width and the height of a module in dots, 1 to 64 and 1 to 1,000.
+/// A two-dimensional symbol (^BX, ^B7, ^BO): its data, the sign that begins an escape among them, if one
+/// does, and the width and the height of a module in dots, 1 to 64 and 1 to 1,000.
 #[derive(Clone, Copy, Debug, PartialEq, Eq)]
 pub struct MatrixSymbol {
     pub bytes: Span,

@@ -76,7 +76,8 @@ linear_bars (linear.Interleaved check) = bars.Interleaved (unwrap_or check false
 linear_bars linear.Ean8 = bars.Ean8 true
 linear_bars linear.UpcE = bars.UpcE MakerArticle
 linear_bars linear.Code93 = bars.Code93 Signs
-linear_bars (linear.Codabar start stop) = bars.Codabar (Around (unwrap_or start ends.A) (unwrap_or stop ends.A))
+linear_bars (linear.Codabar start stop) =
+    bars.Codabar (Around (unwrap_or start ends.A) (unwrap_or stop ends.A))
 linear_bars (linear.Msi checks) = bars.Msi (unwrap_or checks Mod10)
 linear_bars linear.AddOn = bars.AddOn true
 linear_bars linear.UpcA = bars.UpcA true

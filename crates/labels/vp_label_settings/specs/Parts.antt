@@ -44,14 +44,16 @@ abbrev pub font : List Item → Option FontChoice
 font [] = None
 font (item ∷ before) = acting font_by (is_open before) item (font before)
 
--- ^BX, ^B7, ^BO
-abbrev pub matrix_by : Command → Option SymbolChoice → Option SymbolChoice
-matrix_by (DataMatrix orientation side quality columns rows escape aspect) old =
+-- what the whole language adds
+abbrev pub added_by : Command → Option SymbolChoice → Option SymbolChoice
+added_by (Linear code orientation height text above) old =
+    Some (linear_choice code orientation height text above)
+added_by (DataMatrix orientation side quality columns rows escape aspect) old =
     Some (data_matrix_choice orientation side quality (shape_of columns rows aspect) escape)
-matrix_by (Pdf417 orientation height level columns rows truncated) old =
+added_by (Pdf417 orientation height level columns rows truncated) old =
     Some (pdf417_choice orientation height (pdf417_asked level columns rows truncated))
-matrix_by (Aztec orientation side control) old = Some (aztec_choice orientation side control)
-matrix_by _ old = old
+added_by (Aztec orientation side control) old = Some (aztec_choice orientation side control)
+added_by _ old = old
 
 -- ^B3, ^BE, ^BC, ^BQ, and what the whole language adds: the symbol that data are drawn as
 abbrev pub symbol_by : Command → Option SymbolChoice → Option SymbolChoice
@@ -61,12 +63,10 @@ symbol_by (Ean13 orientation height text above) old =
     Some (bar_choice (codes.Ean13 true) orientation height text above)
 symbol_by (Code128 orientation height text above mode) old =
     Some (code128_choice mode orientation height text above)
-symbol_by (Linear code orientation height text above) old =
-    Some (linear_choice code orientation height text above)
 symbol_by (QrCode model dots) old = Some (qr_choice model dots)
 symbol_by FieldSeparator old = None
 symbol_by FormatEnd old = None
-symbol_by command old = matrix_by command old
+symbol_by command old = added_by command old
 
 abbrev pub symbol : List Item → Option SymbolChoice
 symbol [] = None

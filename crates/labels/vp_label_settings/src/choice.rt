@@ -47,7 +47,10 @@ pub enum MatrixAsked {
         asked: Pdf417Asked,
     },
     /// ^BO: the dots of a module's side, 1 to 10.
-    Aztec { side: u16, asked: AztecAsked },
+    Aztec {
+        side: u16,
+        asked: AztecAsked,
+    },
 }
 
 /// A two-dimensional symbol; how it is turned is the settings' matter where it doesn't say it.
@@ -200,8 +203,8 @@ pub fn pdf417_asked(
     }
 }
 
-/// The layers of ^BO's error control: 101 to 104 ask for a compact symbol of 1 to 4, and 201 to 232 for a full
-/// one of 1 to 32.
+/// The layers of ^BO's error control: 101 to 104 ask for a compact symbol of 1 to 4, and 201 to 232 for a
+/// full one of 1 to 32.
 fn layers_of(control: u32) -> Layers
     ensures { result ≡ layers_of control }
 {

@@ -1,7 +1,7 @@
 //! The parts of the open field.
 ghost use Rattle.std.specs.Prelude.{◌≡◌, [], IfOk, MatchResult, None, Some, true};
 ghost use Rattle.vp_label_settings.specs.Settings.{coordinate};
-ghost use Rattle.vp_label_settings.specs.Parts.{origin_by, font_by, symbol_by, matrix_by, is_reversed_by, block_by, content_by, drawn_by, parts_of, parts_by};
+ghost use Rattle.vp_label_settings.specs.Parts.{origin_by, font_by, symbol_by, added_by, is_reversed_by, block_by, content_by, drawn_by, parts_of, parts_by};
 ghost use Rattle.vp_label_settings.specs.Refusals.{head_refusal};
 
 use crate::choice::{FieldBlock, FontChoice, SymbolChoice, pdf417_asked, shape_of};
@@ -163,6 +163,17 @@ fn symbol_after(symbol: Option<SymbolChoice>, command: Command) -> Option<Symbol
             above,
             mode,
         } => Some(SymbolChoice::code128(mode, orientation, height, text, above)),
+        Command::QrCode { model, module } => Some(SymbolChoice::qr(model, module)),
+        Command::FieldSeparator | Command::FormatEnd => None,
+        _ => added_after(symbol, command),
+    }
+}
+
+/// What the whole language adds.
+fn added_after(symbol: Option<SymbolChoice>, command: Command) -> Option<SymbolChoice>
+    ensures { result ≡ added_by command symbol }
+{
+    match command {
         Command::Linear {
             code,
             orientation,
@@ -170,17 +181,6 @@ fn symbol_after(symbol: Option<SymbolChoice>, command: Command) -> Option<Symbol
             text,
             above,
         } => Some(SymbolChoice::linear(code, orientation, height, text, above)),
-        Command::QrCode { model, module } => Some(SymbolChoice::qr(model, module)),
-        Command::FieldSeparator | Command::FormatEnd => None,
-        _ => matrix_after(symbol, command),
-    }
-}
-
-/// ^BX, ^B7, ^BO.
-fn matrix_after(symbol: Option<SymbolChoice>, command: Command) -> Option<SymbolChoice>
-    ensures { result ≡ matrix_by command symbol }
-{
-    match command {
         Command::DataMatrix {
             orientation,
             module,

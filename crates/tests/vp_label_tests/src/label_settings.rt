@@ -186,7 +186,11 @@ static SYMBOLS: [Asked; 16] = [
         BarCode::Interleaved { check: true },
         HriPosition::Above,
     ),
-    (b"^XA^B8^", BarCode::Ean8 { padded: true }, HriPosition::Below),
+    (
+        b"^XA^B8^",
+        BarCode::Ean8 { padded: true },
+        HriPosition::Below,
+    ),
     (b"^XA^B9,,N^", UPC_E, HriPosition::None),
     (b"^XA^BA,,Y,Y^", CODE_93, HriPosition::Above),
     (
@@ -205,7 +209,11 @@ static SYMBOLS: [Asked; 16] = [
     (b"^XA^BS^", ADD_ON, HriPosition::Above),
     (b"^XA^BS,,,N^", ADD_ON, HriPosition::Below),
     (b"^XA^BS,,N,Y^", ADD_ON, HriPosition::None),
-    (b"^XA^BU^", BarCode::UpcA { padded: true }, HriPosition::Below),
+    (
+        b"^XA^BU^",
+        BarCode::UpcA { padded: true },
+        HriPosition::Below,
+    ),
 ];
 
 /// The linear symbols of the whole language, and what stands where nothing is said.

@@ -189,12 +189,7 @@ static SHAPE_LABELS: &[Label] = &[
         prints: &[Printed {
             width: 8,
             height: 5,
-            rows: &[
-                (1, 0, b""),
-                (1, 1, b"###"),
-                (1, 1, b"#.#"),
-                (1, 1, b"###"),
-            ],
+            rows: &[(1, 0, b""), (1, 1, b"###"), (1, 1, b"#.#"), (1, 1, b"###")],
             copies: 1,
         }],
         fault: None,
@@ -205,11 +200,7 @@ static SHAPE_LABELS: &[Label] = &[
         prints: &[Printed {
             width: 8,
             height: 3,
-            rows: &[
-                (1, 0, b".###"),
-                (1, 0, b"#####"),
-                (1, 0, b".###"),
-            ],
+            rows: &[(1, 0, b".###"), (1, 0, b"#####"), (1, 0, b".###")],
             copies: 1,
         }],
         fault: None,
@@ -220,11 +211,7 @@ static SHAPE_LABELS: &[Label] = &[
         prints: &[Printed {
             width: 8,
             height: 3,
-            rows: &[
-                (1, 0, b"..##"),
-                (1, 0, b".##"),
-                (1, 0, b"##"),
-            ],
+            rows: &[(1, 0, b"..##"), (1, 0, b".##"), (1, 0, b"##")],
             copies: 1,
         }],
         fault: None,
@@ -235,11 +222,7 @@ static SHAPE_LABELS: &[Label] = &[
         prints: &[Printed {
             width: 8,
             height: 3,
-            rows: &[
-                (1, 0, b".##"),
-                (1, 0, b"..##"),
-                (1, 0, b"...##"),
-            ],
+            rows: &[(1, 0, b".##"), (1, 0, b"..##"), (1, 0, b"...##")],
             copies: 1,
         }],
         fault: None,
@@ -250,11 +233,7 @@ static SHAPE_LABELS: &[Label] = &[
         prints: &[Printed {
             width: 8,
             height: 3,
-            rows: &[
-                (1, 0, b""),
-                (1, 0, b".#"),
-                (1, 0, b""),
-            ],
+            rows: &[(1, 0, b""), (1, 0, b".#"), (1, 0, b"")],
             copies: 1,
         }],
         fault: None,
