@@ -9,8 +9,8 @@
 //! - `A`, Aztec: the percentage of check codewords, 0 where it is left open, and the number of layers, after 1 for
 //!   a compact and 2 for a full symbol, and 0 for any; a dot a module
 //! - `R`, a rune: its number; a dot a module
-//! - `M`, MaxiCode: the digit of the mode, and which of how many symbols it is, 0 for one alone; the data of modes
-//!   2 and 3 as label printers are given them; a dot a module
+//! - `M`, MaxiCode: the digit of the mode, and which of how many symbols it is, 0 for one alone; the data of
+//!   modes 2 and 3 as label printers are given them; a dot a module
 //! - `m`, the same in dots
 //! - `L`, a linear symbol: a letter of its kind (`bars`), and the dots of a narrow and of a wide element; one
 //!   row of its bars
