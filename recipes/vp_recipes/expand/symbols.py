@@ -36,7 +36,7 @@ class Drawing(NamedTuple):
 
 
 # At 8 dots a millimetre: how far MaxiCode's hexagons lie apart, and the radii of the rings in its middle.
-ACROSS, DOWN, RINGS = 7.04, 6.1, (2.04, 4.72, 7.44, 10.12, 12.8, 15.48)
+ACROSS, DOWN, RINGS = 7.04, 6.1, (4.08, 9.44, 14.88, 20.24, 25.6, 30.96)
 # What is drawn at most, in dots.
 MOST = 16 << 20
 
