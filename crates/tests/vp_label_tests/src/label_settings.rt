@@ -156,12 +156,19 @@ const BOTH: BarCode = BarCode::Msi {
     checks: MsiChecks::Mod11Mod10,
 };
 
-/// Codabar between a start and a stop.
-const fn codabar(start: CodabarEnd, stop: CodabarEnd) -> BarCode {
-    BarCode::Codabar {
-        ends: CodabarEnds::Around { start, stop },
-    }
-}
+const CODABAR_A_A: BarCode = BarCode::Codabar {
+    ends: CodabarEnds::Around {
+        start: CodabarEnd::A,
+        stop: CodabarEnd::A,
+    },
+};
+
+const CODABAR_B_C: BarCode = BarCode::Codabar {
+    ends: CodabarEnds::Around {
+        start: CodabarEnd::B,
+        stop: CodabarEnd::C,
+    },
+};
 
 const UPC_E: BarCode = BarCode::UpcE {
     data: UpcEData::MakerArticle,
@@ -193,16 +200,8 @@ static SYMBOLS: [Asked; 16] = [
     ),
     (b"^XA^B9,,N^", UPC_E, HriPosition::None),
     (b"^XA^BA,,Y,Y^", CODE_93, HriPosition::Above),
-    (
-        b"^XA^BK,,,N^",
-        codabar(CodabarEnd::A, CodabarEnd::A),
-        HriPosition::None,
-    ),
-    (
-        b"^XA^BKN,N,9,,,b,*^",
-        codabar(CodabarEnd::B, CodabarEnd::C),
-        HriPosition::Below,
-    ),
+    (b"^XA^BK,,,N^", CODABAR_A_A, HriPosition::None),
+    (b"^XA^BKN,N,9,,,b,*^", CODABAR_B_C, HriPosition::Below),
     (b"^XA^BM^", MOD_10, HriPosition::Below),
     (b"^XA^BMN,A^", NO_CHECK, HriPosition::Below),
     (b"^XA^BMN,d,,Y,Y^", BOTH, HriPosition::Above),
