@@ -210,7 +210,7 @@ static void requests_are_told(void) {
            "a request of none");
     expect(vp_last_request(&none, &request) == VP_NO_PRINTER && request.end == 0, "the last request of none");
     vp_free_requests(&none);
-    expect(vp_new_requests(5, &none) == VP_NO_LANGUAGE && none.requests == NULL, "requests of no language");
+    expect(vp_new_requests(6, &none) == VP_NO_LANGUAGE && none.requests == NULL, "requests of no language");
     for (size_t size = 1; size < 9; size++) {
         asked(VP_RECEIPT, "a\x1d(H\4\0" "00ab\x1brx\x1dI" "C", 16, size, "GS ( H 1 10 00ab;GS I 13 16 C;");
         asked(VP_RECEIPT, "A\20\4\1\35v0\0\1\0\4\0\20\4\2\0\35r\1", 19, size,

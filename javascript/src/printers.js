@@ -70,7 +70,7 @@ export class Receipt extends Printers {
 
 /** Printers of labels, ZPL II, by the profile or by the whole language; every font is of font A's sheet. */
 export class Label extends Printers {
-  constructor(options = {}) { super('label', options, ['whole', 'fontA', ...BOUNDS]); }
+  constructor(options = {}) { super('label', options, ['fontA', 'whole', ...BOUNDS]); }
 }
 
 // One stream on its way through a machine.

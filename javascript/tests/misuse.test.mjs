@@ -142,7 +142,7 @@ test('options', async () => {
   refuses(() => new Receipt({ width: 500 }), 'argument', 'paper is 576 or 384 dots wide, and not 500');
   refuses(() => new Receipt({ width: '384' }), 'argument', 'paper is 576 or 384 dots wide, and not "384"');
   refuses(() => new Label({ width: 576 }), 'argument',
-    'a label has no option width: it has whole, fontA, mostRows, mostBytes, mostImages, mostSeconds');
+    'a label has no option width: it has fontA, whole, mostRows, mostBytes, mostImages, mostSeconds');
   refuses(() => new Label('receipt'), 'argument',
     'the options of a label are an object, as { fontA: .. }, and not "receipt"');
   refuses(() => new Printer(), 'argument',

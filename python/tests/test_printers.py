@@ -41,8 +41,8 @@ class Faults(unittest.TestCase):
 
     def test_the_whole_language_of_labels_has_more_symbols(self):
         label = b'^XA^PW24^LL1^BY1,2^B2N,1,N^FD12^FS^XZ'
-        self.assertEqual([it.rows for it in vp.Label(whole=True).print(label)], [b'\xad\x2b\x34'])
-        self.assertEqual([it.rows for it in vp.Label(None).print(label)], [bytes(3)])
+        self.assertEqual([it.rows for it in vp.Label(whole=True).print(label)], [[b'\xad\x2b\x34']])
+        self.assertEqual([it.rows for it in vp.Label(None).print(label)], [[bytes(3)]])
         told = [vp.list(b'^B2N,1,N^ZZ1^', 'label', whole=whole).text() for whole in (True, False)]
         self.assertEqual(told, ['^B2N,1,N\n^ZZ skipped\n', '^B2 skipped\n^ZZ skipped\n'])
 
@@ -74,7 +74,7 @@ class Faults(unittest.TestCase):
             self.assertEqual((printer.held.fields, printer.held.stored), (1, 3))
 
     def test_memory_stays(self):
-        for setup, without_sheets in (vp.Receipt(), 279552), (vp.Label(), 1254176):
+        for setup, without_sheets in (vp.Receipt(), 279552), (vp.Label(), 1327904):
             with setup.start() as printer:
                 memory = printer.memory
                 self.assertGreater(memory, without_sheets)

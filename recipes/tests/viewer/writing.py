@@ -100,8 +100,8 @@ def test_words(browser):
 
 
 def test_docs(_):
-    """The ranges that help says are those of the documents."""
-    rows, page = {}, (ROOT / 'docs/zpl.md').read_text(encoding='utf-8')
+    """The ranges that help says are those of the documents, of the profile's commands."""
+    rows, page = {}, (ROOT / 'docs/zpl.md').read_text(encoding='utf-8').partition('\n## The whole language\n')[0]
     assert 'd is 1 to 1,024' in page
     for line in page.splitlines():
         found = [it.strip() for it in line.split('|')]
