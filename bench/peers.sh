@@ -1,7 +1,7 @@
 #!/bin/sh
 # How long we take beside what Debian has for the same work: bench/peers.sh [VP], with the program that ./vp runs and the
-# library beside it. QR symbols beside qrencode and libqrencode, bars beside zint, libzint and barcode, PDF417 symbols, which
-# no printer draws, beside libzint, and images that are joined beside netpbm's pnmcat. Ours and theirs are timed by turns, and
+# library beside it. QR symbols beside qrencode and libqrencode, bars beside zint, libzint and barcode, symbols of
+# two dimensions beside libzint, and images that are joined beside netpbm's pnmcat. Ours and theirs are timed by turns, and
 # the least of seven counts. What isn't installed is said. The times are those of the machine it runs on; the ratios are what
 # to look at. Where valgrind is, the instructions of libraries are counted too, which don't hang on the machine's load.
 set -eu
@@ -91,7 +91,7 @@ inside() {
             END { printf "    %d instructions each, %d: %.2f times as few\n", ours, theirs, theirs / ours }'
 }
 
-# symbols NAME ASKED PEER WORDS: the instructions of 200 symbols that no printer draws, by vp_draw_symbols and by libzint
+# symbols NAME ASKED PEER WORDS: the instructions of 200 symbols, by vp_draw_symbols and by libzint
 symbols() {
     command -v valgrind > /dev/null || return 0
     asked() { valgrind --tool=callgrind --callgrind-out-file=/dev/null ./drawn 2>&1 < "$1" > out | sed -n 's/^==[0-9]*== Collected : //p'; }

@@ -3,7 +3,7 @@
 symbols of all sizes and leads, and as many as PDF417 symbols of all levels and shapes, as Aztec symbols of all
 layers and, in dots, as MaxiCode symbols of all modes, and has ZXingReader, and of Data Matrix dmtxread too, read
 them back. Each rune has the modules that zint draws, and so have as many MaxiCode symbols of one code set. As many
-are drawn of each linear code that no printer draws with: ZXingReader and zbarimg read those that they know, and
+are drawn of each linear code of the whole languages: ZXingReader and zbarimg read those that they know, and
 each has the modules that zint draws. PROGRAM is vp_draw_symbols as the gate builds it."""
 import os
 import random
