@@ -142,6 +142,31 @@ measure '1,020 turned Code 128 symbols of 238 bytes' '^PW1248' 1020 "^BY1^BCR,12
 measure '1,000 Code 128 symbols of 8,000 rows' '^PW1248' 1000 "^BY1^BCN,8000,N^FD>:$(repeated 234 A)^FS"
 measure '1,024 QR symbols of 250 bytes' '^PW1248' 1024 "^BQN,2,10^FDLA,$(repeated 250 a)^FS"
 
+# copies of a label of one dot, which is painted once
+single='^PW1^LL1^PQ100'
+all_cells="^A0R,1500,1^FB1,9999,-9999^FD$(repeated 262000 A)^FS"
+measure '100 copies of a dot of a turned block of 262,000 cells' "$single" 1 "$all_cells"
+measure 'the same, from below' "$single" 1 "^FT0,0^A0R,1,1^FB1,9999,0^FD$(repeated 262000 A)^FS"
+measure 'the same of 131,000 lines' "$single" 1 "^A0R,1500,1^FB3,9999,-9999^FD$(repeated 131000 'A ')^FS"
+measure '2,000 copies of a dot of a picture of 262,000 rows, turned' '^PW1^LL1^PQ2000^POI' 1 \
+    "^FT0,1^GFA,,99999999,1,F0$(repeated 262000 :)^FS"
+
+# begun NAME HEAD FIELD: the first million bytes of a hundred million copies
+begun() {
+    { printf '^XA%s^PQ99999999' "$2"; repeated 1 "$3"; printf '^XZ'; } > "$scratch/format"
+    start=$(date +%s%N)
+    timeout "$limit" "$vp" label --font-a "$font" "$scratch/format" 2> "$scratch/said" \
+        | head -c 1000000 > "$scratch/paper"
+    end=$(date +%s%N)
+    if [ "$(wc -c < "$scratch/paper")" = 1000000 ]; then
+        echo "$1: $(((end - start) / 1000000)) ms for 1,000,000 bytes"
+    else
+        echo "$1: more than $limit s"
+    fi
+}
+begun '99,999,999 copies of a dot of a turned block of 262,000 cells' '^PW1^LL1' "$all_cells"
+begun 'the same of 32 rows' '^PW1^LL32' "$all_cells"
+
 # page NAME KIND: a million bytes of a receipt that prints nothing
 page() {
     "$top/bench/receipts.py" "$2" 1000000 > "$scratch/format"

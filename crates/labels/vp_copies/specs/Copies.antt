@@ -1,5 +1,5 @@
 -- The copies of an image, and what is left of them.
-use Rattle.std.specs.Prelude.{ℕ, zero, suc, ◌+◌, ◌-◌, ◌*◌, ◌/◌, ◌%◌, min, ◌==◌, nat_lt, ◌||◌, List, [], ◌++◌, length, drop, if◌then◌else◌, Option, Some, None}
+use Rattle.std.specs.Prelude.{ℕ, zero, suc, ◌+◌, ◌-◌, ◌*◌, ◌/◌, min, nat_lt, List, [], ◌++◌, length, drop, if◌then◌else◌, Option, Some, None}
 use Rattle.vp_dots.specs.Headers.{header_of}
 use Rattle.vp_dots.specs.Images.{Image, row_bytes, image_row, pbm}
 use Rattle.vp_output.specs.declared.place.Line.{Line}
@@ -55,14 +55,22 @@ advanced width height n p =
     place_after p.copies
     (advanced_in height (line_bytes width height p.line) n (record { line = p.line; byte = p.byte }))
 
--- before a line's first byte: the header begins a copy, and every 32nd row a band
-abbrev pub ahead_of : Line → Ahead
-ahead_of Head = Copy
-ahead_of (Row y) = if y % BAND_ROWS == 0 then Band (y / BAND_ROWS) else Nothing
+-- what has to be ready before a byte of a line is put out, where so many bands were painted: a row wants its
+-- band where it isn't painted, and a copy begins anew behind one of more than one band. A single band still
+-- stands as it was painted, for all copies
+abbrev pub ahead : ℕ → Line → Ahead
+ahead painted Head = if nat_lt 1 painted then Copy else Nothing
+ahead painted (Row y) = if nat_lt (y / BAND_ROWS) painted then Nothing else Band (y / BAND_ROWS)
 
--- what has to be ready before the next byte is put out
-abbrev pub ahead : Place → Ahead
-ahead p = if p.copies == 0 || nat_lt 0 p.byte then Nothing else ahead_of p.line
+-- how many bands of the copy of a line were painted, where so many of it or of the one before were
+abbrev pub painted_of : ℕ → Line → ℕ
+painted_of painted Head = if nat_lt 1 painted then 0 else painted
+painted_of painted (Row y) = painted
+
+-- and how many are once what has to be ready is
+abbrev pub painted_for : ℕ → Line → ℕ
+painted_for painted Head = painted_of painted Head
+painted_for painted (Row y) = y / BAND_ROWS + 1
 
 -- how many rows of an image `height` rows high are in the band of a line, none for the header
 abbrev pub band_rows : ℕ → Line → ℕ

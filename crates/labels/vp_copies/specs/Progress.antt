@@ -4,17 +4,17 @@ use Rattle.vp_dots.specs.Dots.{dot}
 use Rattle.vp_dots.specs.Images.{Image, row_bytes}
 use Rattle.vp_output.specs.declared.place.Line.{Line}
 use Rattle.vp_output.specs.declared.place.Line.TheVariants.{Head, Row}
-use Rattle.vp_copies.specs.declared.place.Ahead.{Ahead}
-use Rattle.vp_copies.specs.declared.place.Ahead.TheVariants.{Nothing, Copy, Band}
 use Rattle.vp_label_size.specs.declared.TheConstants.{BAND_ROWS}
 use Rattle.vp_output.specs.Lines.{IsLineOf}
-use Rattle.vp_copies.specs.Copies.{ahead, line_bytes, Place}
+use Rattle.vp_copies.specs.Copies.{line_bytes, Place}
 
--- how wide and high the image is of which copies are put out, and where the next byte is
+-- how wide and high the image is of which copies are put out, where the next byte is, and how many bands were
+-- painted of its copy, or of the one before
 pub record Progress : Type 0 where
   pub width : ℕ
   pub height : ℕ
   pub place : Place
+  pub painted : ℕ
 
 -- that image, with these dots
 abbrev pub image_of : Progress → (ℕ → ℕ → Bool) → Image
@@ -39,14 +39,15 @@ abbrev pub IsPainted : Image → Line → List (List ℕ) → Type 0
 IsPainted i Head band = Unit {0}
 IsPainted i (Row y) band = HasRows i (BAND_ROWS * (y / BAND_ROWS)) band
 
--- it is painted, or wanted next
-abbrev pub IsReadyFor : Ahead → Image → Line → List (List ℕ) → Type 0
-IsReadyFor (Band b) i line band = Unit {0}
-IsReadyFor Copy i line band = IsPainted i line band
-IsReadyFor Nothing i line band = IsPainted i line band
+-- the last of so many bands that were painted stands
+abbrev pub StandsPainted : Image → ℕ → List (List ℕ) → Type 0
+StandsPainted i painted band = (b : ℕ) → painted ≡ b + 1 → HasRows i (BAND_ROWS * b) band
 
-abbrev pub IsReady : Image → Place → List (List ℕ) → Type 0
-IsReady i p band = IsReadyFor (ahead p) i p.line band
+-- no more bands were painted than there are, and at a row those before its own, which may be too
+pub record HasPainted (p : Progress) : Type 0 where
+  pub few : BAND_ROWS * p.painted < p.height + BAND_ROWS
+  pub before : (y : ℕ) → p.place.line ≡ Row y → y / BAND_ROWS ≤ p.painted
+  pub own : (y : ℕ) → p.place.line ≡ Row y → p.painted ≤ y / BAND_ROWS + 1
 
 -- rows are put out, and the next one is of the same band, and not its first
 pub record IsRowsOn (old new : Progress) : Type 0 where
@@ -54,7 +55,10 @@ pub record IsRowsOn (old new : Progress) : Type 0 where
   pub rows : ℕ
   pub from : old.place.line ≡ Row row
   pub value : new
-      ≡ record old { place = record { copies = old.place.copies; line = Row (row + rows); byte = 0 } }
+      ≡ record old {
+        place = record { copies = old.place.copies; line = Row (row + rows); byte = 0 };
+        painted = row / BAND_ROWS + 1;
+      }
   pub same_band : (row + rows) / BAND_ROWS ≡ row / BAND_ROWS
   pub inside : 0 < (row + rows) % BAND_ROWS
 

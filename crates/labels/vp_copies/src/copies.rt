@@ -1,13 +1,13 @@
 //! Copies that are being put out, as far as there is room.
 ghost use Rattle.std.specs.Prelude.{◌≡◌, ℕ, ◌+◌, ◌-◌, ◌*◌, ◌%◌, ◌<◌, ◌≤◌, ◌++◌, ◌↔◌, Bool, List, min, take, drop, length, IsTrue};
 ghost use Rattle.vp_dots.specs.Images.{Image, row_bytes};
-ghost use Rattle.vp_copies.specs.Copies.{advanced, ahead, band_rows, copies_text, line_bytes, lines_of, pending};
+ghost use Rattle.vp_copies.specs.Copies.{advanced, ahead, band_rows, copies_text, line_bytes, lines_of, painted_for, pending};
 ghost use Rattle.vp_output.specs.Lines.{line_text};
-ghost use Rattle.vp_copies.specs.Progress.{image_of, IsPainted, IsPlaceOf, IsReady, IsRowsOn, rows_at_once};
+ghost use Rattle.vp_copies.specs.Progress.{image_of, HasPainted, IsPainted, IsPlaceOf, IsRowsOn, StandsPainted, rows_at_once};
 ghost use Rattle.vp_output.specs.declared.place.Line.TheVariants.{Head, Row};
 ghost use Rattle.vp_label_size.specs.declared.TheConstants.{WIDEST, BAND_ROWS};
 
-use crate::place::{Ahead, behind, wanted};
+use crate::place::{Ahead, behind, painted_then, wanted};
 use crate::rows::{bytes_of_row, copy_rows, row_of_band};
 use arrayvec::ArrayVec;
 use std::marker::Model;
@@ -15,8 +15,8 @@ use vp_dots::{Small, header};
 use vp_label_size::{BAND_ROWS, LabelBand};
 use vp_output::{Line, Place, put_part};
 
-/// Copies of an image that are being put out. Clauses see how wide and high it is, and the place of the next
-/// byte.
+/// Copies of an image that are being put out. Clauses see how wide and high it is, the place of the next byte,
+/// and how many bands were painted of its copy, or of the one before.
 #[derive(Drop)]
 pub struct Copies {
     width: u16,
@@ -26,6 +26,8 @@ pub struct Copies {
     copies: u32,
     /// In the first of them.
     place: Place,
+    /// How many bands were painted, the last of which stands.
+    painted: usize,
 }
 
 impl Model for Copies {
@@ -63,12 +65,14 @@ impl Copies {
               width = width;
               height = height;
               place = record { copies = copies; line = Head; byte = 0 };
+              painted = 0;
             } }
         ensures text { (dots : ℕ → ℕ → Bool) →
             pending (image_of result dots) result.place ≡ copies_text (image_of result dots) copies }
         ensures ready { (dots : ℕ → ℕ → Bool) (band : List (List ℕ)) →
-            IsReady (image_of result dots) result.place band }
+            StandsPainted (image_of result dots) result.painted band }
         ensures place { IsPlaceOf result.width result.height result.place }
+        ensures painted { HasPainted result }
     {
         Copies {
             width,
@@ -76,6 +80,7 @@ impl Copies {
             head: header(u32::from(width), u32::from(height)),
             copies,
             place: Place::start(),
+            painted: 0,
         }
     }
 
@@ -90,9 +95,9 @@ impl Copies {
 
     /// What has to be ready before the next byte is put out.
     pub fn ahead(&self) -> Ahead
-        ensures { result ≡ ahead self.now.place }
+        ensures { result ≡ ahead self.now.painted self.now.place.line }
     {
-        wanted(self.copies, self.place)
+        wanted(self.painted, self.place.line)
     }
 
     /// How many rows of the image are in the band of the next byte: none for the header's.
@@ -131,7 +136,10 @@ impl Copies {
             (length out.old) }
         ensures some { 0 < length out.old → 0 < result }
         ensures value { self.new ≡
-            record self.old { place = advanced self.old.width self.old.height result self.old.place } }
+            record self.old {
+              place = advanced self.old.width self.old.height result self.old.place;
+              painted = painted_for self.old.painted self.old.place.line;
+            } }
         ensures within { (dots : ℕ → ℕ → Bool) →
             result ≤ length (pending (image_of self.old dots) self.old.place) }
         ensures bytes { (dots : ℕ → ℕ → Bool) →
@@ -140,12 +148,15 @@ impl Copies {
         ensures rest { (dots : ℕ → ℕ → Bool) → pending (image_of self.new dots) self.new.place
             ≡ drop result (pending (image_of self.old dots) self.old.place) }
         ensures ready { (dots : ℕ → ℕ → Bool) →
-            IsPainted (image_of self.old dots) self.old.place.line band.now →
-            IsReady (image_of self.new dots) self.new.place band.now }
+            StandsPainted (image_of self.old dots) (painted_for self.old.painted self.old.place.line)
+            band.now →
+            StandsPainted (image_of self.new dots) self.new.painted band.now }
         ensures place { IsPlaceOf self.new.width self.new.height self.new.place }
+        ensures painted { HasPainted self.new }
     {
         let line = self.line(band);
         let output = put_part(self.place, line, u32::from(self.height), out);
+        self.painted = painted_then(self.painted, self.place.line);
         (self.copies, self.place) = behind(self.copies, output.next);
         output.count
     }
@@ -168,6 +179,7 @@ impl Copies {
         ensures rest { (dots : ℕ → ℕ → Bool) → pending (image_of self.new dots) self.new.place
             ≡ drop result (pending (image_of self.old dots) self.old.place) }
         ensures place { IsPlaceOf self.new.width self.new.height self.new.place }
+        ensures painted { HasPainted self.new }
     {
         let Line::Row(y) = self.place.line else {
             return 0;
@@ -182,6 +194,7 @@ impl Copies {
             line: Line::Row(y + rows as u32),
             byte: 0,
         };
+        self.painted = y as usize / BAND_ROWS + 1;
         rows * bytes
     }
 }

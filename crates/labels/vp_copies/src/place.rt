@@ -1,6 +1,6 @@
 //! What has to be ready for the next byte, and where it is behind bytes of a copy.
 ghost use Rattle.std.specs.Prelude.{◌≡◌, ◌<◌};
-ghost use Rattle.vp_copies.specs.Copies.{ahead, at, place_after};
+ghost use Rattle.vp_copies.specs.Copies.{ahead, at, painted_for, place_after};
 
 use vp_label_size::BAND_ROWS;
 use vp_output::{Line, Place};
@@ -10,29 +10,42 @@ use vp_output::{Line, Place};
 pub enum Ahead {
     /// Nothing that isn't.
     Nothing,
-    /// A copy, which begins.
+    /// A copy, which begins behind one of more than one band.
     Copy,
     /// The band that begins, by its number from 0.
     Band(usize),
 }
 
-/// What has to be ready before the next byte of `copies` copies is put out.
-pub fn wanted(copies: u32, place: Place) -> Ahead
-    ensures { result ≡ ahead (at copies place) }
+/// What has to be ready before a byte of a line is put out, where `painted` bands were painted.
+pub fn wanted(painted: usize, line: Line) -> Ahead
+    ensures { result ≡ ahead painted line }
 {
-    if copies == 0 || place.byte > 0 {
-        return Ahead::Nothing;
-    }
-    match place.line {
-        Line::Head => Ahead::Copy,
-        Line::Row(y) => {
-            let y = y as usize;
-            if y % BAND_ROWS == 0 {
-                Ahead::Band(y / BAND_ROWS)
+    match line {
+        Line::Head => {
+            if painted > 1 {
+                Ahead::Copy
             } else {
                 Ahead::Nothing
             }
         }
+        Line::Row(y) => {
+            let band = y as usize / BAND_ROWS;
+            if painted > band {
+                Ahead::Nothing
+            } else {
+                Ahead::Band(band)
+            }
+        }
+    }
+}
+
+/// How many bands of the line's copy are painted once that is ready.
+pub fn painted_then(painted: usize, line: Line) -> usize
+    ensures { result ≡ painted_for painted line }
+{
+    match line {
+        Line::Head => { if painted > 1 { 0 } else { painted } }
+        Line::Row(y) => y as usize / BAND_ROWS + 1,
     }
 }
 

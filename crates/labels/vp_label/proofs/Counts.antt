@@ -1,4 +1,3 @@
-use Rattle.vp_label.proofs.Presses.{at}
 -- What is held, by the bytes that are pending.
 use Rattle.std.proofs.Common.{◌≡◌, ◌<◌, ◌≤◌, ◌+◌, ◌-◌, ◌*◌, ◌%◌, ℕ, false, List, [], ◌∷◌, length, refl, arith, length-drop}
 use Rattle.std.proofs.lemmas.Bool.{lt-ltb, le-ltb}

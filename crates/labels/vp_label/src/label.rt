@@ -234,6 +234,8 @@ impl<A: Small> Label<A> {
         ensures work { 0 < length self.old.pending → self.new.press.painter.work ≤ painting self.old }
         ensures shown { 0 < result → AreCopies self.old self.new.pending →
             shown self.old ≤ self.new.press.painter.work }
+        ensures stood { bands self.old ≡ 1 → self.old.press.copies.painted ≡ 1 →
+            (self.new.press.painter ≡ self.old.press.painter) × (self.new.press.copies.painted ≡ 1) }
         ensures idle { result ≡ 0 → self.new.press ≡ self.old.press }
     {
         if !self.press.copies.is_pending() {
@@ -308,16 +310,17 @@ impl<A: Small> Label<A> {
         self.gathered.format.len() as u16
     }
 
-    /// How often an entry of the table of fields or a link was read for the copy that is put out.
+    /// How often an entry of the table of fields or a link was read for the copy that is put out, or for the
+    /// first of a label of one band, which stands for the others.
     pub fn visits(&self) -> u64
         ensures { result ≡ looks_since self.now.press.painter % 2 ^ 64 }
     {
         self.press.painter.looks()
     }
 
-    /// What painting took for the copy that is put out: how many bytes of pictures' codes were read, how many
-    /// of their rows passed or painted, and how many lines of ink drawn for all other fields, and cells and
-    /// characters of these.
+    /// What painting took for the copy that is put out, or for the first of a label of one band, which stands
+    /// for the others: how many bytes of pictures' codes were read, how many of their rows passed or painted,
+    /// and how many lines of ink drawn for all other fields, and cells and characters of these.
     pub fn work(&self) -> u64
         ensures value { result ≡ self.now.press.painter.work }
         ensures at_most { (sheets : Given_sheets) (before : List Item) → Stands sheets self.now before →

@@ -1,15 +1,16 @@
-//! What is put out of a format that has ended: its copies, each painted band by band.
+//! What is put out of a format that has ended: its copies, painted band by band, of which a single band stands
+//! for all of them.
 ghost use Rattle.std.specs.Prelude.{◌≡◌, ◌≤◌, ◌<◌, ◌+◌, ◌++◌, IfOk, length, min, take, drop};
 ghost use Rattle.vp_glyph.specs.Sheets.{Sheets as Given};
 ghost use Rattle.vp_copies.specs.Copies.{copies_text};
-ghost use Rattle.vp_copies.specs.Progress.{IsPainted};
-ghost use Rattle.vp_label_size.specs.declared.TheConstants.{WIDEST, LONGEST};
+ghost use Rattle.vp_copies.specs.Progress.{StandsPainted};
+ghost use Rattle.vp_label_size.specs.declared.TheConstants.{WIDEST, LONGEST, BAND_ROWS};
 ghost use Rattle.vp_label.specs.Gathered.{AreKept};
 ghost use Rattle.vp_label.specs.Prints.{label_image};
 ghost use Rattle.vp_bands.specs.Meeting.{bands_of};
 ghost use Rattle.vp_bands.specs.Standing.{IsBefore};
 ghost use Rattle.vp_format.specs.Formats.{held};
-ghost use Rattle.vp_label.specs.Press.{bands_above, left, press_image, IsBetween, IsPress, IsReadied, IsReadTo};
+ghost use Rattle.vp_label.specs.Press.{left, painted_before, press_image, HasStood, IsBetween, IsPress, IsReadied, IsReadTo};
 
 use std::alloc::{AllocError, Global};
 use vp_bands::BandPainter;
@@ -70,19 +71,21 @@ impl<A: Small> Press<A> {
         self.copies = Copies::new(view.width as u16, view.height as u16, copies);
     }
 
-    /// Readies what the next byte wants: a copy begins with no band painted, and a band is painted before its
-    /// first byte.
+    /// Readies what the next byte wants: a copy begins with no band painted, or with its only one, and a band
+    /// is painted before its first byte.
     fn prepare(&mut self, sheets: &Sheets<A>, fields: &mut Fields<A>, stored: &[u8], view: View)
         requires press { IsPress sheets.now (held fields.old stored.now) view self.old }
         requires some { 0 < self.old.copies.place.copies }
         ensures copies { self.new.copies ≡ self.old.copies }
-        ensures painted { IsPainted (press_image sheets.now (held fields.old stored.now) view self.new)
-            self.new.copies.place.line self.new.band }
+        ensures painted { StandsPainted (press_image sheets.now (held fields.old stored.now) view self.new)
+            (painted_before self.new.copies) self.new.band }
         ensures before { IsBefore sheets.now (held fields.old stored.now) view
-            (bands_above self.new.copies.place.line) self.new.painter }
+            (painted_before self.new.copies) self.new.painter }
         ensures fields { fields.new.items ≡ fields.old.items }
         ensures read { IsReadied sheets.now (held fields.old stored.now) view self.old self.new
             fields.old.read fields.new.read }
+        ensures stood { self.old.copies.painted ≡ 1 → view.height ≤ BAND_ROWS →
+            (self.new ≡ self.old) × (fields.new ≡ fields.old) }
     {
         match self.copies.ahead() {
             Ahead::Nothing => {}
@@ -118,6 +121,7 @@ impl<A: Small> Press<A> {
         ensures fields { fields.new.items ≡ fields.old.items }
         ensures read { IsReadTo sheets.now (held fields.old stored.now) view self.old self.new
             fields.old.read fields.new.read }
+        ensures stood { HasStood view self.old self.new fields.old fields.new }
     {
         self.prepare(sheets, fields, stored, view);
         let n = self.copies.put_rows(&self.band, out);
@@ -149,6 +153,7 @@ impl<A: Small> Press<A> {
         ensures fields { fields.new.items ≡ fields.old.items }
         ensures read { IsReadTo sheets.now (held fields.old stored.now) view self.old self.new
             fields.old.read fields.new.read }
+        ensures stood { HasStood view self.old self.new fields.old fields.new }
         ensures idle { result ≡ 0 → (self.new ≡ self.old) × (fields.new ≡ fields.old) }
     {
         let mut n = 0;

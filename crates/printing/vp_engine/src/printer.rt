@@ -283,7 +283,7 @@ impl<A: Small> Printer<A> {
     }
 
     /// What it tells of its work: of a receipt's page the rows of dots that the last item that ended a line
-    /// laid and made white, of a label what painting took for the copy that is put out, of a listing 0.
+    /// laid and made white, of a label what painting took for the copy that was painted last, of a listing 0.
     pub fn work(&self) -> u64
         ensures value { result ≡ work_told self.now }
         ensures bounds { (setup : Setup) (t o : List ℕ) → Stands setup self.now t o →

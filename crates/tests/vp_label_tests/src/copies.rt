@@ -110,7 +110,7 @@ fn see(
     seen: &mut Vec<(Ahead, usize)>,
 ) -> Result<(), AllocError> {
     let mut out = [0u8; 8];
-    for _ in 0..36 {
+    for _ in 0..106 {
         if copies.is_pending() {
             if copies.ahead() != Ahead::Nothing {
                 seen.push((copies.ahead(), copies.band_rows()))?;
@@ -121,16 +121,39 @@ fn see(
     Ok(())
 }
 
-/// The bands of an image of 34 rows: what is wanted next, and how many of its rows the band has.
+/// What `copies` want, one after the other.
+fn wants(
+    rt: &impl Abort,
+    alloc: Global,
+    mut copies: Copies,
+    want: &[(Ahead, usize)],
+) -> Result<(), Fail> {
+    let mut band = LabelBand::new(alloc)?;
+    paint(0, &mut band);
+    let mut seen = Vec::new(alloc);
+    see(&mut copies, &band, &mut seen)?;
+    same(rt, &seen.as_slice(), &want);
+    same(rt, &copies.is_pending(), &false);
+    Ok(())
+}
+
+/// The bands of an image of 34 rows, in each of its copies: what is wanted next, and how many of its rows the
+/// band has.
 #[test]
 fn bands(rt: HostRuntime) -> Result<(), Fail> {
-    let mut band = LabelBand::new(rt.alloc())?;
-    paint(0, &mut band);
-    let mut copies = Copies::new(8, 34, 1);
-    let mut seen = Vec::new(rt.alloc());
-    see(&mut copies, &band, &mut seen)?;
-    let want = [(Ahead::Copy, 0), (Ahead::Band(0), 32), (Ahead::Band(1), 2)];
-    same(&rt, &seen.as_slice(), &want.as_slice());
-    same(&rt, &copies.is_pending(), &false);
-    Ok(())
+    let want = [
+        (Ahead::Band(0), 32),
+        (Ahead::Band(1), 2),
+        (Ahead::Copy, 0),
+        (Ahead::Band(0), 32),
+        (Ahead::Band(1), 2),
+    ];
+    wants(&rt, rt.alloc(), Copies::new(8, 34, 2), &want)
+}
+
+/// The only band of an image of 32 rows stands for all copies.
+#[test]
+fn one_band(rt: HostRuntime) -> Result<(), Fail> {
+    let want = [(Ahead::Band(0), 32)];
+    wants(&rt, rt.alloc(), Copies::new(8, 32, 3), &want)
 }

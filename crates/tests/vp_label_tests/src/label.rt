@@ -333,3 +333,74 @@ fn refusals(rt: HostRuntime) -> Result<(), Fail> {
     }
     Ok(())
 }
+
+/// Three labels one behind the other: copies of one band, others of the same size, and copies of two bands.
+const THREE_LABELS: [&[u8]; 3] = [
+    b"^XA^PW8^LL2^PQ3^FO0,0^GB8,1,1^FS^XZ",
+    b"^XA^PW8^LL2^PQ2^FO0,1^GB4,1,1^FS^XZ",
+    b"^XA^PW8^LL34^PQ2^FO0,0^GB8,1,1^FS^FO0,33^GB2,1,1^FS^XZ",
+];
+
+/// What they print.
+fn three_texts(alloc: Global) -> Result<Vec<u8>, AllocError> {
+    let mut text = Vec::new(alloc);
+    for _ in 0..3 {
+        text.extend_from_slice(b"P4\n8 2\n\xff\x00")?;
+    }
+    for _ in 0..2 {
+        text.extend_from_slice(b"P4\n8 2\n\x00\xf0")?;
+    }
+    for _ in 0..2 {
+        text.extend_from_slice(b"P4\n8 34\n\xff")?;
+        text.extend_from_slice(&[0u8; 32])?;
+        text.push(0xc0)?;
+    }
+    Ok(text)
+}
+
+/// No label shows a band of the one before, nor a copy the wrong band of its own, whatever room there is.
+#[test]
+fn labels_behind_copies(rt: HostRuntime) -> Result<(), Fail> {
+    let want = three_texts(rt.alloc())?;
+    for room in [1usize, 7, 64] {
+        let mut label = Label::new(rt.alloc(), NONE)?;
+        let mut reader = ZplReader::new(Reading::Profile);
+        let mut text = Vec::new(rt.alloc());
+        for stream in &THREE_LABELS {
+            fed(&mut label, &mut reader, *stream);
+            put_behind(&mut label, room, &mut text)?;
+        }
+        same(&rt, &text.as_slice(), &want.as_slice());
+    }
+    Ok(())
+}
+
+/// The looks and the work of the copy that was painted last.
+fn costs(label: &Label) -> (u64, u64) {
+    (label.visits(), label.work())
+}
+
+/// The first copy of a label of one band is painted, and stands for the second and the third; each copy of two
+/// bands is begun and painted.
+#[test]
+fn copies_cost_what_is_painted(rt: HostRuntime) -> Result<(), Fail> {
+    let mut label = Label::new(rt.alloc(), NONE)?;
+    let mut reader = ZplReader::new(Reading::Profile);
+    fed(&mut label, &mut reader, THREE_LABELS[0]);
+    same(&rt, &costs(&label), &(0, 0));
+    put_out(&rt, &mut label, 9);
+    let first = costs(&label);
+    same(&rt, &(first.0 > 0, first.1 > 0), &(true, true));
+    for _ in 0..18 {
+        put_out(&rt, &mut label, 1);
+        same(&rt, &costs(&label), &first);
+    }
+    fed(&mut label, &mut reader, THREE_LABELS[2]);
+    for _ in 0..2 {
+        put_out(&rt, &mut label, 1);
+        same(&rt, &costs(&label), &(0, 0));
+        put_out(&rt, &mut label, 41);
+        took(&rt, &label, 2, 6);
+    }
+    Ok(())
+}

@@ -3,10 +3,9 @@ use Rattle.std.proofs.Common.{◌≤◌, arith, refl, inl, inr, length-drop}
 use Rattle.std.proofs.lemmas.Bool.{cases_lt}
 use Rattle.vp_bands.specs.Meeting.{bands_of, copy_work, pairs, shown_pairs}
 use Rattle.vp_bands.specs.Standing.{IsBefore}
-use Rattle.vp_output.specs.Lines.{IsLineOf}
 use Rattle.vp_copies.specs.Copies.{copies_text}
 use Rattle.vp_label.proofs.Counts.{between_copies, same_image}
-use Rattle.vp_label.proofs.Presses.{within_met, most}
+use Rattle.vp_label.proofs.Presses.{most}
 use Rattle.vp_label.specs.Prints.{label_image, view_of}
 use Rattle.vp_label.specs.Standing.{bands, met, AreCopies, painting, shown, IsPrinting, Printing}
 use Rattle.vp_label.specs.declared.gathered.Gathered.{Gathered}
@@ -30,8 +29,8 @@ module _ (g : Over) (c : goal.After-slice_known-2-1 g) where
       let q = c.put.new.self in
       let view = c.view_of-view.result in
       let p = (rw c.bytes.ensures.bytes at c.put.ensures).press in
-      let line : IsLineOf view.height q.copies.place.line = subst (λ (h : ℕ). IsLineOf h q.copies.place.line) p.height p.place.line in
-      within_met view.height (bands_of view) (λ b. IsBefore c.self.inside.sheets (held_of c.self.inside.gathered) view b q.painter) q.copies.place refl line p.next p.over
+      let few = p.painted.few in
+      (q.copies.painted, omega (arith, few, p.height), p.before)
 
   -- behind whole copies it is behind the last one
   ended : 0 < c.put.result → AreCopies c.args.self.now (left c.self.inside.sheets (held_of c.self.inside.gathered) (view_of c.self.inside.gathered.in_force.settings) c.put.new.self)
@@ -49,7 +48,7 @@ module _ (g : Over) (c : goal.After-slice_known-2-1 g) where
       ap (λ v. length (left j.sheets held v q)) c.view_of-view.ensures ∙ whole.1 ∙ ap (λ i. length (copies_text i whole.0)) (sym shows) in
       elim (cases_lt 0 q.copies.place.copies) [
         | inl more ↦ (rw c.bytes.ensures.bytes at c.put.ensures).ended out (between_copies c.place_law.ensures (press_image j.sheets held view q) q.copies.place whole.0 (omega (arith, p.high, p.height)) p.place more count)
-        | inr none_left ↦ p.over (omega arith)
+        | inr none_left ↦ subst (λ (b : ℕ). IsBefore j.sheets held view b q.painter) (p.over (omega arith)) p.before
       ]
 
   met_is : pairs c.self.inside.sheets c.self.inside.gathered.format.stored c.view_of-view.result c.self.inside.gathered.format.fields.items (bands_of c.view_of-view.result) ≡ met c.args.self.now
@@ -120,6 +119,13 @@ returns-clause-stands g c = λ sheets before st. record {
     )
   ];
 }
+
+pub returns-clause-stood : goal.returns-clause-stood
+returns-clause-stood g c = λ single one.
+    let view = c.view_of-view.result in
+    let bands_are : bands_of view ≡ 1 = ap bands_of c.view_of-view.ensures ∙ ap bands c.self.view_is ∙ single in
+    let stood = c.put.ensures.stood (ap (λ (p : Printing _). p.press.copies.painted) c.self.view_is ∙ one) (omega (arith, bands_are)) in
+    (stood.painter ∙ ap (λ (p : Printing _). p.press.painter) c.self.view_is, stood.painted)
 
 pub invariant_of-self : goal.invariant_of-self
 invariant_of-self g c =

@@ -2,7 +2,7 @@ use Rattle.std.proofs.Common.{length, ◌-◌, ◌<◌, ◌≡◌, ◌≤◌, �
 use Rattle.vp_bands.specs.Meeting.{bands_of}
 use Rattle.vp_bands.specs.Standing.{IsBefore}
 use Rattle.vp_format.specs.Formats.{held}
-use Rattle.vp_label.specs.Press.{left, IsBetween, IsPress, IsReadTo}
+use Rattle.vp_label.specs.Press.{left, HasStood, IsBetween, IsPress, IsReadTo}
 use Rattle.vp_label.proofs.press.Press.put.Given as goal
 
 -- n bytes are out, and the others stand as they were
@@ -16,6 +16,7 @@ invariant-loop-n g l = record {
   ended : 0 < l.n → IsBetween l.self.copies.place → IsBefore l.sheets (held l.fn.fields l.stored) l.view (bands_of l.view) l.self.painter;
   fields : l.fields.items ≡ l.fn.fields.items;
   read : IsReadTo l.sheets (held l.fn.fields l.stored) l.view l.initial.self l.self l.fn.fields.read l.fields.read;
+  stood : HasStood l.view l.initial.self l.self l.fn.fields l.fields;
   idle : l.n ≡ 0 → (l.self ≡ l.initial.self) × (l.fields ≡ l.fn.fields);
 }
 
