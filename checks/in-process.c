@@ -128,6 +128,19 @@ static vp_progress stepped(vp *printer, const uint8_t *input, size_t length, uin
     return done;
 }
 
+/* A front of a stream, which ends anywhere, and then the printer begins anew. */
+static void print_and_forget(vp *printer, bytes stream, uint8_t *output) {
+    size_t at = 0, front = any(stream.length + 1);
+    while (at < front && any(50) != 0) {
+        vp_progress done = stepped(printer, stream.at + at, front - at, output, any(MOST_ROOM));
+        at += done.taken;
+        if (done.state == VP_STOPPED) break;
+    }
+    size_t memory = memory_of(printer);
+    if (vp_reset(printer) != VP_OK || memory_of(printer) != memory) stop(7, "vp_reset");
+    if (vp_pending(printer) != VP_OK) stop(7, "something is pending behind vp_reset");
+}
+
 static int print(char **words) {
     bytes a = read_file(words[1]), b = read_file(words[2]), stream = read_file(words[3]);
     state = strtoull(words[4], NULL, 10);
@@ -149,6 +162,7 @@ static int print(char **words) {
     if (COUNTS && (block == 0 || block > VP_BLOCK)) stop(9, "vp_memory tells another number than was taken");
     vp_fault fault = {0, 0, 0, 0};
     size_t at = 0;
+    if (any(2) == 0) print_and_forget(&printer, stream, output);
     for (;;) {
         size_t length = any(4) == 0 ? any(4) : any(2000), room = any(4) == 0 ? any(3) : any(MOST_ROOM);
         if (length > stream.length - at) length = stream.length - at;
@@ -232,6 +246,7 @@ static int bad(void) {
     expect(vp_pending(&none) == VP_NO_PRINTER, "pending of none");
     expect(vp_held(&none, &held) == VP_NO_PRINTER && held.stored == 0 && held.band_rows == 0, "held of none");
     expect(vp_memory(&none, &bytes) == VP_NO_PRINTER && bytes == 0, "memory of none");
+    expect(vp_reset(&none) == VP_NO_PRINTER && none.printer == NULL, "a reset of none");
     vp_free(&none);
     expect(vp_new(6, NULL, 0, NULL, 0, &printer) == VP_NO_LANGUAGE && printer.printer == NULL, "no such language");
     expect(vp_new_listing(9, 0, &printer) == VP_NO_LANGUAGE && printer.printer == NULL, "a listing of none");
@@ -255,6 +270,10 @@ static int bad(void) {
     expect(vp_fault_line(&done.fault, 4, cut, 0) == 0, "a line into no room");
     fault.number = 77;
     expect(vp_fault_line(&fault, 4, line, sizeof line) == 0 && line[0] == 0, "the line of no fault");
+    expect(vp_reset(&printer) == VP_OK && vp_pending(&printer) == VP_OK, "a reset behind a fault");
+    expect(vp_finish(&printer, &fault) == VP_OK && fault.number == 0, "a printer that was begun anew has no fault");
+    expect(vp_step(&printer, (const uint8_t *)"b", 1, output, 64, &done) == VP_OK && done.taken == 1 && done.state == VP_MORE,
+           "a step behind a reset");
     unsigned number = vp_version_number();
     snprintf(line, sizeof line, "%u.%u.%u", number / 10000, number / 100 % 100, number % 100);
     char text[VP_LINE];

@@ -1,7 +1,8 @@
 #!/bin/sh
 # Calls the library for C: the same bytes, lines and statuses as the program's, of the examples and of random streams whose
-# input and output are cut at random; under valgrind and AddressSanitizer; with no memory taken after vp_new, and there as
-# much as vp_memory tells; on 8 threads.
+# input and output are cut at random, half of them by a printer that took a front of the stream before and began anew;
+# under valgrind and AddressSanitizer; with no memory taken after vp_new, and there as much as vp_memory tells; on 8
+# threads.
 # It runs the examples in C and PHP. COUNT=5000 takes so many streams of each language in place of 100.
 # checks/in-process.sh time says how long a print takes in process, and beside it a process of vp.
 set -eu

@@ -140,11 +140,17 @@ uint32_t vp_pending(vp *printer);
 /* Tells what the printer holds. VP_OK, or VP_NO_PRINTER, with zeros. */
 uint32_t vp_held(vp *printer, vp_held_now *held);
 
-/* Tells how many bytes of memory the printer holds, which vp_new took and no step changes: its lines, pages,
+/* Tells how many bytes of memory the printer holds, which vp_new took and no call changes: its lines, pages,
  * bands, stores and sheets; of a listing 0. Beside them stands one block of at most VP_BLOCK. VP_OK, or
  * VP_NO_PRINTER, with 0. */
 #define VP_BLOCK 4096
 uint32_t vp_memory(vp *printer, size_t *bytes);
+
+/* Begins the printer anew, whatever it took and put out, and behind a fault: it stands as vp_new made it, with its
+ * sheets, and prints the next stream as a new one does. It takes no memory and gives none back, and costs a few
+ * hundred instructions; where a page was laid on, also what ESC L takes to make that white. VP_OK, or
+ * VP_NO_PRINTER. */
+uint32_t vp_reset(vp *printer);
 
 /* Frees the printer, where there is one, and leaves {0}: a second call does nothing. */
 void vp_free(vp *printer);

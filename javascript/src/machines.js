@@ -19,6 +19,21 @@ export function sheetOf(name, value) {
     `none, and not ${named(value)}${hint}`);
 }
 
+// The machine that printed last, by the settings of its printers: the next stream is printed by it.
+const idle = new WeakMap();
+
+/** The machine that was kept for these settings, begun anew, or one that is just switched on. */
+export async function begunOf(settings) {
+  const machine = idle.get(settings);
+  if (!machine) return machineOf(settings);
+  idle.delete(settings);
+  machine.beginAnew();
+  return machine;
+}
+
+/** Keeps a machine that is done with its stream. */
+export function keep(settings, machine) { idle.set(settings, machine); }
+
 /** A machine of settings that prints, as it is when it is switched on. */
 export async function machineOf({ language, width, whole, fontA, fontB }) {
   const { sheets } = await ready();

@@ -4,7 +4,7 @@ import { joined } from '../../recipes/viewer/bytes.js';
 import { BOUNDS, Clock, Reached, boundsOf, fed, tooMuch } from './bounds.js';
 import { Cutter } from './cutting.js';
 import { VpError, named, optionsOf } from './errors.js';
-import { machineOf, sheetOf } from './machines.js';
+import { begunOf, keep, machineOf, sheetOf } from './machines.js';
 import { Paper } from './paper.js';
 import { piecesOf } from './reading.js';
 
@@ -35,8 +35,12 @@ export class Printers {
   async print(stream, options) {
     const run = new Run(this.settings, signalOf(options), true);
     const images = [];
-    for await (const it of run.images(stream, images)) images.push(it);
-    return run.paper(images);
+    try {
+      for await (const it of run.images(stream, images)) images.push(it);
+      return run.paper(images);
+    } finally {
+      if (run.machine) keep(this.settings, run.machine);
+    }
   }
 
   /** The images of a stream, each as soon as it is whole: what is iterated has the fault, once it has ended. */
@@ -81,6 +85,8 @@ class Run {
     this.clock = new Clock(settings.bounds.mostSeconds, signal);
     this.machine = null;
     this.fault = null;
+    // only a whole print gives its machine back
+    this.begin = keeps ? begunOf : machineOf;
     // the stream, null where it isn't kept or too long
     this.pieces = keeps ? [] : null;
     this.kept = 0;
@@ -94,7 +100,7 @@ class Run {
 
   // Takes a piece, and gives the images that it completes; `before` are those that came before, for who asks.
   async* take(piece, before) {
-    this.machine ??= await machineOf(this.settings);
+    this.machine ??= await this.begin(this.settings);
     try {
       for await (const out of fed(this.machine, piece, this.clock)) yield* this.cutter.add(out);
     } catch (error) {
@@ -114,7 +120,7 @@ class Run {
   }
 
   async end() {
-    this.machine ??= await machineOf(this.settings);
+    this.machine ??= await this.begin(this.settings);
     this.fault = this.machine.end();
   }
 

@@ -24,6 +24,7 @@ class Handle:
         self._lock = threading.Lock()
         self._free = weakref.finalize(self, library().vp_free, made)
         self._free.atexit = False
+        self._output = (ctypes.c_ubyte * STEP)()
         self._taken = 0
         self.fault: Optional[Fault] = None
 
@@ -42,12 +43,19 @@ class Handle:
         check(library().vp_new_listing(language, offsets, made), ('', ''))
         return cls(made)
 
+    def begin_anew(self) -> None:
+        """As it was when it was made, whatever it took and put out."""
+        with self._lock:
+            self._is_open()
+            library().vp_reset(self._made)
+            self._taken, self.fault = 0, None
+
     def feed(self, data: bytes, put: Callable[[memoryview], None], seconds: Optional[float] = None) -> None:
         """Takes bytes and hands on what they print, piece by piece; TooMuchPaper where that takes longer."""
         with self._lock:
             self._is_open()
             start = ctypes.cast(ctypes.c_char_p(data), ctypes.c_void_p).value or 0
-            at, room, done, output = 0, FIRST, CProgress(state=ROOM), (ctypes.c_ubyte * STEP)()
+            at, room, done, output = 0, FIRST, CProgress(state=ROOM), self._output
             view, now = memoryview(output), time.monotonic()
             end = None if seconds is None else now + seconds
             while done.state == ROOM or done.state == MORE and at < len(data):

@@ -83,6 +83,7 @@ def library() -> ctypes.CDLL:
         'vp_finish': (u32, [printer, ctypes.POINTER(CFault)]),
         'vp_held': (u32, [printer, ctypes.POINTER(CHeld)]),
         'vp_memory': (u32, [printer, ctypes.POINTER(size)]),
+        'vp_reset': (u32, [printer]),
         'vp_free': (None, [printer]),
         'vp_new_requests': (u32, [u32, requests]),
         'vp_next_request': (u32, [requests, pointer, size, ctypes.POINTER(size), request]),

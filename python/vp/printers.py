@@ -2,7 +2,7 @@
 from __future__ import annotations
 
 import threading
-from typing import List, Optional, Tuple, Union
+from typing import List, Optional, Tuple, Type, Union
 
 from .bounds import HELD, Bounds
 from .faults import BadArgument, Fault, TooMuchPaper
@@ -36,6 +36,15 @@ def fed(handle: Handle, cutter: Cutter, data: bytes, seconds: Optional[float]) -
         raise TooMuchPaper(much.reached._replace(byte=handle.taken), much.paper) from None
 
 
+class _Kept(threading.local):
+    """The printer by which a thread printed last, for its next print. It isn't copied with what keeps it."""
+
+    handle: Optional[Handle] = None
+
+    def __reduce__(self) -> Tuple[Type[_Kept], Tuple[()]]:
+        return _Kept, ()
+
+
 class _Printers:
     """Printers of a language with sheets, each as it was when it was switched on."""
 
@@ -45,20 +54,30 @@ class _Printers:
         (font_a, name_a), (font_b, name_b) = sheets
         self._language, self._bounds = language, bounds
         self._sheets, self._names = (font_a, font_b), (name_a, name_b)
-        self._handle().close()
+        self._kept = _Kept()
+        self._kept.handle = self._handle()
 
     def _handle(self) -> Handle:
         return Handle.printing(self._language, self._sheets, self._names)
 
+    def _begun(self) -> Handle:
+        """This thread's printer, begun anew, or one that was just made. Nothing else has it meanwhile."""
+        handle, self._kept.handle = self._kept.handle, None
+        if handle is None:
+            return self._handle()
+        handle.begin_anew()
+        return handle
+
     def print(self, stream: Stream) -> Paper:
-        """The paper of a whole stream, by a printer that was just switched on."""
-        handle, cutter, data = self._handle(), Cutter(self._bounds), bytes_of(stream)
+        """The paper of a whole stream, by a printer that was just switched on, or begun anew."""
+        cutter, data = Cutter(self._bounds), bytes_of(stream)
+        handle = self._begun()
         try:
             fed(handle, cutter, data, self._bounds.seconds)
             language, whole = 'label' if self._language in LABELS else 'receipt', self._language in WHOLE
             return cutter.paper(handle.finish(), Source(language, data, whole))
         finally:
-            handle.close()
+            self._kept.handle = handle
 
     def start(self) -> Printer:
         """A printer that was just switched on, to be fed in pieces."""

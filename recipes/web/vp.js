@@ -122,6 +122,13 @@ class Machine {
     }
   }
 
+  // Begins anew: it is as it was when it was made, with its sheets, whatever it took.
+  beginAnew() {
+    this.#calls.vp_reset(this.#at);
+    this.taken = 0;
+    this.fault = null;
+  }
+
   // Gives the fault of a stream that ends here, else null.
   end() {
     const at = this.#at + PROGRESS;

@@ -75,6 +75,14 @@ impl<A: Small> Gathered<A> {
         })
     }
 
+    /// Begins anew: nothing is gathered yet. What the format holds, the next ^XA gives up.
+    pub fn begin_anew(&mut self)
+        ensures gathers { (sheets : Given_sheets) → Gathers sheets self.new [] }
+        ensures format { self.new.format ≡ self.old.format }
+    {
+        self.in_force = InForce::new();
+    }
+
     /// How many bytes of data there is room for: outside a format, where they aren't stored, as many as in
     /// one that has none.
     pub fn data_room(&self) -> usize

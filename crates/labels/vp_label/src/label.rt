@@ -91,6 +91,23 @@ impl<A: Small> Label<A> {
         })
     }
 
+    /// Begins anew: it stands after no items, with its sheets. What was read so far stays counted.
+    pub fn begin_anew(&mut self)
+        ensures stands { (sheets : Given_sheets) (before : List Item) → Stands sheets self.old before →
+            Stands sheets self.new [] }
+        ensures pending { self.new.pending ≡ [] }
+        ensures sheets { self.new.sheets ≡ self.old.sheets }
+        ensures looks { self.new.press.painter.looks ≡ self.old.press.painter.looks }
+        ensures marked { self.new.press.painter.marked ≡ self.old.press.painter.marked }
+        ensures fields { self.new.gathered.format.fields.read
+            ≡ self.old.gathered.format.fields.read }
+        ensures begun { looks_since self.new.press.painter ≡ 0 }
+        ensures work { self.new.press.painter.work ≡ 0 }
+    {
+        self.gathered.begin_anew();
+        self.press.begin_anew();
+    }
+
     /// Prints an item: what it prints is then pending. A refused one changes nothing.
     pub fn apply(&mut self, item: ZplItem) -> Result<(), Fault>
         requires { self.old.pending ≡ [] }

@@ -45,6 +45,18 @@ impl<A: Small> Press<A> {
         })
     }
 
+    /// Begins anew: nothing to put out. What was read so far stays counted.
+    pub fn begin_anew(&mut self)
+        ensures none { self.new.copies.place.copies ≡ 0 }
+        ensures looks { self.new.painter.looks ≡ self.old.painter.looks }
+        ensures marked { self.new.painter.marked ≡ self.old.painter.marked }
+        ensures begun { self.new.painter.begun ≡ self.new.painter.looks }
+        ensures work { self.new.painter.work ≡ 0 }
+    {
+        self.copies = Copies::new(1, 1, 0);
+        self.painter.start();
+    }
+
     /// Begins to put out copies of a label with the fields of a format.
     pub fn begin(&mut self, copies: u32, format: &mut Format<A>, view: View)
         requires some { 0 < copies }

@@ -91,6 +91,16 @@ impl ZplReader {
         }
     }
 
+    /// Begins anew: it stands after no bytes, and reads by the commands that it was made with.
+    pub fn begin_anew(&mut self)
+        ensures { (reading : Reading) (bytes : List ℕ) → Stands reading self.old bytes →
+            Stands reading self.new [] }
+    {
+        self.phase = Phase::Outside;
+        self.in_format = false;
+        self.indicator = None;
+    }
+
     /// Data have become known.
     fn data(&mut self, bytes: DataBytes) -> Event
         ensures event { result ≡ Event.Data }

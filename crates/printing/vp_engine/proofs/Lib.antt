@@ -7,6 +7,7 @@ pub mod Runs
 pub mod Comes
 pub mod Plain
 pub mod Arms
+pub mod Anew
 pub mod Rasters
 pub mod ByteLines
 pub mod Labels

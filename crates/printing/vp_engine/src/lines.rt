@@ -1,5 +1,5 @@
 //! The lines of a listing: each is put out before the next begins, and stands behind its place or without it.
-ghost use Rattle.std.specs.Prelude.{◌≡◌, ◌≤◌, ◌<◌, ◌+◌, ◌*◌, ◌++◌, ◌↔◌, [], IsTrue, flat_map, length, min, take, drop};
+ghost use Rattle.std.specs.Prelude.{◌≡◌, ◌≤◌, ◌<◌, ◌+◌, ◌*◌, ◌++◌, ◌↔◌, [], IsTrue, flat_map, is_some, length, min, take, drop};
 ghost use Rattle.arrayvec.specs.ArrayVec.{array_vec_len};
 ghost use Rattle.vp_streams.specs.Count.{grown};
 ghost use Rattle.vp_engine.specs.Lines.{listed_line, byte_lines, listed_bytes, longest_line, more_taken, no_lines};
@@ -41,6 +41,18 @@ impl Lines {
             at: 0,
             count: 0,
             taken: with_offsets.then_some(0),
+        }
+    }
+
+    /// Begins anew: no line, of those behind their places or of those without, as it was.
+    pub fn begin_anew(&mut self)
+        ensures { self.new ≡ no_lines (is_some self.old.taken) }
+    {
+        self.text.clear();
+        self.at = 0;
+        self.count = 0;
+        if self.taken.is_some() {
+            self.taken = Some(0);
         }
     }
 

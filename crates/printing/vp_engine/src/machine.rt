@@ -240,6 +240,35 @@ impl<A: Small> Machine<A> {
         }
     }
 
+    /// Begins anew: it took nothing.
+    pub fn begin_anew(&mut self)
+        ensures stands { (setup : Setup) (t : List ℕ) (before : List (Item setup)) →
+            MachineStands (machine_of self.old) setup t before →
+            MachineStands (machine_of self.new) setup [] [] }
+        ensures pending { pending_of (machine_of self.new) ≡ [] }
+        ensures memory { machine_memory (machine_of self.new) ≡ machine_memory (machine_of self.old) }
+        ensures work { machine_work (machine_of self.new) ≡ 0 }
+    {
+        match self {
+            Machine::Receipt { reader, receipt } => {
+                reader.begin_anew();
+                receipt.begin_anew();
+            }
+            Machine::ReceiptLines { reader, lines } => {
+                reader.begin_anew();
+                lines.begin_anew();
+            }
+            Machine::Label { reader, label } => {
+                reader.begin_anew();
+                label.begin_anew();
+            }
+            Machine::LabelLines { reader, lines } => {
+                reader.begin_anew();
+                lines.begin_anew();
+            }
+        }
+    }
+
     /// Takes a byte where nothing is pending, and answers the fault that it makes.
     pub fn take(&mut self, byte: u8) -> Result<(), Fault>
         requires { pending_of (machine_of self.old) ≡ [] }

@@ -113,6 +113,21 @@ impl<A: Small> Printer<A> {
         }
     }
 
+    /// Begins anew, whatever was taken and put out: behind it the printer stands as a new one that was set up
+    /// alike, with the same sheets. It takes no memory and gives none back.
+    pub fn begin_anew(&mut self)
+        ensures stands { (setup : Setup) (t o : List ℕ) → Stands setup self.old t o →
+            Stands setup self.new [] [] }
+        ensures idle { self.new.pending ≡ [] }
+        ensures running { self.new.stopped ≡ None }
+        ensures memory { memory_held self.new ≡ memory_held self.old }
+        ensures work { work_told self.new ≡ 0 }
+    {
+        items_grow();
+        self.machine.begin_anew();
+        self.stopped = None;
+    }
+
     /// Takes a byte where nothing is pending.
     fn take(&mut self, byte: u8)
         requires idle { self.old.pending ≡ [] }

@@ -1,9 +1,10 @@
 //! The printer that a handle owns.
 ghost use Rattle.std.specs.Prelude.{◌≡◌};
+ghost use Rattle.vp_calls.specs.Printing.{IsBegunAnew};
 ghost use Rattle.vp_calls.specs.Steps.{IsStep};
 
 use std::marker::Model;
-use vp_calls::{Progress, step};
+use vp_calls::{Progress, begin_anew, step};
 use vp_engine::Printer;
 
 /// A printer over the C library's heap.
@@ -39,6 +40,13 @@ impl Owned {
         ensures { result.now ≡ self.now }
     {
         &self.printer
+    }
+
+    /// Begins the printer anew.
+    pub fn begin_anew(&mut self)
+        ensures { IsBegunAnew self.old self.new }
+    {
+        begin_anew(&mut self.printer);
     }
 
     /// One step of the printer.

@@ -1,6 +1,6 @@
-//! Printers are stepped and asked.
+//! Printers are stepped and asked, and begun anew.
 ghost use Rattle.std.specs.Prelude.{◌≡◌};
-ghost use Rattle.vp_calls.specs.Printing.{IsFinished, IsPendingAnswer, IsHeld, IsMemory};
+ghost use Rattle.vp_calls.specs.Printing.{IsFinished, IsPendingAnswer, IsHeld, IsMemory, IsReset};
 ghost use Rattle.vp_calls.specs.Steps.{IsStepOf};
 
 use crate::handle::Handle;
@@ -27,6 +27,19 @@ pub extern "C" fn vp_step(
         return NO_PRINTER;
     };
     *done = it.step(input, output);
+    *printer = Handle::of(it);
+    OK
+}
+
+/// Begins a printer anew: it stands as one that was just made, with its sheets.
+#[unsafe(no_mangle)]
+pub extern "C" fn vp_reset(alloc: Global, printer: &mut Handle) -> u32
+    ensures { IsReset printer.old.printer printer.new.printer result }
+{
+    let Some(mut it) = printer.take(alloc) else {
+        return NO_PRINTER;
+    };
+    it.begin_anew();
     *printer = Handle::of(it);
     OK
 }

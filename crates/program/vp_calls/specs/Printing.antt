@@ -1,16 +1,30 @@
--- What a printer behind a handle is asked, and tells.
+-- What a printer behind a handle is asked, and tells, and how it begins anew.
 use Rattle.std.specs.Prelude.{◌≡◌, ◌<◌, ◌↔◌, ℕ, List, [], length, Option, Some, None}
 use Rattle.vp_engine.specs.Answers.{IsBounded}
 use Rattle.vp_engine.specs.Memory.{memory_held, memory_of}
 use Rattle.vp_engine.specs.Paper.{fault_at_end, held_after}
 use Rattle.vp_engine.specs.Setups.{Setup, rules_of}
 use Rattle.vp_engine.specs.Stands.{Engine, Stands}
+use Rattle.vp_engine.specs.Work.{work_told}
 use Rattle.vp_engine.specs.declared.held.Held.{Held}
 use Rattle.vp_calls.specs.Faults.{no_fault, maybe_in_c}
 use Rattle.vp_calls.specs.Helds.{held_in_c, nothing_in_c}
 use Rattle.vp_calls.specs.declared.answer.TheConstants.{OK, NO_PRINTER, PENDING}
 use Rattle.vp_calls.specs.declared.fault.FaultOfC.{FaultOfC}
 use Rattle.vp_calls.specs.declared.held.HeldNow.{HeldNow}
+
+-- wherever a printer stood, it stands as one that took and put out nothing, with the memory that it held
+pub record IsBegunAnew (old new : Engine) : Type 0 where
+  pub stands : (setup : Setup) (t o : List ℕ) → Stands setup old t o → Stands setup new [] []
+  pub idle : new.pending ≡ []
+  pub running : new.stopped ≡ None
+  pub memory : memory_held new ≡ memory_held old
+  pub work : work_told new ≡ 0
+
+-- behind a handle
+abbrev pub IsReset : Option Engine → Option Engine → ℕ → Type 0
+IsReset None new answer = (answer ≡ NO_PRINTER) × (new ≡ None)
+IsReset (Some old) new answer = (answer ≡ OK) × (p : Engine) × (new ≡ Some p) × IsBegunAnew old p
 
 -- PENDING where paper is still to be put out, else OK
 pub record IsOfPending (p : Engine) (answer : ℕ) : Type 0 where

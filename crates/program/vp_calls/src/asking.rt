@@ -1,6 +1,6 @@
-//! Printers are stepped and asked.
+//! Printers are stepped and asked, and begun anew.
 ghost use Rattle.std.specs.Prelude.{◌≡◌};
-ghost use Rattle.vp_calls.specs.Printing.{IsEnd, IsOfPending, IsOfHeld};
+ghost use Rattle.vp_calls.specs.Printing.{IsBegunAnew, IsEnd, IsOfPending, IsOfHeld};
 ghost use Rattle.vp_calls.specs.Steps.{IsStep};
 
 use crate::answer::{OK, PENDING};
@@ -15,6 +15,13 @@ pub fn step<A: Small>(printer: &mut Printer<A>, input: &[u8], output: &mut [u8])
     ensures { IsStep printer.old printer.new input.now output.old output.new result }
 {
     Progress::of(printer.step(input, output))
+}
+
+/// Begins a printer anew.
+pub fn begin_anew<A: Small>(printer: &mut Printer<A>)
+    ensures { IsBegunAnew printer.old printer.new }
+{
+    printer.begin_anew();
 }
 
 /// Whether paper is still to be put out.

@@ -91,6 +91,14 @@ impl EscReader {
         }
     }
 
+    /// Begins anew: it stands after no bytes, and reads by the commands that it was made with.
+    pub fn begin_anew(&mut self)
+        ensures { (reading : Reading) (bytes : List ℕ) → Stands reading self.old bytes →
+            Stands reading self.new [] }
+    {
+        self.phase = Phase::Ground;
+    }
+
     fn begin(&mut self, byte: u8) -> Event
         ensures { Advances self.old.reading (Ok (shown result self.new.item)) [] byte self.new }
     {

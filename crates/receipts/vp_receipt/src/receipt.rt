@@ -15,6 +15,8 @@ ghost use Rattle.vp_receipt_settings.specs.declared.text.TheConstants.{LINE_ROWS
 ghost use Rattle.vp_receipt.specs.Strips.{prints, printed, refusal, is_at_rest, line_rows_after, page_rows_after};
 ghost use Rattle.vp_receipt.specs.Standing.{Stands, IsActing};
 ghost use Rattle.vp_receipt.specs.Work.{most_work, least_work};
+ghost use Rattle.vp_page.specs.Layers.{CountedAnew};
+ghost use Rattle.vp_page.specs.Pages.{HasPage};
 ghost use Rattle.vp_page.specs.Work.{MOST};
 ghost use Rattle.vp_receipt_settings.specs.declared.page_mode.PrinterMode.{PrinterMode};
 ghost use Rattle.vp_receipt_settings.specs.declared.effect.Effect.{Effect};
@@ -120,6 +122,24 @@ impl<A: Small + Copy> Receipt<A> {
 }
 
 impl<A: Small> Receipt<A> {
+    /// Begins anew: it stands after no items, with its sheets, on its paper. A page that was laid on is made
+    /// white.
+    pub fn begin_anew(&mut self)
+        ensures stands { (setup : Setup) (before : List EscItem) → Stands setup self.old before →
+            Stands setup self.new [] }
+        ensures pending { self.new.pending ≡ [] }
+        ensures sheets { self.new.sheets ≡ self.old.sheets }
+        ensures page { HasPage (CountedAnew ∷ []) self.new.page }
+    {
+        self.kept.take(&EscItem::Initialize, self.settings.text);
+        self.settings = Settings::start(self.settings.paper);
+        self.canvas.page.clear();
+        self.canvas.page.count_anew();
+        self.waiting = None;
+        self.job = Job::none();
+        self.of_page = false;
+    }
+
     /// Prints an item: what it prints is then pending. A refused one changes nothing.
     #[inline(always)]
     pub fn apply(&mut self, item: &EscItem) -> Result<(), Fault>
