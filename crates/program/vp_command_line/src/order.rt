@@ -1,4 +1,8 @@
 //! What can be asked for.
+ghost use Rattle.std.specs.Prelude.{map};
+ghost use Rattle.vp_command_line.specs.Asked.{IsAnswer};
+ghost use Rattle.vp_command_line.specs.Words.{Choices};
+
 use crate::grammar::program;
 use crate::reading::order_of;
 use clap::Error;
@@ -51,7 +55,9 @@ pub struct Fonts<'a> {
 
 impl<'a> Order<'a> {
     /// Reads the words, the first of which is the program's name.
-    pub fn read<S: AsStr>(alloc: Global, words: &'a [S]) -> Result<Order<'a>, Error> {
+    pub fn read<S: AsStr>(alloc: Global, words: &'a [S]) -> Result<Order<'a>, Error>
+        ensures { (choices : Choices) × IsAnswer choices (map S.text words.entry.now) result }
+    {
         let mut command = program(alloc)?;
         order_of(&mut command, words)
     }
