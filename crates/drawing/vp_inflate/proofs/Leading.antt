@@ -1,17 +1,14 @@
 -- Where bytes lead, element by element.
-use Rattle.std.proofs.Common.{◌≡◌, ℕ, zero, suc, ◌*◌, ◌%◌, ◌<◌, ◌≤◌, List, [], ◌∷◌, ◌++◌, length, reverse, Option, Some, None, Ok, Err, refl, sym, ap, subst, ◌∙◌, arith, append_assoc, length-append}
-use Rattle.std.proofs.lemmas.List.{append-nil}
-use Rattle.std.proofs.lemmas.Grind.{reverse_onto}
+use Rattle.std.proofs.Common.{◌≡◌, ℕ, zero, suc, ◌*◌, ◌%◌, ◌<◌, ◌≤◌, List, [], ◌∷◌, ◌++◌, length, reverse, Option, Some, None, Ok, Err, refl, sym, ap, ◌∙◌, arith, append_assoc, length-append}
+use Rattle.std.proofs.lemmas.List.{append-nil, reverse-append, reverse-reverse}
 use Rattle.vp_inflate.specs.declared.fault.Stop.{Stop}
 use Rattle.vp_inflate.specs.declared.fault.Stop.TheVariants.{Short, Ended, Broken}
 use Rattle.vp_inflate.specs.declared.fault.Fault.{Fault}
 use Rattle.vp_inflate.specs.declared.inflate.Inflate.{Inflate}
-use Rattle.vp_inflate.specs.declared.window.Window.{Window}
 use Rattle.vp_inflate.specs.Bits.{Read, ◌>>=◌, bits, bits_of}
 use Rattle.vp_inflate.specs.Unpacking.{Stand, start, element, after}
 use Rattle.vp_inflate.specs.Standing.{stand}
-use Rattle.vp_inflate.specs.Windows.{Keeps}
-use Rattle.vp_inflate.specs.Reaching.{Leads, Unpacks, Ends, IsNeeded, Stands, with, Advances}
+use Rattle.vp_inflate.specs.Reaching.{Leads, Unpacks, Ends, IsNeeded, Stands, with}
 use Rattle.vp_inflate.proofs.BitWords.{length_bits}
 use Rattle.vp_inflate.proofs.ElementReadings.{reads_element}
 
@@ -41,12 +38,9 @@ pub leads_more : (bytes : List ℕ) (s t : Stand) (from rest : List ℕ) → Lea
 leads_more bytes s t from rest h e = (suc h.0, after_more h.0 start (bits_of bytes) (s, from) (t, rest) h.1 e)
 
 -- nothing was taken yet
-pub stands_first : (m : Inflate) → Keeps m.window [] → stand m.reader [] ≡ start → m.reader.held ≡ [] → Stands m [] []
+pub stands_first : (m : Inflate) → stand m.reader [] ≡ start → m.reader.held ≡ [] → Stands m [] []
 unfolding after
-stands_first m k s h = record {
-  out = [];
-  out_is = refl;
-  keeps = k;
+stands_first m s h = record {
   leads = λ more. (0, ap (λ (a : Stand). Ok (a, bits_of more)) (sym s) ∙ ap (λ (l : List ℕ). Ok (stand m.reader [], l ++ bits_of more)) (sym h));
   needed = λ long. absurd (omega (arith, ap {A = List ℕ} length h));
 }
@@ -56,9 +50,9 @@ abbrev pub listed : Option ℕ → List ℕ
 listed None = []
 listed (Some byte) = byte ∷ []
 
-reverse_with : (byte : Option ℕ) (out : List ℕ) → reverse (with byte out) ≡ reverse out ++ listed byte
-reverse_with None out = sym (append-nil (reverse out))
-reverse_with (Some b) out = reverse_onto out b []
+reverse_with : (byte : Option ℕ) (put : List ℕ) → reverse (put ++ listed byte) ≡ with byte (reverse put)
+reverse_with None put = ap reverse (append-nil put)
+reverse_with (Some b) put = reverse-append put (b ∷ [])
 
 -- what is left is no whole byte: the last one was needed
 needed_on : (s t : Stand) (from rest : List ℕ) → IsNeeded s from → element s from ≡ Ok (t, rest) → IsNeeded t rest
@@ -73,65 +67,68 @@ needed_on s t from rest h e = λ long.
     apart : (p : Stand × List ℕ) → ◌≡◌ {A = Read Stand} (Err Short) (Ok p) → ⊥
     apart p w = cc
 
-pub stands_on : (old new : Inflate) (t o : List ℕ) (byte : Option ℕ) (h : Stands old t o) → Advances old new h.out byte → Stands new t (o ++ listed byte)
-stands_on old new t o byte h a = record {
-  out = with byte h.out;
-  out_is = reverse_with byte h.out ∙ ap (λ (l : List ℕ). l ++ listed byte) h.out_is;
-  keeps = a.keeps;
-  leads = λ more. leads_more (t ++ more) (stand old.reader h.out) (stand new.reader (with byte h.out)) (old.reader.held ++ bits_of more) (new.reader.held ++ bits_of more)
-      (h.leads more)
-      ((reads_element (stand old.reader h.out) old.reader.held (Ok (stand new.reader (with byte h.out), new.reader.held)) a.element_is (λ w. cc)).read old.reader.held (bits_of more) (stand new.reader (with byte h.out)) new.reader.held (whole more) a.element_is);
-  needed = needed_on (stand old.reader h.out) (stand new.reader (with byte h.out)) old.reader.held new.reader.held h.needed a.element_is;
-}
+pub stands_on : (old new : Inflate) (t put : List ℕ) (byte : Option ℕ) → Stands old t put
+    → element (stand old.reader (reverse put)) old.reader.held ≡ Ok (stand new.reader (with byte (reverse put)), new.reader.held)
+    → Stands new t (put ++ listed byte)
+stands_on old new t put byte h e =
+    let out = reverse put in
+    let s = stand old.reader out in
+    let u : element s old.reader.held ≡ Ok (stand new.reader (reverse (put ++ listed byte)), new.reader.held) =
+    e ∙ ap (λ (l : List ℕ). Ok (stand new.reader l, new.reader.held)) (sym (reverse_with byte put)) in
+    let new_stand = stand new.reader (reverse (put ++ listed byte)) in
+    record {
+      leads = λ more. leads_more (t ++ more) s new_stand (old.reader.held ++ bits_of more) (new.reader.held ++ bits_of more)
+          (h.leads more)
+          ((reads_element s old.reader.held (Ok (new_stand, new.reader.held)) u (λ w. cc)).read old.reader.held (bits_of more) new_stand new.reader.held (whole more) u);
+      needed = needed_on s new_stand old.reader.held new.reader.held h.needed u;
+    }
 
 -- a byte more is taken, where it is needed
-pub stands_taken : (old new : Inflate) (t o : List ℕ) (byte : ℕ) (h : Stands old t o) → new.window ≡ old.window → stand new.reader h.out ≡ stand old.reader h.out
-    → new.reader.held ≡ old.reader.held ++ bits 8 byte → element (stand old.reader h.out) old.reader.held ≡ Err Short → Stands new (t ++ byte ∷ []) o
-stands_taken old new t o byte h w s held short = record {
-  out = h.out;
-  out_is = h.out_is;
-  keeps = subst (λ (v : Window). Keeps v h.out) (sym w) h.keeps;
+pub stands_taken : (old new : Inflate) (t put : List ℕ) (byte : ℕ) → Stands old t put → stand new.reader (reverse put) ≡ stand old.reader (reverse put)
+    → new.reader.held ≡ old.reader.held ++ bits 8 byte → element (stand old.reader (reverse put)) old.reader.held ≡ Err Short → Stands new (t ++ byte ∷ []) put
+stands_taken old new t put byte h s held short = record {
   leads = λ more.
       let there = h.leads (byte ∷ more) in (
         there.0,
         ap (λ (l : List ℕ). after there.0 start (bits_of l)) (append_assoc t (byte ∷ []) more) ∙ there.1
             ∙ ap (λ (a : Stand). Ok (a, old.reader.held ++ (bits 8 byte ++ bits_of more))) (sym s)
-            ∙ ap (λ (l : List ℕ). Ok (stand new.reader h.out, l)) (sym (append_assoc old.reader.held (bits 8 byte) (bits_of more)))
-            ∙ ap (λ (l : List ℕ). Ok (stand new.reader h.out, l ++ bits_of more)) (sym held),
+            ∙ ap (λ (l : List ℕ). Ok (stand new.reader (reverse put), l)) (sym (append_assoc old.reader.held (bits 8 byte) (bits_of more)))
+            ∙ ap (λ (l : List ℕ). Ok (stand new.reader (reverse put), l ++ bits_of more)) (sym held),
       );
   needed = λ long. (old.reader.held, byte, held, ap (λ (a : Stand). element a old.reader.held) s ∙ short);
 }
 
 -- what the bytes that were taken say, where reading stops
-pub unpacks : (m : Inflate) (t o : List ℕ) (stop : Stop) (h : Stands m t o) → element (stand m.reader h.out) m.reader.held ≡ Err stop → Unpacks t o stop
-unpacks m t o stop h e = record {
-  place = stand m.reader h.out;
+pub unpacks : (m : Inflate) (t put : List ℕ) (stop : Stop) → Stands m t put → element (stand m.reader (reverse put)) m.reader.held ≡ Err stop → Unpacks t put stop
+unpacks m t put stop h e = record {
+  place = stand m.reader (reverse put);
   rest = m.reader.held;
-  out_is = h.out_is;
+  out_is = reverse-reverse put;
   leads = let there = h.leads [] in (
     there.0,
     ap (λ (l : List ℕ). after there.0 start (bits_of l)) (sym (append-nil t)) ∙ there.1
-        ∙ ap (λ (l : List ℕ). Ok (stand m.reader h.out, l)) (append-nil m.reader.held),
+        ∙ ap (λ (l : List ℕ). Ok (stand m.reader (reverse put), l)) (append-nil m.reader.held),
   );
   stops = e;
 }
 
-pub unpacks_broken : (m : Inflate) (t o more : List ℕ) (f : Fault) (h : Stands m t o) → element (stand m.reader h.out) m.reader.held ≡ Err (Broken f) → Unpacks (t ++ more) o (Broken f)
-unpacks_broken m t o more f h e = record {
-  place = stand m.reader h.out;
+pub unpacks_broken : (m : Inflate) (t put more : List ℕ) (f : Fault) → Stands m t put → element (stand m.reader (reverse put)) m.reader.held ≡ Err (Broken f)
+    → Unpacks (t ++ more) put (Broken f)
+unpacks_broken m t put more f h e = record {
+  place = stand m.reader (reverse put);
   rest = m.reader.held ++ bits_of more;
-  out_is = h.out_is;
+  out_is = reverse-reverse put;
   leads = h.leads more;
-  stops = (reads_element (stand m.reader h.out) m.reader.held (Err (Broken f)) e (λ w. cc)).broken m.reader.held (bits_of more) f (whole more) e;
+  stops = (reads_element (stand m.reader (reverse put)) m.reader.held (Err (Broken f)) e (λ w. cc)).broken m.reader.held (bits_of more) f (whole more) e;
 }
 
-pub ends : (m : Inflate) (t o : List ℕ) (h : Stands m t o) → element (stand m.reader h.out) m.reader.held ≡ Err Ended → Ends t o
+pub ends : (m : Inflate) (t put : List ℕ) → Stands m t put → element (stand m.reader (reverse put)) m.reader.held ≡ Err Ended → Ends t put
 unfolding unpacks
-ends m t o h e = record {
-  unpacks = unpacks m t o Ended h e;
+ends m t put h e = record {
+  unpacks = unpacks m t put Ended h e;
   none_left = few (length m.reader.held) (λ long.
       let last = h.needed long in
-      (reads_element (stand m.reader h.out) last.0 (Err Short) last.3 (λ w. cc)).going m.reader.held e);
+      (reads_element (stand m.reader (reverse put)) last.0 (Err Short) last.3 (λ w. cc)).going m.reader.held e);
 }
   where
     few : (n : ℕ) → (8 ≤ n → ⊥) → n < 8

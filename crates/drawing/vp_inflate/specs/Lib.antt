@@ -6,6 +6,5 @@ pub mod Pieces
 pub mod Ranges
 pub mod Unpacking
 pub mod Phases
-pub mod Windows
 pub mod Standing
 pub mod Reaching

@@ -6,7 +6,6 @@ use Rattle.vp_inflate.specs.declared.inflate.Inflate.{Inflate}
 use Rattle.vp_inflate.specs.Bits.{bits, bits_of}
 use Rattle.vp_inflate.specs.Unpacking.{Stand, start, element, after}
 use Rattle.vp_inflate.specs.Standing.{stand}
-use Rattle.vp_inflate.specs.Windows.{Keeps}
 
 -- some elements of these bytes lead to a place, behind which these bits are left
 abbrev pub Leads : List ℕ → Stand → List ℕ → Type 0
@@ -32,12 +31,9 @@ IsNeeded s held = 8 ≤ length held →
 
 -- the machine took these bytes and put out others: it stands where they lead, whatever follows them
 pub record Stands (machine : Inflate) (taken put : List ℕ) : Type 0 where
-  pub out : List ℕ
-  pub out_is : reverse out ≡ put
-  pub keeps : Keeps machine.window out
   pub leads : (more : List ℕ)
-      → Leads (taken ++ more) (stand machine.reader out) (machine.reader.held ++ bits_of more)
-  pub needed : IsNeeded (stand machine.reader out) machine.reader.held
+      → Leads (taken ++ more) (stand machine.reader (reverse put)) (machine.reader.held ++ bits_of more)
+  pub needed : IsNeeded (stand machine.reader (reverse put)) machine.reader.held
 
 -- the bytes with one more, or none
 abbrev pub with : Option ℕ → List ℕ → List ℕ
@@ -49,17 +45,8 @@ abbrev pub one : Option ℕ → ℕ
 one None = 0
 one (Some byte) = 1
 
--- what one element more does to the machine, by the bytes that it put out before
-pub record Advances (old new : Inflate) (out : List ℕ) (byte : Option ℕ) : Type 0 where
-  pub keeps : Keeps new.window (with byte out)
-  pub element_is : element (stand old.reader out) old.reader.held
-      ≡ Ok (stand new.reader (with byte out), new.reader.held)
-
+-- what one element more does to the machine, by the bytes that it put out before, or why there is none
 abbrev pub AdvancesOr : Inflate → Result (Option ℕ) Stop → Inflate → List ℕ → Type 0
-AdvancesOr old (Ok byte) new out = Advances old new out byte
+AdvancesOr old (Ok byte) new out = element (stand old.reader out) old.reader.held
+    ≡ Ok (stand new.reader (with byte out), new.reader.held)
 AdvancesOr old (Err stop) new out = element (stand old.reader out) old.reader.held ≡ Err stop
-
-abbrev pub PutsOr : Inflate → Result ℕ Stop → Inflate → List ℕ → Type 0
-PutsOr old (Ok byte) new out = Keeps new.window (byte ∷ out)
-    × (element (stand old.reader out) old.reader.held ≡ Ok (stand new.reader (byte ∷ out), new.reader.held))
-PutsOr old (Err stop) new out = element (stand old.reader out) old.reader.held ≡ Err stop
