@@ -1,10 +1,11 @@
 -- What bytes say as a whole, and where the machine stands in them.
-use Rattle.std.specs.Prelude.{◌≡◌, ℕ, ◌<◌, ◌≤◌, List, ◌∷◌, ◌++◌, length, reverse, Result, Ok, Err, Option, Some, None}
+use Rattle.std.specs.Prelude.{◌≡◌, ℕ, ◌+◌, ◌*◌, ◌<◌, ◌≤◌, List, ◌∷◌, ◌++◌, length, reverse, Result, Ok, Err, Option, Some, None}
 use Rattle.vp_inflate.specs.declared.fault.Stop.{Stop}
 use Rattle.vp_inflate.specs.declared.fault.Stop.TheVariants.{Short, Ended}
 use Rattle.vp_inflate.specs.declared.inflate.Inflate.{Inflate}
 use Rattle.vp_inflate.specs.Bits.{bits, bits_of}
 use Rattle.vp_inflate.specs.Unpacking.{Stand, start, element, after}
+use Rattle.vp_inflate.specs.Fronts.{run}
 use Rattle.vp_inflate.specs.Standing.{stand}
 
 -- some elements of these bytes lead to a place, behind which these bits are left
@@ -29,11 +30,19 @@ abbrev pub IsNeeded : Stand → List ℕ → Type 0
 IsNeeded s held = 8 ≤ length held →
     (before : List ℕ) × (byte : ℕ) × (held ≡ before ++ bits 8 byte) × (element s before ≡ Err Short)
 
--- the machine took these bytes and put out others: it stands where they lead, whatever follows them
+-- the machine took these bytes and put out others: it stands where so many elements lead, no more than there
+-- were bits and bytes, whatever follows them; so what these bytes begin with is what was put out
 pub record Stands (machine : Inflate) (taken put : List ℕ) : Type 0 where
-  pub leads : (more : List ℕ)
-      → Leads (taken ++ more) (stand machine.reader (reverse put)) (machine.reader.held ++ bits_of more)
+  pub steps : ℕ
+  pub few : steps + length machine.reader.held ≤ 8 * length taken + length put
+  pub leads : (more : List ℕ) → after steps start (bits_of (taken ++ more))
+      ≡ Ok (stand machine.reader (reverse put), machine.reader.held ++ bits_of more)
   pub needed : IsNeeded (stand machine.reader (reverse put)) machine.reader.held
+  pub runs : (more : List ℕ) (n room : ℕ) → length put < room
+      → run (steps + n) room start (bits_of (taken ++ more))
+      ≡ run n room (stand machine.reader (reverse put)) (machine.reader.held ++ bits_of more)
+  pub fills : (more : List ℕ) (n : ℕ)
+      → run (steps + n) (length put) start (bits_of (taken ++ more)) ≡ Ok (reverse put)
 
 -- the bytes with one more, or none
 abbrev pub with : Option ℕ → List ℕ → List ℕ
