@@ -173,6 +173,21 @@ reads_phase phase.Ended s going = absurd (going refl)
 pub reads_element : (s : Stand) (from : List ℕ) (v : Read Stand) → element s from ≡ v → (v ≡ Err Ended → ⊥) → Reads 48 (element s)
 reads_element s from v e going = reads_phase s.phase s (λ h. going (sym e ∙ ap (λ (p : Phase). after_phase p s from) h))
 
+-- the end is no reading, whatever follows
+pub ended_more : (p : Phase) (s : Stand) (from more : List ℕ) → after_phase p s from ≡ Err Ended → after_phase p s (from ++ more) ≡ Err Ended
+ended_more Header s from more e = absurd ((reads_phase Header s (λ h. cc)).going from e)
+ended_more Block s from more e = absurd ((reads_phase Block s (λ h. cc)).going from e)
+ended_more Size s from more e = absurd ((reads_phase Size s (λ h. cc)).going from e)
+ended_more (Stored n) s from more e = absurd ((reads_phase (Stored n) s (λ h. cc)).going from e)
+ended_more Table s from more e = absurd ((reads_phase Table s (λ h. cc)).going from e)
+ended_more (Order literals distances n) s from more e = absurd ((reads_phase (Order literals distances n) s (λ h. cc)).going from e)
+ended_more (Lengths literals distances) s from more e = absurd ((reads_phase (Lengths literals distances) s (λ h. cc)).going from e)
+ended_more Symbols s from more e = absurd ((reads_phase Symbols s (λ h. cc)).going from e)
+ended_more (Literal byte) s from more e = absurd ((reads_phase (Literal byte) s (λ h. cc)).going from e)
+ended_more (phase.Copy n back) s from more e = absurd ((reads_phase (phase.Copy n back) s (λ h. cc)).going from e)
+ended_more Trailer s from more e = absurd ((reads_phase Trailer s (λ h. cc)).going from e)
+ended_more phase.Ended s from more e = refl
+
 -- where bits are missing there is room for another byte
 pub room : {X : Type 0} (p : Phase) (s : Stand) (from : List ℕ) (result : Result X Stop) (new : Stand) (rest : List ℕ) → Moves (after_phase p s from) result new rest
     → IfErr result (λ stop. stop ≡ Short → length from < 48)

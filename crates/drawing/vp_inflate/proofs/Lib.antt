@@ -2,7 +2,6 @@ pub mod BitWords
 pub mod CodeWords
 pub mod SymbolWords
 pub mod TableWords
-pub mod Rings
 pub mod Readings
 pub mod ElementReadings
 pub mod Leading

@@ -5,7 +5,7 @@ pub mod Tables
 pub mod Pieces
 pub mod Ranges
 pub mod Unpacking
+pub mod Fronts
 pub mod Phases
-pub mod Windows
 pub mod Standing
 pub mod Reaching

@@ -1,12 +1,12 @@
 -- What bytes say as a whole, and where the machine stands in them.
-use Rattle.std.specs.Prelude.{◌≡◌, ℕ, ◌<◌, ◌≤◌, List, ◌∷◌, ◌++◌, length, reverse, Result, Ok, Err, Option, Some, None}
+use Rattle.std.specs.Prelude.{◌≡◌, ℕ, ◌+◌, ◌*◌, ◌<◌, ◌≤◌, List, ◌∷◌, ◌++◌, length, reverse, Result, Ok, Err, Option, Some, None}
 use Rattle.vp_inflate.specs.declared.fault.Stop.{Stop}
 use Rattle.vp_inflate.specs.declared.fault.Stop.TheVariants.{Short, Ended}
 use Rattle.vp_inflate.specs.declared.inflate.Inflate.{Inflate}
 use Rattle.vp_inflate.specs.Bits.{bits, bits_of}
 use Rattle.vp_inflate.specs.Unpacking.{Stand, start, element, after}
+use Rattle.vp_inflate.specs.Fronts.{run}
 use Rattle.vp_inflate.specs.Standing.{stand}
-use Rattle.vp_inflate.specs.Windows.{Keeps}
 
 -- some elements of these bytes lead to a place, behind which these bits are left
 abbrev pub Leads : List ℕ → Stand → List ℕ → Type 0
@@ -30,14 +30,19 @@ abbrev pub IsNeeded : Stand → List ℕ → Type 0
 IsNeeded s held = 8 ≤ length held →
     (before : List ℕ) × (byte : ℕ) × (held ≡ before ++ bits 8 byte) × (element s before ≡ Err Short)
 
--- the machine took these bytes and put out others: it stands where they lead, whatever follows them
+-- the machine took these bytes and put out others: it stands where so many elements lead, no more than there
+-- were bits and bytes, whatever follows them; so what these bytes begin with is what was put out
 pub record Stands (machine : Inflate) (taken put : List ℕ) : Type 0 where
-  pub out : List ℕ
-  pub out_is : reverse out ≡ put
-  pub keeps : Keeps machine.window out
-  pub leads : (more : List ℕ)
-      → Leads (taken ++ more) (stand machine.reader out) (machine.reader.held ++ bits_of more)
-  pub needed : IsNeeded (stand machine.reader out) machine.reader.held
+  pub steps : ℕ
+  pub few : steps + length machine.reader.held ≤ 8 * length taken + length put
+  pub leads : (more : List ℕ) → after steps start (bits_of (taken ++ more))
+      ≡ Ok (stand machine.reader (reverse put), machine.reader.held ++ bits_of more)
+  pub needed : IsNeeded (stand machine.reader (reverse put)) machine.reader.held
+  pub runs : (more : List ℕ) (n room : ℕ) → length put < room
+      → run (steps + n) room start (bits_of (taken ++ more))
+      ≡ run n room (stand machine.reader (reverse put)) (machine.reader.held ++ bits_of more)
+  pub fills : (more : List ℕ) (n : ℕ)
+      → run (steps + n) (length put) start (bits_of (taken ++ more)) ≡ Ok (reverse put)
 
 -- the bytes with one more, or none
 abbrev pub with : Option ℕ → List ℕ → List ℕ
@@ -49,17 +54,8 @@ abbrev pub one : Option ℕ → ℕ
 one None = 0
 one (Some byte) = 1
 
--- what one element more does to the machine, by the bytes that it put out before
-pub record Advances (old new : Inflate) (out : List ℕ) (byte : Option ℕ) : Type 0 where
-  pub keeps : Keeps new.window (with byte out)
-  pub element_is : element (stand old.reader out) old.reader.held
-      ≡ Ok (stand new.reader (with byte out), new.reader.held)
-
+-- what one element more does to the machine, by the bytes that it put out before, or why there is none
 abbrev pub AdvancesOr : Inflate → Result (Option ℕ) Stop → Inflate → List ℕ → Type 0
-AdvancesOr old (Ok byte) new out = Advances old new out byte
+AdvancesOr old (Ok byte) new out = element (stand old.reader out) old.reader.held
+    ≡ Ok (stand new.reader (with byte out), new.reader.held)
 AdvancesOr old (Err stop) new out = element (stand old.reader out) old.reader.held ≡ Err stop
-
-abbrev pub PutsOr : Inflate → Result ℕ Stop → Inflate → List ℕ → Type 0
-PutsOr old (Ok byte) new out = Keeps new.window (byte ∷ out)
-    × (element (stand old.reader out) old.reader.held ≡ Ok (stand new.reader (byte ∷ out), new.reader.held))
-PutsOr old (Err stop) new out = element (stand old.reader out) old.reader.held ≡ Err stop

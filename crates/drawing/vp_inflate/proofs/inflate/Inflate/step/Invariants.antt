@@ -4,9 +4,11 @@ use Rattle.vp_inflate.proofs.inflate.Inflate.step.Given as goal
 
 abbrev pub invariant-loop-put : goal.invariant-loop-put
 invariant-loop-put l = record {
-  stands : (t o : List ℕ) → Stands l.fn.self t o → Stands l.self (t ++ take l.taken l.input) (o ++ take l.put l.output);
+  stands : (t : List ℕ) → Stands l.fn.self t (take l.filled l.fn.output) → Stands l.self (t ++ take l.taken l.input) (take l.put l.output);
   taken : l.taken ≤ length l.input;
   put : l.put ≤ length l.output;
+  further : l.filled ≤ l.put;
+  kept : take l.filled l.output ≡ take l.filled l.fn.output;
   rest : drop l.put l.output ≡ drop l.put l.fn.output;
 }
 

@@ -1,0 +1,3 @@
+pub mod Crcs
+pub mod Signs
+pub mod Joins
