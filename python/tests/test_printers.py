@@ -1,6 +1,8 @@
 """Printers: faults, bad input, bounds, what is held, and threads."""
+import copy
 import gc
 import pathlib
+import pickle
 import signal
 import subprocess
 import sys
@@ -21,6 +23,41 @@ HALF_A_RASTER = b'\x1dv0\0\x01\0\x02\0\x80'
 
 def feeds(count):
     return b'\x1bJ\x01' * count
+
+
+class Anew(unittest.TestCase):
+    def test_a_print_takes_nothing_from_the_one_before(self):
+        kept = vp.Receipt()
+        streams = [RECEIPT, b'\x1bL page', b'\x1b\x7f', HALF_A_RASTER, b'\x1dL\x40\0open', b'A\n']
+        for before in streams:
+            for stream in streams:
+                kept.print(before)
+                again, new = kept.print(stream), vp.Receipt().print(stream)
+                self.assertEqual((again.pbm(), again.fault), (new.pbm(), new.fault))
+
+    def test_of_a_label_no_copies_are_left(self):
+        kept = vp.Label(most_images=3)
+        with self.assertRaises(vp.TooMuchPaper):
+            kept.print(b'^XA^PW8^LL8^CF0,60^PQ99999999^FO0,0^GB8,8^FS^XZ')
+        self.assertEqual(kept.print(b'^XA^FO0,0^GB8,8^FS^XZ').pbm(), vp.Label().print(b'^XA^FO0,0^GB8,8^FS^XZ').pbm())
+
+    def test_behind_a_bound_and_in_each_thread(self):
+        kept, heights = vp.Receipt(most_rows=40), []
+        with self.assertRaises(vp.TooMuchPaper):
+            kept.print(feeds(100))
+        threads = [threading.Thread(target=lambda: heights.append([it.height for it in kept.print(feeds(2))]))
+                   for _ in range(8)]
+        for it in threads:
+            it.start()
+        for it in threads:
+            it.join()
+        self.assertEqual(heights, [[1, 1]] * 8)
+
+    def test_it_is_copied_without_its_printer(self):
+        kept = vp.Receipt()
+        kept.print(b'A\x1b\x7f')
+        for copied in copy.deepcopy(kept), pickle.loads(pickle.dumps(kept)):
+            self.assertEqual(copied.print(b'A\n').pbm(), kept.print(b'A\n').pbm())
 
 
 class Faults(unittest.TestCase):

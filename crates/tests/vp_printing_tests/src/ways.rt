@@ -65,7 +65,7 @@ fn cut_into_bytes(printer: &mut Printer, bytes: &[u8], paper: &mut Vec<u8>) -> R
 }
 
 /// What a printer comes to behind a stream that ends in this fault.
-fn end(fault: Option<Fault>) -> State {
+pub fn end(fault: Option<Fault>) -> State {
     match fault {
         None | Some(Fault::Truncated | Fault::Unprinted) => State::More,
         Some(fault) => State::Stopped(fault),
