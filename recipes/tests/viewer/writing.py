@@ -49,7 +49,7 @@ def test_help(browser):
     type_at(browser, '^BX', more=-1)
     browser.wait(f"{HELP}.includes('Field Origin') && {HELP}.includes('from the top; 0 to 32,000; else 0')", 'help')
     type_at(browser, 'BXN', more=2)
-    browser.wait(f"{HELP}.includes('Data Matrix') && {HELP}.includes('read past')", 'what is read past')
+    browser.wait(f"{HELP}.includes('Data Matrix Bar Code') && !{HELP}.includes('read past')", 'what is drawn')
     type_at(browser, '90,80', more=1)
     browser.wait(f"{HELP}.includes('Graphic Box') && {HELP}.includes('width in dots; 1 to 32,000; else t')", 'a width')
     shown(browser, 'shipping.zpl')
