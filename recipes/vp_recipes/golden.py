@@ -11,8 +11,7 @@ prints standard input as vp does; without it, it is vp in the language that the 
 The stream STREAMS/NAME has its images in EXPECTED/NAME.pbm, the line of the fault that it ends in in
 EXPECTED/NAME.fault, in EXPECTED/NAME.skipped what vp skips of it and a printer would print. Each stream is written
 anew first (recipes/expand) and printed by the whole language, as show does it; what was so is in EXPECTED/NAME.anew.
---as-it-came prints it by the profile alone. README files, hidden files,
-PATTERNs and these outputs are no streams.
+--as-it-came prints it by the profile alone. README files, hidden files, PATTERNs and these outputs are no streams.
 """
 import argparse
 import contextlib

@@ -3,9 +3,10 @@
 Takes the next number in FOLDER (or VP_JOB_NUMBER, which its caller took by making NUMBER.bin), keeps the stream as
 NUMBER.bin and what COMMAND prints of it as NUMBER.png, of several labels as NUMBER-1.png and so on. Without COMMAND it
 is vp in the stream's language, with the shipped sheets, by the whole language, or with --as-it-came by the profile
-alone. --expand writes the stream anew before it is printed (recipes/expand); NUMBER.bin is the one that came. What COMMAND says is kept as NUMBER.txt. What became of the job
-is a line of FOLDER/log, and of standard error where that is no socket. Each file is there once it is whole. Where a
-bound is reached the rest is left out, and the log says so; it also says which signal ended a job.
+alone. --expand writes the stream anew before it is printed (recipes/expand); NUMBER.bin is the one that came. What
+COMMAND says is kept as NUMBER.txt. What became of the job is a line of FOLDER/log, and of standard error where that is
+no socket. Each file is there once it is whole. Where a bound is reached the rest is left out, and the log says so; it
+also says which signal ended a job.
 
 Status 0; 1 where the stream has a fault, or prints more than it may; 2 to 4 and 125 as vp's, 3 also where FOLDER can't
 be written, as on a full disk; 5 where COMMAND was killed, ended as vp doesn't, or didn't print what vp prints.
@@ -119,8 +120,8 @@ def done(number: str, given: argparse.Namespace) -> Tuple[str, int]:
 
 
 def main() -> int:
-    parser = argparse.ArgumentParser(usage='job [--expand] [--as-it-came] [--most-rows N ..] FOLDER [COMMAND..] < STREAM',
-                                     description=__doc__, formatter_class=argparse.RawDescriptionHelpFormatter,
+    usage = 'job [--expand] [--as-it-came] [--most-rows N ..] FOLDER [COMMAND..] < STREAM'
+    parser = argparse.ArgumentParser(usage=usage, description=__doc__, formatter_class=argparse.RawDescriptionHelpFormatter,
                                      allow_abbrev=False)
     parser.add_argument('folder', metavar='FOLDER', help='where jobs are kept')
     parser.add_argument('command', metavar='COMMAND', nargs=argparse.REMAINDER, help='what prints, as vp does')

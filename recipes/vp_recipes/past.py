@@ -2,8 +2,9 @@
 
 Each command of a symbol that is refused (F2, F3, F4) is cut out, at most 100 of these, and by the profile also each
 lead and byte that begin no known command (F1); each is said with its place, and the rest is printed. WORD.. run vp;
-without them vp receipt --whole with the shipped sheets, or with --as-it-came the same by the profile. Status 1 where anything was cut out, or another fault is left. --most-rows,
---most-bytes, --most-images and --most-seconds say where a print ends that goes on and on, N or none.
+without them vp receipt --whole with the shipped sheets, or with --as-it-came the same by the profile. Status 1 where
+anything was cut out, or another fault is left. --most-rows, --most-bytes, --most-images and --most-seconds say where a
+print ends that goes on and on, N or none.
 """
 import os
 import re

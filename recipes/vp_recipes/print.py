@@ -6,9 +6,9 @@ By the whole language; print --as-it-came .. by the profile alone.
 what was printed before is kept, a line says which was reached, and the status is 1. Else the status is vp's.
 
 print --guess < STREAM says the language, and prints nothing; print [--as-it-came] --words LANGUAGE says the words that
-run vp, one a line; print --languages < NAMES says the language of each file, before its name, a line each. print --expand
-[--table CODEC] [--from CODEC] [COMMAND..] < STREAM writes the stream anew first (recipes/expand) and prints it by
-COMMAND, in place of vp; a fault is told in the bytes that came.
+run vp, one a line; print --languages < NAMES says the language of each file, before its name, a line each. print
+--expand [--table CODEC] [--from CODEC] [COMMAND..] < STREAM writes the stream anew first (recipes/expand) and prints it
+by COMMAND, in place of vp; a fault is told in the bytes that came.
 
 `many` has a folder printed by print --batch [--sums] [--expand] [--most-rows N ..] COMMAND.. -- STREAMS OUT NAME.. and
 asks by print --in-process COMMAND.. whether one process does as well for all of its streams.

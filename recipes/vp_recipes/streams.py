@@ -11,8 +11,8 @@ from .kinds import kind
 from .program import run
 from .vp.commands import Items, becomes, code_of, first_byte, named, raw, rows, skipped, table
 
-__all__ = ['GUESSED', 'LANGUAGES', 'WHOLE', 'Items', 'becomes', 'code_of', 'first_byte', 'guess', 'items_of', 'lines_of',
-           'listing', 'may_skip', 'named', 'raw', 'rows', 'skipped', 'table']
+__all__ = ['GUESSED', 'LANGUAGES', 'WHOLE', 'Items', 'becomes', 'code_of', 'first_byte', 'guess', 'items_of',
+           'lines_of', 'listing', 'may_skip', 'named', 'raw', 'rows', 'skipped', 'table']
 LANGUAGES = 'receipt', 'label'
 # Has vp read the whole language, and not the profile alone.
 WHOLE = '--whole'

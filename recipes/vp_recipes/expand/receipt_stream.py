@@ -292,11 +292,11 @@ class Writer(TextWriter):
     # ---- symbols
 
     def bar_code(self, unit: Unit, arguments: bytes) -> None:
-        kind = arguments[0]
+        kind, data = arguments[0], arguments[2:]
         if kind in DRAWN_BARS:
             self.drawn(unit, f'GS k {kind}: {DRAWN_BARS[kind]}')
         elif kind in BARS:
-            self.symbol(unit, f'GS k {kind}', BARS[kind], lambda: (of_bars(kind, arguments[2:]), self.module, self.bars))
+            self.symbol(unit, f'GS k {kind}', BARS[kind], lambda: (of_bars(kind, data), self.module, self.bars))
         else:
             self.refused(unit, f'GS k {kind}: a bar code that is not known: it is left out')
 
