@@ -48,7 +48,7 @@ const said = it => [it.what, it.range, it.default && `else ${it.default}`].filte
 /** Shows help for the command at a byte. */
 export function helpAt(tab, byte) {
   const found = commandAt(tab, byte);
-  const now = JSON.stringify([found, tab.language]);
+  const now = JSON.stringify([found, tab.language, desk.anew]);
   const box = find('help');
   if (box.dataset.shown === now) return;
   box.dataset.shown = now;

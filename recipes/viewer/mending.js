@@ -50,7 +50,7 @@ function unknown({ language }, { text }) {
   const fate = fateOf(language, name);
   const by = { expanded: '; recipes/show draws it', 'left out': '; recipes/show leaves it out' }[fate?.becomes] ?? '';
   return { text: fate ? `this command ${fate.what}, and vp's profile hasn't it${by}`
-    : 'no command that is known; recipes/past prints what stands behind it' };
+    : 'no command that is known; with “all of it” it is read past' };
 }
 
 /** The symbol that a fault is about, of a label's field or a receipt's command; null where none is found. */

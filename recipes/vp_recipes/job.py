@@ -121,8 +121,8 @@ def done(number: str, given: argparse.Namespace) -> Tuple[str, int]:
 
 def main() -> int:
     usage = 'job [--expand] [--as-it-came] [--most-rows N ..] FOLDER [COMMAND..] < STREAM'
-    parser = argparse.ArgumentParser(usage=usage, description=__doc__, formatter_class=argparse.RawDescriptionHelpFormatter,
-                                     allow_abbrev=False)
+    parser = argparse.ArgumentParser(usage=usage, description=__doc__, allow_abbrev=False,
+                                     formatter_class=argparse.RawDescriptionHelpFormatter)
     parser.add_argument('folder', metavar='FOLDER', help='where jobs are kept')
     parser.add_argument('command', metavar='COMMAND', nargs=argparse.REMAINDER, help='what prints, as vp does')
     parser.add_argument('--expand', action='store_true', help='writes the stream anew before it is printed')
