@@ -356,10 +356,9 @@ class Writer(TextWriter):
             symbol, narrow, height = make()
             if not symbol.data:
                 raise zint.Refused('there are no data')
-            wide = symbols.wide_of_receipt(narrow)
             if symbol.name == 'DataBar' and symbol.form == 'fixed':
                 height = max(height, 13 * narrow)
-            drawing = symbols.Drawing(narrow, wide, height, self.shown in (1, 3), self.shown in (2, 3),
+            drawing = symbols.Drawing(narrow, narrow, height, self.shown in (1, 3), self.shown in (2, 3),
                                       self.lines.cells(self.shown_font))
             found = symbols.picture(symbol, drawing)
         except zint.Refused as why:
