@@ -38,8 +38,8 @@ def command_of(given: List[str], expands: bool, as_it_came: bool) -> List[str]:
     """The words that a user gave to print with, if any. What is written anew they print by the whole language."""
     if expands and as_it_came:
         raise program.Fault('--expand writes each stream anew, and --as-it-came does not', 2)
-    command: List[str] = program.direct(given) if given else []
-    return words.whole(command) if expands else command
+    command: List[str] = program.direct(words.whole(given) if expands else given) if given else []
+    return command
 
 
 def package_of(command: List[str]) -> Any:
