@@ -65,12 +65,14 @@ def read(path: Match[str], query: Dict[str, str], accept: str) -> Order:
     index = query.get('index', index)
     if index is not None and not re.fullmatch(r'\d{1,4}', index):
         raise ValueError('index is a number from 0 to 9999')
-    expands, as_it_came = (query.get(it, 'no') for it in ('expand', 'as-it-came'))
-    if expands not in ('yes', 'no') or as_it_came not in ('yes', 'no') or expands == as_it_came == 'yes':
-        raise ValueError('expand and as-it-came are yes or no, and not both yes')
+    wrong = [it for it in ('expand', 'as-it-came') if query.get(it, 'no') not in ('yes', 'no')]
+    if wrong:
+        raise ValueError(f'{wrong[0]} is yes or no')
+    expands, as_it_came = (query.get(it) == 'yes' for it in ('expand', 'as-it-came'))
+    if expands and as_it_came:
+        raise ValueError('expand writes a stream anew, and as-it-came does not')
     made = Order('label', form or accepted(accept), rotation=int(rotation),
-                 nth=int(index) if index is not None else None, expands=expands == 'yes',
-                 as_it_came=as_it_came == 'yes')
+                 nth=int(index) if index is not None else None, expands=expands, as_it_came=as_it_came)
     if receipt:
         return made._replace(language='receipt', width=WIDTHS[receipt])
     size = tuple(int(float(it) * INCH * int(dpmm) + 1e-6) for it in (wide, high))
