@@ -80,19 +80,19 @@ _vp_tools() {
     *)
         # a file, unless an option is begun
         case $tool:$word in
-        vp-device:-*) options='--help --listen --port --http --token --state --state-file --script --busy --buffer --language --idle --at-once --while-stdin --share --store --expand --most-rows --most-bytes --most-images --most-seconds' ;;
+        vp-device:-*) options='--help --listen --port --http --token --state --state-file --script --busy --buffer --language --idle --at-once --while-stdin --share --store --expand --as-it-came --most-rows --most-bytes --most-images --most-seconds' ;;
         vp-expand:-*) options='--help --lang --table --from --nearest --keep-sizes --map --store --now --font-a --tell' ;;
         vp-face:-*) options='--help --wide --between --table --chars --text' ;;
         vp-golden:-*) options='--help --report --junit --ignore --incomplete --prune --as-it-came --most-rows --most-bytes --most-images --most-seconds' ;;
-        vp-job:-*) options='--help --expand --most-rows --most-bytes --most-images --most-seconds' ;;
-        vp-lint:-*) options='--help --lang --font-a --font-b --known --write-known --most-rows --most-bytes --most-images --most-seconds' ;;
-        vp-many:-*) options='--resume --sums --on --expand --lang --most-rows --most-bytes --most-images --most-seconds --help' ;;
+        vp-job:-*) options='--help --expand --as-it-came --most-rows --most-bytes --most-images --most-seconds' ;;
+        vp-lint:-*) options='--help --lang --font-a --font-b --known --write-known --as-it-came --most-rows --most-bytes --most-images --most-seconds' ;;
+        vp-many:-*) options='--resume --sums --on --expand --as-it-came --lang --most-rows --most-bytes --most-images --most-seconds --help' ;;
         vp-paper:-*) options='--help --each --dpmm --most-rows --most-bytes --most-images --most-seconds' ;;
-        vp-past:-*) options='--most-rows --most-bytes --most-images --most-seconds --help' ;;
-        vp-print:-*) options='--most-rows --most-bytes --most-images --most-seconds --guess --words --languages --expand --table --from --batch --sums --in-process --help' ;;
+        vp-past:-*) options='--as-it-came --most-rows --whole --most-bytes --most-images --most-seconds --help' ;;
+        vp-print:-*) options='--most-rows --as-it-came --most-bytes --most-images --most-seconds --guess --words --languages --expand --table --from --batch --sums --in-process --help' ;;
         vp-sheet:-*) options='--help --font --table --face --blank' ;;
         vp-show:-*) options='--help --lang --font-a --font-b --to --as-it-came --table --from --open --most-rows --most-bytes --most-images --most-seconds' ;;
-        vp-text:-*) options='--help --lang --table --most-rows --most-bytes --most-images --most-seconds' ;;
+        vp-text:-*) options='--help --lang --table --as-it-came --most-rows --most-bytes --most-images --most-seconds' ;;
         vp-viewer:-*) options='--help --lang --width --font-a --font-b --port --as-it-came --open' ;;
         esac
         ;;

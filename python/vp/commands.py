@@ -44,9 +44,10 @@ def rows() -> List[List[str]]:
 
 @functools.lru_cache(None)
 def table() -> Dict[Tuple[str, str], Tuple[bool, str]]:
-    """The commands that are read past: by language and command whether the paper shows them, and what they do."""
-    return {(language, command): (shows == 'yes', what) for language, command, shows, _, what in rows()
-            if shows in ('yes', 'no')}
+    """The commands that are read past, by the profile or by the whole language: by language and command whether the
+    paper shows them, and what they do."""
+    return {(language, command): (shows != 'no' and becomes != 'left out', what)
+            for language, command, shows, becomes, what in rows() if shows != 'prints'}
 
 
 @functools.lru_cache(None)
@@ -56,8 +57,9 @@ def becomes() -> Dict[Tuple[str, str], str]:
 
 
 def skipped(items: Iterable[Tuple[Optional[int], str]], language: str) -> Iterator[Tuple[int, str]]:
-    """What is read and not printed: the number of the item and the command, as the table has it."""
-    known = table()
+    """What is read and not printed: the number of the item and the command, as the table has it; of a receipt's command
+    that isn't known the lead and the byte behind it."""
+    known, all_known = table(), becomes()
     leads = {command.partition(' ')[0] for of, command in known if of == language}
     for n, (_, text) in enumerate(items):
         if language == 'label':
@@ -69,10 +71,10 @@ def skipped(items: Iterable[Tuple[Optional[int], str]], language: str) -> Iterat
         words = text.split(' ')
         if words[:3] == ['gs', '28', '6b'] and words[5:6] == [QR]:
             continue
-        for command in ' '.join(words[:3]), ' '.join(words[:2]):
-            if (language, command) in known:
-                yield n, command
-                break
+        names = ' '.join(words[:3]), ' '.join(words[:2])
+        command = next((it for it in names if (language, it) in all_known), names[1])
+        if (language, command) in known or (language, command) not in all_known:
+            yield n, command
 
 
 def code_of(text: str) -> bytes:

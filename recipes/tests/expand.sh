@@ -34,17 +34,17 @@ anew() {
     grep -q Traceback "$room/said" && fail "$name: a traceback"
     return 0
 }
-printed() { "$vp" label --font-a examples/font-a.pbm "$room/new" >"$room/paper" || fail "$name doesn't print"; }
+printed() { "$vp" label --whole --font-a examples/font-a.pbm "$room/new" >"$room/paper" || fail "$name doesn't print"; }
 
 # places: the fault of the new stream, and its listing, in the bytes of the old one
-printf 'Caf\303\251\n\033\177x' | anew 1 fault.bin --from utf-8
+printf 'Caf\303\251\n\033\177x\033E' | anew 1 fault.bin --from utf-8
 says '^byte 3: letters are written'
-says '^byte 6: ESC 7f is no command that is known: nothing behind it is printed$'
-"$vp" receipt "$room/new" 2>"$room/line" >"$room/paper" && fail 'no fault'
-grep -q '^vp: F1 after 10 bytes' "$room/line" || fail 'the fault stands elsewhere'
-[ "$("$expand" --tell "$room/map" <"$room/line")" = 'vp: F1 after 8 bytes: unknown command 1B 7F' ] ||
+says '^byte 6: ESC 7f is no command that is known: it is read past$'
+"$vp" receipt --whole "$room/new" 2>"$room/line" >"$room/paper" && fail 'no fault'
+grep -q '^vp: F8 after 13 bytes' "$room/line" || fail 'the fault stands elsewhere'
+[ "$("$expand" --tell "$room/map" <"$room/line")" = 'vp: F8 after 11 bytes: input ends inside a command' ] ||
     fail "a fault's place isn't told in the old bytes"
-"$vp" list --lang receipt --offsets "$room/new" 2>"$room/line" | "$expand" --tell "$room/map" >"$room/listed"
+"$vp" list --lang receipt --whole --offsets "$room/new" 2>"$room/line" | "$expand" --tell "$room/map" >"$room/listed"
 grep -qx '5 char 82' "$room/listed" && grep -qx '6 LF' "$room/listed" || fail "a listing's places"
 is 3 'a map that is none' "$expand" --tell "$room/fault.bin"
 says 'line 1 is no piece of a map$'
@@ -65,11 +65,11 @@ printf '^XA^DFR:A.ZPL^FS^XFR:A.ZPL^FS^GB9,9,1^FS^XZ^XA^XFR:A.ZPL^FS^XZ' | anew 1
 says '^byte 46: \^XFR:A.ZPL recalls formats that recall it$'
 printed
 printf '^XA^FO9,9^BUN,40^FDletters^FS^FO9,9^B0N,4^FD^FS^FO0,0^GB9,9,1^FS^XZ' | anew 1 refused.zpl
-says '^byte 9: \^BU: its data are not digits$'
+says '^byte 9: \^BU: its data have a sign that it has not$'
 printed
 printf 'a\035/\000\034p\001\000\035k\000abc\000\033K\001b\n' | anew 1 refused.bin
 for line in 'byte 1: GS / prints a picture that is not stored' 'byte 4: FS p 01 00 prints a picture that is not stored' \
-    'byte 8: GS k 0: UPC-A: its data are not digits' 'byte 15: ESC K feeds the paper back: it is left out'; do says "^$line"; done
+    'byte 8: GS k 0: UPC-A: its data have a sign that it has not: it is not printed' 'byte 15: ESC K feeds the paper back: it is left out'; do says "^$line"; done
 printf 'ab\n' | cmp - "$room/new"
 
 # a few bytes that unpack to a gigabyte are refused at the size that their head says
@@ -86,8 +86,8 @@ status=0
 says '^byte 9: \^GF: its packed data are more than the 80 bytes that its head says$'
 
 # without zint a frame stands there, and no data
-printf '^XA^PW300^LL200^FO9,9^BXN,9,200^FDsecret^FS^XZ' | VP_ZINT=/nonexistent anew 1 frame.zpl
-says '^byte 21: \^BX: Data Matrix needs zint: a frame stands in its place$'
+printf '^XA^PW300^LL200^FO9,9^BFN,9^FDsecret^FS^XZ' | VP_ZINT=/nonexistent anew 1 frame.zpl
+says '^byte 21: \^BF: MicroPDF417 needs zint: a frame stands in its place$'
 grep -q secret "$room/new" && fail 'the data stand in the new stream'
 printed
 

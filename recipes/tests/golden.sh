@@ -5,9 +5,9 @@ set -- "$vp" receipt --font-a "$root/examples/font-a.pbm" --font-b "$root/exampl
 golden=$root/recipes/golden streams=$room/streams golds=$room/golds report=$room/report
 mkdir "$streams"
 cp examples/*.bin "$streams"
-printf 'before\n\033\177after\n' >"$streams/fault.bin"
+printf 'before\n\033E' >"$streams/fault.bin"
 is 1 'accept of a fault' "$golden" accept "$streams" "$golds" -- "$@"
-says '^fault.bin: not accepted; it ends in a fault, vp: F1 after 9 bytes: unknown command 1B 7F; --incomplete takes it over$'
+says '^fault.bin: not accepted; it ends in a fault, vp: F8 after 9 bytes: input ends inside a command; --incomplete takes it over$'
 [ ! -e "$golds/fault.bin.pbm" ] || fail 'a fault is accepted without a word'
 is 0 'accept' "$golden" accept "$streams" "$golds" --incomplete -- "$@"
 is 0 'check of what was accepted' "$golden" check "$streams" "$golds" --report "$report" -- "$@"
@@ -15,10 +15,10 @@ is 0 'check of what was accepted' "$golden" check "$streams" "$golds" --report "
 "$@" examples/receipt.bin | cmp - "$golds/receipt.bin.pbm"
 # one dot more, the last but one of first.bin's raster of 16 dots by 2; and the fault elsewhere
 { head -c 9 examples/first.bin; printf '\003'; } >"$streams/first.bin"
-printf 'before\n\033\176after\n' >"$streams/fault.bin"
+printf 'before\n\033' >"$streams/fault.bin"
 is 1 'check of a changed dot' "$golden" check "$streams" "$golds" --report "$report" -- "$@"
 says '^first.bin: 1 dot differs, in row 1; drawn by bytes 0 to 9, \\x1Dv0\\x00\\x01\\x00\\x02\\x00\\x80\\x03$'
-says '^fault.bin: .*the fault is to be .*1B 7F and is .*1B 7E'
+says '^fault.bin: .*the fault is to be .*after 9 bytes: .* and is .*after 8 bytes: '
 says '^2 of 4 streams'
 for place in '6 ffffff' '598 000000' '1190 005adc' '1191 969696' '1200 ffffff'; do
     colour=$(testing dot "$report/002-first.bin.png" "${place% *}" 1)
@@ -52,13 +52,13 @@ mkdir "$streams"
 cp examples/*.bin examples/*.zpl "$streams"
 printf 'Caf\177\n' >"$streams/cafe.bin"
 printf '   \n' >"$streams/white.bin"
-printf 'before\n\033\177after\n' >"$streams/fault.bin"
+printf 'before\n\033E' >"$streams/fault.bin"
 touch "$streams/.gitkeep" "$streams/README.md"
 echo note >"$streams/notes.txt"
 is 0 'accept without words' "$golden" accept "$streams" "$golds" --incomplete --ignore '*.txt'
 says '^cafe.bin: accepted; the sheet has no character for 7F once$'
 says '^white.bin: accepted; its paper is all white$'
-says '^fault.bin: accepted; it ends in a fault, vp: F1 after 9 bytes: unknown command 1B 7F$'
+says '^fault.bin: accepted; it ends in a fault, vp: F8 after 9 bytes: input ends inside a command$'
 says '^shelf.zpl: accepted$'
 says '^8 of 8 streams taken over$'
 is 0 'accept again' "$golden" accept "$streams" "$golds" --ignore '*.txt'
@@ -189,28 +189,30 @@ is 0 'check of any names' "$golden" check "$streams" "$golds" --report "$room/na
 
 # a stream is written anew first, which its image keeps beside it: other data are a difference
 mkdir "$room/anew"
-printf '^XA^PW300^LL60^FO9,9^AZN,24,12^FVNAME JOHN^FS^FO200,9^GC40,3^FS^XZ' >"$room/anew/name.zpl"
+printf '^XA^PW300^LL60^FO9,9^AZN,24,12^FVNAME JOHN^FS^FO200,9^GB40,40,3,B,8^FS^FO250,9^BY1^BKN,N,20,N^FD123^FS^XZ' >"$room/anew/name.zpl"
 printf 'Cafe \020\024\001\000\005x\n' >"$room/anew/till.bin"
 is 0 'accept of streams anew' "$golden" accept "$room/anew" "$room/anew-golds"
 says '^name.zpl: accepted$'
 says '^till.bin: accepted$'
-echo 'byte 53: ^GC is written as a picture' | cmp - "$room/anew-golds/name.zpl.anew"
+echo 'byte 53: ^GB: a box with round corners is written as a picture' | cmp - "$room/anew-golds/name.zpl.anew"
+[ ! -e "$room/anew-golds/name.zpl.skipped" ] || fail 'what the whole language draws is skipped'
 [ ! -e "$room/anew-golds/till.bin.anew" ] || fail 'something is told of what is left out'
 is 0 'check of streams anew' "$golden" check "$room/anew" "$room/anew-golds"
 sed -i 's/JOHN/MARY/' "$room/anew/name.zpl"
 is 1 'another name' "$golden" check "$room/anew" "$room/anew-golds" --report "$room/anew-report"
 says '^name.zpl: [0-9]* dots differ'
 is 1 'streams as they came' "$golden" check --as-it-came "$room/anew" "$room/anew-golds" --report "$room/anew-report"
-says 'what is written anew is to be byte [0-9]*: ^GC is written as a picture and is none'
+says 'what is written anew is to be byte [0-9]*: ^GB: a box with round corners is written as a picture and is none'
+says 'what is skipped is to be none and is ^FVNAME MARY'
 
 # without zint a symbol is a frame, which is neither compared nor accepted
-printf '^XA^PW300^LL60^FO9,9^BXN,4,200^FDdata^FS^XZ' >"$room/anew/matrix.zpl"
+printf '^XA^PW300^LL60^FO9,9^BFN,4^FDdata^FS^XZ' >"$room/anew/micro.zpl"
 for what in accept check; do
     is 2 "$what without zint" env VP_ZINT="$room/no-zint" "$golden" "$what" "$room/anew" "$room/anew-golds"
-    says '^golden: .*/matrix.zpl: .*zint is not installed, so this is not compared'
+    says '^golden: .*/micro.zpl: .*zint is not installed, so this is not compared'
 done
-[ ! -e "$room/anew-golds/matrix.zpl.pbm" ] || fail 'a frame is accepted'
-rm "$room/anew/matrix.zpl"
+[ ! -e "$room/anew-golds/micro.zpl.pbm" ] || fail 'a frame is accepted'
+rm "$room/anew/micro.zpl"
 # in a CI nothing is accepted
 is 2 'accept in a CI' env CI=true "$golden" accept "$room/anew" "$room/anew-golds"
 says '^golden: accept is for where you work: CI is set'

@@ -83,7 +83,9 @@ printf 'Caf\351\n\020\024\001\000\005x\n' >anew.bin
 is 0 'a stream that is written anew' "$job" --expand anew-jobs <anew.bin
 says '^000001 printed$'
 cmp anew.bin anew-jobs/000001.bin
-is 1 'the same as it came' "$job" anew-jobs <anew.bin
+is 0 'the same by the whole language' "$job" anew-jobs <anew.bin
+is 1 'the same as it came' "$job" --as-it-came anew-jobs <anew.bin
+is 2 'both' "$job" --as-it-came --expand anew-jobs <anew.bin
 is 2 'no folder' "$job"
 is 2 'a wrong option' "$job" --wrong
 is 0 'help' "$job" --help

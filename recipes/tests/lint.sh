@@ -14,13 +14,12 @@ cd "$room"
 printf '\033@plain\n' >plain.bin
 {
     printf '^XA^PW400^LL200^MMT^CI28\r\n^FO10,20^A0N,40^FDCa\177\303\251^FS^FO300,20^BY3^BKN,N,100^FD123^FS'
-    printf '^FO9,9^BXN,4^FD1^FS^FO9,9^B7N^FD1^FS^FO350,100^GC50^FS^GD9,9^FS^SN1,1,Y^FS^XFR:A^FS^F0^FN1\r\n'
+    printf '^FO9,9^BXN,4,200^FD1^FS^B7N,4,0,2^FD1^FS^GC50^FS^GD9,9^FS^BTN^FD1^FS^SN1,1,Y^FS^XFR:A^FS^F0^FN1\r\n'
     printf '^FO10,150^A0,40,40^FDtoo long for it^FS^FT10,10^A0,40^FDtop^FS^FO390,0^GB11,9,2^FS^FO390,0^GB10,9,2^FS'
     printf '^LH20,0^FT380,90^BY1^B3R^FD1^FS^LH0,0^FO380,180^BQN,2,2^FDQA,1^FS^XZ'
 } >label.zpl
 is 1 'a label' "$lint" label.zpl
-for line in '^BK prints a Codabar bar code: it is read past' '^BX prints a Data Matrix symbol' '^B7 prints a PDF417' \
-    '^GC prints a circle' '^GD prints a diagonal' '^SN prints a serial number' '^XF prints a stored format' \
+for line in '^BT prints a TLC39 symbol: it is read past' '^SN prints a serial number' '^XF prints a stored format' \
     '^CI chooses a code table' '^F0 is no command that is known' '^FN numbers a field' \
     'byte 7F has no character in the sheet of font A: once' \
     '^A0,40,40 has narrower letters on a printer than the cells of 40 dots here' "the field of ^FT10,10 passes the label's upper edge" \
@@ -29,15 +28,20 @@ for line in '^BK prints a Codabar bar code: it is read past' '^BX prints a Data 
     says "^label.zpl: $place$(printf %s "$line" | sed 's/\^/\\^/g')"
 done
 ! grep -q '\^MM' said || fail 'lint speaks of what no paper shows'
+! grep -q ' prints a \(Codabar\|Data\|PDF\|circle\)' said || fail 'lint speaks of what the whole language draws'
 [ "$(grep -c 'FO390,0' said)" -eq 1 ] || fail 'a box that just fits passes the edge'
 if [ "$has_places" ]; then
-    for line in '19: ^CI' '65: ^BK' '185: ^A0,40,40' '215: the field of ^FT10,10'; do
+    for line in '19: ^CI' '141: ^BT' '190: ^A0,40,40' '220: the field of ^FT10,10'; do
         grep -qF "label.zpl: byte $line " said || { cat said >&2; fail "no $line"; }
     done
 fi
+is 1 'a label by the profile' "$lint" --as-it-came label.zpl
+for line in '^BK prints a Codabar bar code' '^BX prints a Data Matrix symbol' '^GC prints a circle' '^GD prints a diagonal line'; do
+    says "^label.zpl: $place$(printf %s "$line" | sed 's/\^/\\^/g'): it is read past, and drawn by the whole language$"
+done
 {
     printf '\033@\033t\020Ca\351\177\n\033M\001\177\n\034p\001\000\035(L\006\0000E\040\040\001\001'
-    printf '\0358L\001\000\000\000x\033{\001Hi\n\035(k\003\0000A\002\035(k\003\0001C\004\033\177rest'
+    printf '\0358L\001\000\000\000x\033{\001Hi\n\035(k\003\0000A\002\035(k\003\0001C\004\033\177rest\n'
 } >receipt.bin
 is 1 'a receipt' "$lint" receipt.bin
 for line in 'ESC t 10 chooses a code table' 'FS p 01 00 prints a picture that is kept in the printer' 'GS ( L' 'GS 8 L' \
@@ -46,11 +50,13 @@ for line in 'ESC t 10 chooses a code table' 'FS p 01 00 prints a picture that is
     'byte 7F has no character in the sheet of font B: once'; do
     says "^receipt.bin: $place$line"
 done
-says '^receipt.bin: byte 60: F1 unknown command 1B 7F: nothing behind it is printed$'
+says '^receipt.bin: byte 60: ESC 7f is no command that is known$'
 if [ "$has_places" ]; then
     for line in '2: ESC t' '15: FS p' '19: GS ( L'; do says "^receipt.bin: byte $line"; done
 fi
 grep -q '03 00 31' said && fail 'lint speaks of what is printed'
+is 1 'a receipt by the profile' "$lint" --as-it-came receipt.bin
+says '^receipt.bin: byte 60: F1 unknown command 1B 7F: nothing behind it is printed$'
 # a byte that ^FH's digits say begins at the indicator
 printf '^XA^FO9,9^A0N,24^FH^FDCaf_7F_A9^FS^XZ' >hex.zpl
 is 1 'a byte in digits' "$lint" hex.zpl
@@ -120,11 +126,11 @@ says "^$(wc -l <before) lines are known\$"
 sed 's/: byte [0-9]*: /: /' before | cmp - known
 is 0 'a label that is known' "$lint" --known known label.zpl parameters.zpl
 [ ! -s said ] || fail 'what is known is said'
-sed 's/\^XZ/^GC9^FS^GC50^FS^XZ/' label.zpl >more.zpl
+sed 's/\^XZ/^BT9^FS^BT50^FS^XZ/' label.zpl >more.zpl
 mv more.zpl label.zpl
-sed -i '/GD prints/d; 1i# a comment' known
+sed -i '/SN prints/d; 1i# a comment' known
 is 1 'a label with more' "$lint" --known known label.zpl parameters.zpl
-[ "$(grep -c 'GC prints a circle' said)" -eq 2 ] && [ "$(grep -c 'GD prints' said)" -eq 1 ] && [ "$(wc -l <said)" -eq 3 ] ||
+[ "$(grep -c 'BT prints a TLC39' said)" -eq 2 ] && [ "$(grep -c 'SN prints' said)" -eq 1 ] && [ "$(wc -l <said)" -eq 3 ] ||
     { cat said >&2; fail 'what is new is not said'; }
 is 2 'a list without its name' "$lint" --write-known label.zpl
 is 3 'a list that is none' "$lint" --known none label.zpl
@@ -143,6 +149,7 @@ says '^rows.zpl: byte [0-9]*: cut off: it prints more than 100 rows; --most-rows
 printf 'to the paper\n\033=\002TOTAL\033=\001\033(A\002\0000\000\n' >display.bin
 is 1 'text for a display' "$lint" display.bin
 says '^display.bin: byte 13: ESC = 02 chooses whether the printer or a display listens'
+is 1 'the same by the profile' "$lint" --as-it-came display.bin
 says 'F1 unknown command 1B 28, and left out by recipes/expand: nothing behind it is printed$'
 # what is no stream is named
 printf '%%PDF-1.4\n' >form.pdf
@@ -165,7 +172,7 @@ for n in 0 1 20 31 100 250; do
     done
 done
 
-# the table is true: labels skip each of its commands, and receipts read each past
+# the table is true: labels skip each of its commands, but for those of the whole language, and receipts read each past
 cd "$root"
 python3 - <<'END' || fail 'commands.tsv has a command that is read otherwise'
 import sys
@@ -174,14 +181,17 @@ sys.dont_write_bytecode = True
 from vp_recipes import program, streams
 known = streams.table()
 labels = [command for language, command in known if language == 'label']
-items, fault = streams.listing(''.join(labels).encode(), 'label')
-assert [text for _, text in items] == [f'{it} skipped' for it in labels] and not fault, 'labels'
+whole = {command for language, command, shows, *_ in streams.rows() if language == 'label' and shows == 'whole'}
+for is_whole in True, False:
+    items, fault = streams.listing(''.join(labels).encode() + b'^FS', 'label', whole=is_whole)
+    read = whole if is_whole else set()
+    assert [text for _, text in items] == [it if it in read else f'{it} skipped' for it in labels] + ['^FS'] and not fault, 'labels'
 leads = {'esc': b'\x1b', 'gs': b'\x1d', 'fs': b'\x1c', 'dle': b'\x10'}
 for command in (command for language, command in known if language == 'receipt'):
     kind, *rest = command.split(' ')
-    data = leads[kind] + bytes(int(it, 16) for it in rest) + (b'3\0' if command == 'esc 63' else b'\1\0\0\0\0')
+    data = leads[kind] + bytes(int(it, 16) for it in rest) + (b'3\0' if command == 'esc 63' else b'\1') + bytes(99)
     items, _ = streams.listing(data, 'receipt')
     assert [it for _, it in streams.skipped(items, 'receipt')] == [command], command
-    assert program.run(['receipt'], data)[0] == b'', command
+    assert program.run(['receipt', streams.WHOLE], data)[0] == b'', command
 END
 echo 'lint: ok'

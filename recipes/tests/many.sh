@@ -55,9 +55,9 @@ PATH=$room/bin:$path
 papers
 sums
 mkdir "$room/anew"
-printf 'Caf\303\251\020\024\001\000\005\n\033\177' >"$room/anew/till.bin"
+printf 'Caf\303\251\020\024\001\000\005\n\033E' >"$room/anew/till.bin"
 is 1 'streams that are written anew' recipes/many --expand "$room/anew" "$room/anew-out"
-[ "$(cat "$room/anew-out/till.bin.fault")" = 'vp: F1 after 13 bytes: unknown command 1B 7F' ] ||
+[ "$(cat "$room/anew-out/till.bin.fault")" = 'vp: F8 after 13 bytes: input ends inside a command' ] ||
     fail 'a fault is not told in the bytes that came'
 is 2 'other machines without GNU parallel' recipes/many --on far "$many" "$room/out"
 says '^many: --on needs GNU parallel$'

@@ -29,13 +29,17 @@ is 0 'another language' "$show" --lang label "$root/examples/receipt.bin"
 says '/receipt.bin: label: nothing is printed$'
 [ ! -e receipt.png ] || fail 'the PNG of an earlier run stays where nothing is printed'
 # what vp doesn't draw is written anew, and said with its byte in the stream that came; so is a fault's
-printf '^XA^PW200^LL100^FO9,9^GC40,3^FS^CI28^FO60,9^AZN,24,12^FDCaf\303\251^FS^XZ' >anew.zpl
+printf '^XA^PW200^LL100^FO9,9^GB40,40,3,B,8^FS^FO99,9^GC40,3^FS^CI28^FO60,9^AZN,24,12^FDCaf\303\251^FS^XZ' >anew.zpl
 is 0 'written anew' "$show" anew.zpl
-says '^anew.zpl: byte 21: ^GC is written as a picture$'
-says "^anew.zpl: byte 36: letters are written as the sheet's cells\$"
-if grep -q 'skipped\|without a character' said; then fail 'what is written anew is said to be skipped'; fi
-printf 'Caf\303\251\n\033\177' >utf.bin
+says '^anew.zpl: byte 21: ^GB: a box with round corners is written as a picture$'
+says "^anew.zpl: byte 60: letters are written as the sheet's cells\$"
+if grep -q 'GC\|skipped\|without a character' said; then fail 'what is drawn or written anew is said to be skipped'; fi
+printf 'Caf\303\251\n\033\177x\033E' >utf.bin
 is 1 'a fault behind letters' "$show" --from utf-8 utf.bin
+says '^utf.bin: byte 6: ESC 7f is no command that is known: it is read past$'
+says '^utf.bin: vp: F8 after 11 bytes: input ends inside a command$'
+if grep -q skipped said; then fail 'what is said is said twice'; fi
+is 1 'the same as it came' "$show" --as-it-came utf.bin
 says '^utf.bin: vp: F1 after 8 bytes: unknown command 1B 7F$'
 mkdir out
 is 0 'another folder' "$show" --to out "$root/examples/ticket.bin"
@@ -83,7 +87,7 @@ says '^show: .*/killed was ended by SIGKILL$'
 VP=$vp
 # its status is vp's, and each fault a line
 printf 'Hi\n\033\177more\n' >bad.bin
-is 1 'a fault' "$show" bad.bin
+is 1 'a fault' "$show" --as-it-came bad.bin
 says '^bad.bin: vp: F1 after 5 bytes: unknown command 1B 7F$'
 printf '^XA^FO9,9^GFA,80,24,1,:Z64:eJxjYGBgAAAABAAB:1234^FS^XZ' >packed.zpl
 is 1 'a picture that is packed' "$show" --as-it-came packed.zpl
@@ -170,7 +174,9 @@ is 0 'ends of lines' "$root/recipes/text" ends.bin
 printf '%s\n' raster bars 'one line, still' a b c de 'of old' | cmp - said
 is 0 'the text of a label' "$root/recipes/text" two.zpl
 says '^Café'
-is 1 'the text before a fault' "$root/recipes/text" bad.bin
+is 0 'the text behind what is read past' "$root/recipes/text" bad.bin
+printf 'Hi\nmore\n' | cmp - said
+is 1 'the text before a fault' "$root/recipes/text" --as-it-came bad.bin
 says '^Hi$'
 says '^vp: F1 after 5 bytes'
 is 2 'a table that is none' "$root/recipes/text" --table klingon two.zpl
@@ -190,10 +196,15 @@ echo 'text: ok'
 
 printf 'Hi\n\033\177more\n\035\001last\n' >worse.bin
 printf 'Hi\nmore\nlast\n' >good.bin
-"$root/recipes/past" <worse.bin >past.pbm 2>said && fail 'what was cut out is no fault' || [ $? -eq 1 ]
+"$root/recipes/past" --as-it-came <worse.bin >past.pbm 2>said && fail 'what was cut out is no fault' || [ $? -eq 1 ]
 says '^cut out at byte 3: 1B 7F$'
 says '^cut out at byte 10: 1D 01$'
 "$root/recipes/print" <good.bin | cmp - past.pbm
+# the whole language reads them past
+"$root/recipes/past" <worse.bin | cmp - past.pbm
+"$root/recipes/print" <worse.bin | cmp - past.pbm
+"$root/recipes/print" --as-it-came <worse.bin 2>said | cmp - past.pbm >&2 2>/dev/null && fail 'the profile reads them past'
+says '^vp: F1 after 5 bytes'
 "$root/recipes/past" "$vp" receipt --width 384 <worse.bin 2>/dev/null | head -c 9 | grep -q '^384 ' ||
     fail 'other words'
 "$root/recipes/past" <"$root/examples/receipt.bin" | cmp - receipt.pbm
@@ -204,11 +215,15 @@ says '^cut out at byte 29: 1B 7F$'
 says '^cut out at byte 3: GS k 41: F2 symbol: unsupported$'
 says '^cut out at byte 23: GS k 00: F2 symbol: unsupported$'
 says '^cut out at byte 31: GS ( k 03 00 31 51 30: F2 symbol: empty$'
-"$root/recipes/past" <symbols.bin 2>/dev/null >symbols.pbm || true
+"$root/recipes/past" --as-it-came <symbols.bin 2>/dev/null >symbols.pbm || true
 "$root/recipes/print" <good.bin | cmp - symbols.pbm
+is 1 'past those that the whole language refuses' "$root/recipes/past" <symbols.bin
+! grep -q 'cut out at byte 3: \|1B 7F' said || fail 'what is drawn is cut out'
+says '^cut out at byte 23: GS k 00: F2 symbol: length$'
+says '^cut out at byte 31: GS ( k 03 00 31 51 30: F2 symbol: empty$'
 python3 -c 'import sys
 sys.stdout.buffer.write(b"a\n" + b"\x1b\x7f" * 2000 + b"b\n" + b"\x1d\x01" * 2000)' >many.bin
-"$root/recipes/past" <many.bin 2>said >past.pbm || [ $? -eq 1 ]
+"$root/recipes/past" --as-it-came <many.bin 2>said >past.pbm || [ $? -eq 1 ]
 [ "$(wc -l <said)" -eq 4000 ] || fail 'not each is cut out'
 printf 'a\nb\n' | "$root/recipes/print" | cmp - past.pbm
 : | "$root/recipes/past" | cmp - /dev/null

@@ -16,7 +16,7 @@ export const desk = {
   fonts: { a: '', b: '' }, sheetNames: new Map(),
   // what the paper is compared with
   other: null,
-  // whether what vp leaves out is written anew
+  // whether all of a stream is printed: by the whole language, and what vp leaves out written anew
   anew: true,
   // dots a millimetre of paper
   dpmm: 8,

@@ -1,13 +1,14 @@
 // Help: what the command at the cursor is called, its parameters with their ranges and defaults, what vp does of it.
 
-import { find } from './desk.js';
+import { desk, find } from './desk.js';
 import { commandOf, fateOf, helpOf, nameOf } from './known.js';
 import { rowAt } from './rows.js';
 
-const DOES = { yes: 'read past', no: 'read past; paper shows nothing of it', stops: 'stops the print' };
+const DOES = { yes: 'read past', no: 'read past; paper shows nothing of it', whole: 'read past by the profile',
+  stops: 'read past; stops the profile' };
 const HINTS = { label: '^ and ~ offer commands. Ctrl-F finds, Ctrl-/ makes comments.',
   receipt: '\\x1b and \\x1d offer commands. Ctrl-F finds.' };
-const BY = { expanded: ', and recipes/show draws it', said: '', 'left out': '', printed: '' };
+const BY = { expanded: ', and recipes/show draws it', said: '', 'left out': '', printed: '; the whole language draws it' };
 
 /** What stands in one line of a command: its name, or what it does. */
 export function nameIn(language, command) {
@@ -47,7 +48,7 @@ const said = it => [it.what, it.range, it.default && `else ${it.default}`].filte
 /** Shows help for the command at a byte. */
 export function helpAt(tab, byte) {
   const found = commandAt(tab, byte);
-  const now = JSON.stringify([found, tab.language]);
+  const now = JSON.stringify([found, tab.language, desk.anew]);
   const box = find('help');
   if (box.dataset.shown === now) return;
   box.dataset.shown = now;
@@ -61,7 +62,8 @@ export function helpAt(tab, byte) {
   const [help, fate] = [helpOf(tab.language, command), fateOf(tab.language, command)];
   span(lines[0], 'form', help?.form ?? nameOf(command, text));
   span(lines[0], 'called', help?.name ?? fate?.what ?? 'no command that is known');
-  if (!fate || fate.shows !== 'prints') {
+  const isDrawn = fate?.shows === 'prints' || fate?.shows === 'whole' && desk.anew;
+  if (!isDrawn) {
     span(lines[0], 'does', fate ? `${DOES[fate.shows]}${fate.shows === 'no' ? '' : BY[fate.becomes]}` : 'read past');
   }
   const parameters = help?.parameters ?? [];

@@ -17,7 +17,7 @@ const CHECKED = ['grid', 'every'];
 let keepTimer = 0;
 let isWhole = false;
 
-const isAlone = () => desk.state.anew === null;
+const isAlone = () => !desk.state.served;
 const store = () => (isAlone() ? localStorage : sessionStorage);
 
 // The name of what this window keeps.

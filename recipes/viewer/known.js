@@ -5,7 +5,8 @@ import { latin } from './bytes.js';
 
 /**
  * @typedef {object} Fate  what becomes of a command
- * @property {string} shows  'yes' or 'no' of what is read past: whether paper shows it; 'prints', or 'stops'
+ * @property {string} shows  'yes' or 'no' of what is read past: whether paper shows it; 'prints', by the whole language
+ *   alone 'whole'; 'stops' of what the profile stops at and the whole language reads past
  * @property {string} becomes  what recipes/expand makes of it: printed, expanded, said, left out
  * @property {string} what  what it does, in words
  * @typedef {object} Help  what is said of a command that vp draws
@@ -50,7 +51,7 @@ export const helpOf = (language, command) => helps.get(key(language, command)) ?
 
 /** All commands of a language: those that are drawn first, then those that paper shows, then the others. */
 export function commandsOf(language) {
-  const order = { prints: 0, yes: 1, stops: 2, no: 3 };
+  const order = { prints: 0, whole: 1, yes: 2, stops: 3, no: 4 };
   const found = [...fates].filter(([name]) => name.startsWith(`${language} `))
     .map(([name, fate]) => ({ command: name.slice(language.length + 1), ...fate }));
   return found.sort((one, other) => order[one.shows] - order[other.shows]);

@@ -4,9 +4,14 @@ import { latin } from './bytes.js';
 import { commandOf, fateOf } from './known.js';
 import { eachByte } from './remarks.js';
 
-const SYMBOL_KINDS = { '^B3': 'Code 39', '^BE': 'EAN-13', '^BC': 'Code 128', '^BQ': 'QR' };
+const SYMBOL_KINDS = { '^B0': 'Aztec', '^B1': 'Code 11', '^B2': '2 of 5', '^B3': 'Code 39', '^B7': 'PDF417', '^B8': 'EAN-8',
+  '^B9': 'UPC-E', '^BA': 'Code 93', '^BC': 'Code 128', '^BE': 'EAN-13', '^BK': 'Codabar', '^BM': 'MSI', '^BO': 'Aztec',
+  '^BQ': 'QR', '^BS': 'an add-on', '^BU': 'UPC-A', '^BX': 'Data Matrix' };
 const BARS = { 0: 'UPC-A', 1: 'UPC-E', 2: 'EAN-13', 3: 'EAN-8', 4: 'Code 39', 5: 'ITF', 6: 'Codabar', 7: 'Code 93',
-  8: 'Code 128' };
+  8: 'Code 128', 9: 'GS1-128', 10: 'DataBar', 11: 'DataBar', 12: 'DataBar', 13: 'DataBar', 14: 'Code 128' };
+// What isn't drawn of kinds that are.
+const NOT_SO = { 'Code 128': 'modes U and D of ^BC aren’t drawn', 'Data Matrix': 'no quality but 200 is drawn',
+  PDF417: 'PDF417 isn’t drawn without its columns or its rows', Aztec: 'Aztec’s rune isn’t drawn' };
 const CODE39 = /[^0-9A-Z .$/+%-]/;
 const bytesOf = text => Uint8Array.from(text, it => it.charCodeAt(0));
 const sign = byte => (byte > 0x20 && byte < 0x7f ? `“${String.fromCharCode(byte)}”`
@@ -45,7 +50,7 @@ function unknown({ language }, { text }) {
   const fate = fateOf(language, name);
   const by = { expanded: '; recipes/show draws it', 'left out': '; recipes/show leaves it out' }[fate?.becomes] ?? '';
   return { text: fate ? `this command ${fate.what}, and vp's profile hasn't it${by}`
-    : 'no command that is known; recipes/past prints what stands behind it' };
+    : 'no command that is known; with “all of it” it is read past' };
 }
 
 /** The symbol that a fault is about, of a label's field or a receipt's command; null where none is found. */
@@ -61,7 +66,7 @@ function symbolOfField(rows, bytes) {
   const last = rows.length && ['^FS', '^XZ'].includes(rows[rows.length - 1].text) ? rows.slice(0, -1) : rows;
   const start = last.findLastIndex(it => ['^FS', '^XA', '^XZ'].includes(it.text));
   const field = last.slice(start + 1);
-  const command = field.findLast(it => it.text.slice(0, 3) in SYMBOL_KINDS);
+  const command = field.findLast(it => it.kind !== 'skip' && it.text.slice(0, 3) in SYMBOL_KINDS);
   if (!command) return null;
   const text = field.findLastIndex(it => it.text === '^FD');
   const indicator = field.findLast(it => it.text.startsWith('^FH'));
@@ -94,15 +99,22 @@ function refused(tab, { text, place }) {
   const why = text.replace('symbol: ', '');
   if (!symbol) return null;
   if (why === 'empty') return { text: `${symbol.kind} has no data`, at: symbol.first };
-  const ways = { 'Code 39': code39, 'EAN-13': ean13, 'Code 128': code128, QR: qr };
+  const ways = { 'Code 39': code39, 'EAN-13': ean13, 'Code 128': code128, QR: qr, 'UPC-A': ofDigits, 'UPC-E': ofDigits,
+    'EAN-8': ofDigits, '2 of 5': ofDigits, ITF: ofDigits, MSI: ofDigits, 'an add-on': ofDigits };
   if (why === 'unsupported' && symbol.kind !== 'QR') {
-    const which = `${symbol.kind === 'Code 128' ? 'modes U and D of ^BC aren’t' : `${symbol.kind} isn’t`} drawn`;
-    return { text: `${which}: vp's profile has EAN-13, Code 39 and Code 128; recipes/show draws others` };
+    const isLabel = tab.language === 'label';
+    return { text: `${isLabel && NOT_SO[symbol.kind] || `${symbol.kind} isn’t drawn here`}; recipes/show draws more` };
   }
   return ways[symbol.kind]?.(symbol, why, tab) ?? null;
 }
 
 const wrongAt = ({ data, places }, n) => `${sign(data[n])}, character ${n + 1} of its data, at byte ${places[n]}`;
+
+function ofDigits(symbol, why) {
+  const n = symbol.data.findIndex(it => it < 0x30 || it > 0x39);
+  if (n < 0 || why !== 'character') return null;
+  return { text: `${symbol.kind} has digits alone; not ${wrongAt(symbol, n)}`, at: symbol.places[n] };
+}
 
 function code39(symbol) {
   const text = latin.decode(Uint8Array.from(symbol.data));

@@ -201,7 +201,6 @@ async function start() {
   const { anew, examples } = desk.state;
   learn(desk.state.known);
   desk.anew = find('anew').checked = Boolean(anew);
-  find('anew').closest('label').hidden = anew === null;
   setChoices(find('examples'), [['', 'Examples'], ...examples.map((it, n) => [n, it])], '');
   find('examples').hidden = !examples.length;
   await openFollowed();

@@ -17,6 +17,7 @@ import time
 from typing import Any, Dict, Generator, Iterable, List, Optional, Set, Tuple, Union
 
 from vp_recipes.expand import Expanded, Options, expanded
+from vp_recipes.streams import WHOLE
 
 MOST_STREAM = 4 << 20
 SECONDS = 10
@@ -113,11 +114,13 @@ class Program:
         with concurrent.futures.ThreadPoolExecutor(AT_ONCE) as at_once:
             return list(at_once.map(count, fronts))
 
-    def print_words(self, language: str, width: str, fonts: Fonts) -> List[str]:
-        return [*self.vp, language, *(('--width', width) if language == 'receipt' else ()), *sheet_words(fonts)]
+    def print_words(self, language: str, width: str, fonts: Fonts, whole: bool) -> List[str]:
+        """The words that print by the whole language, or by the profile."""
+        words = ([WHOLE] if whole else []) + (['--width', width] if language == 'receipt' else [])
+        return [*self.vp, language, *words, *sheet_words(fonts)]
 
-    def list_words(self, language: str) -> List[str]:
-        return [*self.vp, 'list', '--lang', language, '--offsets']
+    def list_words(self, language: str, whole: bool) -> List[str]:
+        return [*self.vp, 'list', '--lang', language, *([WHOLE] if whole else []), '--offsets']
 
     def anew(self, language: str, fonts: Fonts, stream: bytes, caller: socket.socket) -> Optional[Expanded]:
         """A stream as recipes/expand writes it; None where it is long, or has very many symbols, and stays. What is
@@ -139,10 +142,11 @@ class Program:
                 return found
             return known
 
-    def remarks(self, language: str, fonts: Fonts, stream: bytes, caller: socket.socket) -> List[List[Any]]:
+    def remarks(self, language: str, fonts: Fonts, stream: bytes, caller: socket.socket, whole: bool
+                ) -> List[List[Any]]:
         """What lint says of a stream: places and texts, of its first part alone where it is long."""
         here = os.path.dirname(os.path.realpath(__file__))
-        asked = json.dumps([language, sheet_words(fonts), self.vp])
+        asked = json.dumps([language, sheet_words(fonts), self.vp, whole])
         words, said = [sys.executable, os.path.join(here, 'remarks.py'), asked], b''
         with contextlib.closing(self.run(words, stream[:REMARKED], caller)) as pieces:
             for piece in pieces:

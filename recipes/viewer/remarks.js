@@ -6,12 +6,12 @@ import { commandOf, fateOf, isStart, nameOf, needs } from './known.js';
 
 const NATIONAL = new Set([...'#$@[\\]^`{|}~'].map(it => it.charCodeAt(0)));
 const BY_EXPAND = { expanded: ', and written anew by recipes/expand', said: '',
-  'left out': ', and left out by recipes/expand' };
+  'left out': ', and left out by recipes/expand', printed: ', and drawn by the whole language' };
 // Commands of labels whose parameters recipes/expand looks at.
 const LOOKED_AT = /^\^(FO|FT|GB|FB|CF|A)/;
 const BLANKS = [0x20, 0xa0, 0xff];
-export const CONTENT = ['^FD', '^GB', '^GF'];
-export const SYMBOLS = ['^B3', '^BE', '^BC', '^BQ'];
+export const CONTENT = ['^FD', '^GB', '^GF', '^GC', '^GD', '^GE'];
+export const SYMBOLS = [...'0123789ABCEKMOQSUX'].map(it => `^B${it}`);
 
 const times = count => (count === 1 ? 'once' : `${count.toLocaleString('en')} times`);
 export const hex = byte => byte.toString(16).toUpperCase().padStart(2, '0');
@@ -95,7 +95,8 @@ export function passed({ bytes, rows, language }, texts) {
     if (!command || language === 'label' && row.kind !== 'skip') return;
     const isQR = command === 'gs 28 6b' && row.text.split(' ')[5] === '31';
     const fate = fateOf(language, command);
-    if (isQR || language === 'receipt' && !['yes', 'no'].includes(fate?.shows) || fate?.shows === 'no') return;
+    const isShown = fate?.shows === 'yes' || fate?.shows === 'stops' && fate.becomes !== 'left out';
+    if (isQR || (language === 'receipt' ? fate && !isShown : fate?.shows === 'no')) return;
     const raw = bytes.subarray(row.from, language === 'label' ? row.to : rows[n + 1]?.from ?? bytes.length);
     if (isStart(command, raw) || needs(command) && last[needs(command)] < n) return;
     found.push({ n, command });

@@ -99,7 +99,7 @@ export class Rows {
     const kind = run || /^(char|byte|column) /.test(text) ? 'data' : skipped ? 'skip'
       : text.startsWith('^FX') ? 'comment' : /^(ctl|CR|LF$)/.test(text) ? 'ctl' : 'cmd';
     this.rows.push({ place, text, kind, count: run?.count ?? 0, values: run?.values ?? null, from,
-      to: Math.max(to, from), name: language === 'label' || /^(gs 28|gs 38|esc 28)/.test(text) ? 3 : 2 });
+      to: Math.max(to, from), name: language === 'label' || /^(gs 28|gs 38|esc 28|fs 28)/.test(text) ? 3 : 2 });
     this.last = place;
     this.end = Math.max(this.end, to);
   }

@@ -144,7 +144,7 @@ function placesOf(bytes) {
 
 // What the page shows of a stream, and how the rest is seen.
 function profile(found) {
-  const isShown = desk.state.anew !== null;
+  const isShown = desk.state.served;
   if (!found.some(it => /read past|recipes\/expand/.test(it.text))) return '';
   const more = isShown ? 'With “all of it” above the paper, what can be written anew is.'
     : 'recipes/show draws what its lines call written anew: letters of code tables, other symbols, stored formats.';

@@ -2,8 +2,8 @@
 //
 // The page knows a printer by these calls alone, so that the one within the page (within.js) can stand in its place:
 //   state()                               what it offers: sheets, examples, files to follow, the longest stream, what
-//                                         is known of commands, whether streams are written anew at first, null where
-//                                         they never are
+//                                         is known of commands, whether all of a stream is printed at first, whether
+//                                         the printer is a server, which writes streams anew
 //   print(stream, words, take, signal)    gives the paper's bytes to `take` as they come, while that answers true
 //   rows(stream, words, signal)           how many rows of paper each front of a receipt prints: words.ends are their
 //                                         lengths, from the shortest on; of `fronts` at once it is quick
@@ -18,7 +18,8 @@
 //   pick()                                asks for files that it may follow, which come behind the others; a printer
 //                                         that can't has none
 //   changes(versions)                     waits until a followed file has another version, and tells all of them
-// Words are {lang, width, a, b}: the language, a receipt's paper in dots, sheets by their names.
+// Words are {lang, width, anew, a, b}: the language, a receipt's paper in dots, 1 for all of it (the whole language,
+// written anew first by a server) or 0 for the profile alone, sheets by their names.
 
 import { joined } from './bytes.js';
 

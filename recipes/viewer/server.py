@@ -280,7 +280,7 @@ class Answer(http.server.BaseHTTPRequestHandler):
         return {
             'files': [{'name': it.name, 'path': it.path, 'version': it.version()} for it in page.files],
             'examples': [it.name for it in page.examples], 'width': page.width, 'language': page.language,
-            'most': MOST_STREAM, 'anew': page.anew, 'known': known(),
+            'most': MOST_STREAM, 'anew': page.anew, 'served': True, 'known': known(),
             'fonts': {letter: os.path.basename(name) for letter, name in page.fonts['receipt'].items()},
         }
 
@@ -322,16 +322,21 @@ class Answer(http.server.BaseHTTPRequestHandler):
         """What is printed, listed and remarked upon of what the page sent: every stream passes here."""
         return self.body
 
+    def is_whole(self):
+        """Whether all of it is asked for: the whole language, written anew first. Else it is the profile alone."""
+        return self.choose('anew', ('0', '1')) == '1'
+
     def print(self):
         language = self.choose('lang', ('label', 'receipt'))
-        words = self.server.program.print_words(language, self.choose('width', ('576', '384')), self.fonts(language))
+        fonts = self.fonts(language)
+        words = self.server.program.print_words(language, self.choose('width', ('576', '384')), fonts, self.is_whole())
         anew = None
-        if self.choose('anew', ('0', '1')) == '1':
-            anew = self.server.program.anew(language, self.fonts(language), self.stream(), self.connection)
+        if self.is_whole():
+            anew = self.server.program.anew(language, fonts, self.stream(), self.connection)
         self.pass_on(words, {'guess': guess(self.body)}, anew)
 
     def list(self):
-        words = self.server.program.list_words(self.choose('lang', ('label', 'receipt')))
+        words = self.server.program.list_words(self.choose('lang', ('label', 'receipt')), self.is_whole())
         self.pass_on(words, {}, is_paper=False)
 
     def rows(self):
@@ -340,9 +345,9 @@ class Answer(http.server.BaseHTTPRequestHandler):
         if len(ends) > MOST_FRONTS or not all(it.isascii() and it.isdigit() and len(it) < 8 for it in ends):
             raise Refused(400, 'ends: no such lengths')
         fonts, stream = self.fonts('receipt'), self.stream()
-        words = self.server.program.print_words('receipt', self.choose('width', ('576', '384')), fonts)
+        words = self.server.program.print_words('receipt', self.choose('width', ('576', '384')), fonts, self.is_whole())
         found = None
-        if self.choose('anew', ('0', '1')) == '1':
+        if self.is_whole():
             found = self.server.program.anew('receipt', fonts, stream, self.connection)
         fronts = fronts_of(found, stream, [int(it) for it in ends])
         return self.server.program.rows(words, fronts, self.connection)
@@ -350,8 +355,8 @@ class Answer(http.server.BaseHTTPRequestHandler):
     def remarks(self):
         language = self.choose('lang', ('label', 'receipt'))
         fonts, stream = self.fonts(language), self.stream()
-        found = self.server.program.remarks(language, fonts, stream, self.connection)
-        if self.choose('anew', ('0', '1')) == '1':
+        found = self.server.program.remarks(language, fonts, stream, self.connection, self.is_whole())
+        if self.is_whole():
             anew = self.server.program.anew(language, fonts, stream, self.connection)
             found += [[it.place, it.text] for it in (anew.remarks if anew else ())]
         return found

@@ -52,7 +52,7 @@ async function share() {
   const both = other?.stream ? [tab, other.stream] : [tab];
   const fragment = await fragmentOf(both);
   // an address of this machine alone, or with a secret, is of no use elsewhere
-  const isElsewhere = /^https?:$/.test(location.protocol) && desk.state.anew === null;
+  const isElsewhere = /^https?:$/.test(location.protocol) && !desk.state.served;
   const link = isElsewhere ? location.href.replace(/#.*$/, '') + fragment : `viewer.html${fragment}`;
   // (a page that came without TLS has no clipboard)
   const isCopied = await Promise.resolve(navigator.clipboard?.writeText(link).then(() => true)).catch(() => false);

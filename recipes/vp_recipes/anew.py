@@ -1,4 +1,6 @@
-"""Prints a stream that is written anew first, by vp or by another command: the fault is told in the bytes that came."""
+"""Prints a stream that is written anew first, by vp or by another command: the fault is told in the bytes that came.
+
+What is written anew is in the words of the whole language, and printed by it, whatever words name vp's language."""
 import argparse
 import tempfile
 from typing import Any, List, Sequence
@@ -7,9 +9,10 @@ from . import bounds
 from .expand import Expanded, Options, expanded
 from .expand.places import old_place, told
 from .papers import passed_on
-from .program import direct, find_vp, read
-from .sheets import sheet_words, shipped
+from .program import direct, read
+from .sheets import sheet_words
 from .streams import LANGUAGES, guess
+from .words import printing, whole
 
 
 def written(data: bytes, command: Sequence[str], **options: Any) -> Expanded:
@@ -28,7 +31,7 @@ def anew(words: List[str]) -> int:
     bounds.add_words(parser)
     given, data = parser.parse_args(words), read('-')
     language = next((it for it in LANGUAGES if it in given.command), None) or guess(data)
-    command = direct(given.command or [*find_vp(), language, *shipped(language)])
+    command = direct(whole(given.command) or printing(language))
     found = written(data, command, table=given.table, encoding=given.encoding)
     with tempfile.TemporaryFile() as stream:
         stream.write(found.data)

@@ -11,6 +11,7 @@ from .faults import NOT_OF_VP, VP_STATUSES, Fault, shown, text_of, why
 from .in_process import Done
 from .program import read
 from .vp.bounds import HELD
+from .words import whole
 
 # A stream of more bytes has a process of its own, which doesn't hold it.
 MOST = 1 << 24
@@ -20,7 +21,8 @@ class Batch:
     """What a run of many makes in a folder: images or their sums, faults, the list of both, and what didn't go well."""
 
     def __init__(self, command: Sequence[str], streams: str, out: str, own: Bounds, sums: bool, expands: bool) -> None:
-        self.command, self.streams, self.out, self.sums, self.expands = command, streams, out, sums, expands
+        self.command = whole(command) if expands else command
+        self.streams, self.out, self.sums, self.expands = streams, out, sums, expands
         self.bounds, self.part = own, os.path.join(out, f'.vp-part.{os.getpid()}')
         self.is_bad = False
 

@@ -10,8 +10,8 @@ prints standard input as vp does; without it, it is vp in the language that the 
 
 The stream STREAMS/NAME has its images in EXPECTED/NAME.pbm, the line of the fault that it ends in in
 EXPECTED/NAME.fault, in EXPECTED/NAME.skipped what vp skips of it and a printer would print. Each stream is written
-anew first (recipes/expand), as show does it; what was so is in EXPECTED/NAME.anew. README files, hidden files,
-PATTERNs and these outputs are no streams.
+anew first (recipes/expand) and printed by the whole language, as show does it; what was so is in EXPECTED/NAME.anew.
+--as-it-came prints it by the profile alone. README files, hidden files, PATTERNs and these outputs are no streams.
 """
 import argparse
 import contextlib
@@ -30,13 +30,13 @@ from .expand.places import old_place
 from .faults import Fault, shown, why
 from .files import Made, Name, is_other
 from .images import Cut, images
-from .kept import (ENDS, SMALL, Kept, Look, command_of, expected, incomplete, language_of, listed, look, skipped_in,
-                   take_over, unseen)
+from .kept import (ENDS, SMALL, Kept, Look, expected, incomplete, listed, look, skipped_in, take_over, unseen)
 from .origins import drew, shown_bytes
 from .program import direct, find_vp, ran, read
 from .report import Case, Report, is_free, junit, pairs
 from .streams import items_of
 from .vp.comparing import MOST_ROWS, ROWS_BEFORE, Compared, Place, Strips
+from .words import add_as_it_came, language_at
 
 # So many streams that differ are drawn, and of so many the bytes are named that drew the first difference.
 MOST_SHOWN, MOST_NAMED = 100, 20
@@ -89,7 +89,7 @@ def compared(was: IO[bytes], now: IO[bytes]) -> Tuple[Compared, str]:
 
 def origin(it: Look, place: Place) -> str:
     """What drew a dot, in words: its bytes in the stream that came."""
-    at = language_of(it.command)
+    at = language_at(it.command)
     if at is None or not it.data:
         return ''
     paper = it.now.bytes()
@@ -168,7 +168,7 @@ def verify(stream: bytes, name: str, folder: Name, command: Sequence[str] = (), 
     ends in a fault or skips something where that is said; the stream is written anew first, unless it is to be as it
     came."""
     place = pathlib.Path(folder)
-    found = look(list(command) or command_of(stream), stream, as_it_came)
+    found = look(command, stream, as_it_came)
     known = expected(place, name)
     if known and known.is_as(found.now):
         return ''
@@ -342,7 +342,7 @@ def arguments() -> argparse.ArgumentParser:
     parser.add_argument('--incomplete', action='store_true',
                         help='accept takes over also what ends in a fault, or of which something is skipped')
     parser.add_argument('--prune', action='store_true', help='accept takes images away whose streams are gone')
-    parser.add_argument('--as-it-came', action='store_true', help='writes no stream anew')
+    add_as_it_came(parser)
     bounds.add_words(parser)
     return parser
 
@@ -368,7 +368,7 @@ def main() -> int:
             alone: Any = large if os.path.getsize(file) > LARGE else contextlib.nullcontext()
             with alone:
                 data = read(str(file))
-                return look(command or command_of(data), data, given.as_it_came, bounds.of(given), tells)
+                return look(command, data, given.as_it_came, bounds.of(given), tells)
         except OSError as error:
             raise Fault(f'cannot read {shown(file)}: {why(error)}') from None
         except Fault as fault:

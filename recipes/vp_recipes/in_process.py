@@ -118,6 +118,6 @@ def printers(language: str, words: Tuple[Tuple[str, str], ...], seen: Tuple[Tupl
     found = dict(words)
     font_a = found.get('--font-a')
     if language == 'label':
-        return own_package.Label(font_a, *own)
+        return own_package.Label(font_a, *own, whole='--whole' in found)
     width = int(found.get('--width', '576'))
     return own_package.Receipt(font_a, found.get('--font-b'), width, *own, whole='--whole' in found)

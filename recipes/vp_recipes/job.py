@@ -1,11 +1,12 @@
-"""One job of a printer: job [--expand] [--most-rows N ..] FOLDER [COMMAND..] < STREAM
+"""One job of a printer: job [--expand] [--as-it-came] [--most-rows N ..] FOLDER [COMMAND..] < STREAM
 
 Takes the next number in FOLDER (or VP_JOB_NUMBER, which its caller took by making NUMBER.bin), keeps the stream as
 NUMBER.bin and what COMMAND prints of it as NUMBER.png, of several labels as NUMBER-1.png and so on. Without COMMAND it
-is vp in the stream's language, with the shipped sheets. --expand writes the stream anew before it is printed
-(recipes/expand); NUMBER.bin is the one that came. What COMMAND says is kept as NUMBER.txt. What became of the job
-is a line of FOLDER/log, and of standard error where that is no socket. Each file is there once it is whole. Where a
-bound is reached the rest is left out, and the log says so; it also says which signal ended a job.
+is vp in the stream's language, with the shipped sheets, by the whole language, or with --as-it-came by the profile
+alone. --expand writes the stream anew before it is printed (recipes/expand); NUMBER.bin is the one that came. What
+COMMAND says is kept as NUMBER.txt. What became of the job is a line of FOLDER/log, and of standard error where that is
+no socket. Each file is there once it is whole. Where a bound is reached the rest is left out, and the log says so; it
+also says which signal ended a job.
 
 Status 0; 1 where the stream has a fault, or prints more than it may; 2 to 4 and 125 as vp's, 3 also where FOLDER can't
 be written, as on a full disk; 5 where COMMAND was killed, ended as vp doesn't, or didn't print what vp prints.
@@ -24,9 +25,9 @@ from .faults import Fault, shown, signal_name, why
 from .files import keep, whole
 from .images import Files
 from .papers import paper
-from .program import HERE, find_vp, given_input
-from .sheets import shipped
+from .program import HERE, given_input
 from .streams import GUESSED, LANGUAGES, guess
+from .words import add_as_it_came, printing
 
 
 def next_number(folder: str) -> str:
@@ -79,7 +80,7 @@ def printed(job: str, command: Sequence[str], given: argparse.Namespace) -> Tupl
     with open(f'{job}.bin', 'rb') as stream:
         language = next((it for it in LANGUAGES if it in command), None) or guess(stream.read(GUESSED))
         stream.seek(0)
-        command = command or [*find_vp(), language, *shipped(language)]
+        command = command or printing(language, given.as_it_came)
         command = [sys.executable, str(HERE / 'print'), '--expand', *command] if given.expand else command
         own = bounds.of(given, bounds.FILES if language == 'label' else None)
         with Files(f'{job}.png', language == 'label', is_new=True) as files:
@@ -119,14 +120,17 @@ def done(number: str, given: argparse.Namespace) -> Tuple[str, int]:
 
 
 def main() -> int:
-    parser = argparse.ArgumentParser(usage='job [--expand] [--most-rows N ..] FOLDER [COMMAND..] < STREAM',
-                                     description=__doc__, formatter_class=argparse.RawDescriptionHelpFormatter,
-                                     allow_abbrev=False)
+    usage = 'job [--expand] [--as-it-came] [--most-rows N ..] FOLDER [COMMAND..] < STREAM'
+    parser = argparse.ArgumentParser(usage=usage, description=__doc__, allow_abbrev=False,
+                                     formatter_class=argparse.RawDescriptionHelpFormatter)
     parser.add_argument('folder', metavar='FOLDER', help='where jobs are kept')
     parser.add_argument('command', metavar='COMMAND', nargs=argparse.REMAINDER, help='what prints, as vp does')
     parser.add_argument('--expand', action='store_true', help='writes the stream anew before it is printed')
+    add_as_it_came(parser)
     bounds.add_words(parser)
     given = parser.parse_args()
+    if given.expand and given.as_it_came:
+        parser.error('--expand writes the stream anew, and --as-it-came does not')
     folder = given.folder
     try:
         os.makedirs(folder, exist_ok=True)

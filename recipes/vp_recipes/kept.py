@@ -17,11 +17,13 @@ from .faults import Fault, shown, text_of, times, told
 from .files import Made, whole
 from .images import Cut, images
 from .origins import MOST_BYTES
-from .program import direct, find_vp
+from .program import direct
 from .remarks import passed
-from .sheets import sheet_words, shipped, without_cell
-from .streams import LANGUAGES, Items, first_byte, guess, items_of, lines_of, may_skip, named
+from .sheets import sheet_words, without_cell
+from .streams import WHOLE, Items, first_byte, guess, items_of, lines_of, may_skip, named
 from .vp.bounds import HELD
+from .words import language_at, printing
+from .words import whole as by_whole
 
 ENDS = '.pbm', '.fault', '.skipped', '.anew'
 # An image of so many bytes is held in memory, and of a listing so many are looked at.
@@ -70,17 +72,6 @@ class Look(NamedTuple):
     pieces: Optional[List[Any]]
 
 
-def command_of(data: bytes) -> List[str]:
-    """The words that print a stream where none were given: vp in its language, with the shipped sheets."""
-    language = guess(data)
-    return [*find_vp(), language, *shipped(language)]
-
-
-def language_of(command: Sequence[str]) -> Optional[int]:
-    """Where words that run vp name the language, if they do."""
-    return next((n for n, word in enumerate(command) if n and word in LANGUAGES), None)
-
-
 def bytes_said(code: bytes) -> str:
     """The bytes of a command, to be read; of many the first, and a sum."""
     text = ''.join(chr(it) if 0x20 <= it < 0x7F and it != 0x5C else f'\\x{it:02X}' for it in code[:MOST_SAID])
@@ -92,10 +83,10 @@ def bytes_said(code: bytes) -> str:
 def listed(command: Sequence[str], data: bytes) -> Optional[Tuple[bytes, bool]]:
     """What is listed of a stream, and whether with places. None where the words don't say the language, or the
     listing is too long to be looked at."""
-    at = language_of(command)
+    at = language_at(command)
     if at is None:
         return None
-    out, has_places, _ = lines_of(data, command[at], command[:at], dots=False)
+    out, has_places, _ = lines_of(data, command[at], command[:at], dots=False, whole=WHOLE in command)
     return (out, has_places) if len(out) <= MOST_LISTED else None
 
 
@@ -118,7 +109,7 @@ def fewer(data: bytes, items: Items) -> Tuple[bytes, List[str]]:
 
 def skips(command: Sequence[str], data: bytes, out: bytes, items: Items) -> Tuple[str, 'Counter[str]']:
     """The commands of a stream that vp skips and a printer would print, each with its data, and how often each is."""
-    language = command[language_of(command) or 0]
+    language = command[language_at(command) or 0]
     lines: List[str] = []
     counts: 'Counter[str]' = Counter()
     for n, name, code in passed(data, items, language) if may_skip(out, language) else ():
@@ -133,7 +124,7 @@ def skipped_in(counts: 'Counter[str]') -> str:
 
 def without_characters(command: Sequence[str], items: Items) -> List[str]:
     """Which bytes the sheet has no character for, in words."""
-    language = command[language_of(command) or 0]
+    language = command[language_at(command) or 0]
     found: Dict[int, int] = {}
     for (_, byte), (count, _) in without_cell(items, language, command).items():
         found[byte] = found.get(byte, 0) + count
@@ -189,9 +180,11 @@ def anew_of(command: Sequence[str], data: bytes) -> Tuple[bytes, List[Any], List
 
 def look(command: Sequence[str], data: bytes, as_it_came: bool = False, own: Bounds = DEFAULT, tells: bool = False
          ) -> Look:
-    """What words print of a stream, written anew first where it isn't to be as it came. `tells` says also which bytes
-    the sheet has no character for."""
-    command = direct(command)
+    """What words print of a stream, where there are none vp in its language with the shipped sheets. Where it isn't to
+    be as it came it is written anew first, and printed by the whole language. `tells` says also which bytes the sheet
+    has no character for."""
+    command = direct(command or printing(guess(data), as_it_came))
+    command = command if as_it_came else by_whole(command)
     pieces: Optional[List[Any]] = None
     anew: List[str] = []
     if not as_it_came:
@@ -200,12 +193,12 @@ def look(command: Sequence[str], data: bytes, as_it_came: bool = False, own: Bou
     items: Items = []
     if found:
         has_copies = COPIES.search(data) is not None
-        if tells or has_copies or may_skip(found[0], command[language_of(command) or 0]):
+        if tells or has_copies or may_skip(found[0], command[language_at(command) or 0]):
             items = items_of(*found)
         if has_copies:
             few, said = fewer(data, items)
             anew = anew + [told_byte(it, pieces) for it in said]
-    elif language_of(command) is not None:
+    elif language_at(command) is not None:
         hidden.append('it is too long to look for what it skips')
     paper, line, reached = paper_of(command, few, own)
     fault = told_in_old(line, reached, pieces)

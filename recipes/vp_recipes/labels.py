@@ -3,13 +3,14 @@ import time
 from typing import Any, Dict, Iterator, List, Optional, Sequence, Tuple
 
 from .program import run
-from .streams import Items
+from .streams import WHOLE, Items
 from .values import is_wide, narrowed
 
 # What a field is made of and what was in force, by names; and left, top, right and bottom of dots.
 Field = Dict[str, Any]
 Box = Tuple[int, int, int, int]
-CONTENTS = '^FD', '^GB', '^GF'
+CONTENTS = '^FD', '^GB', '^GF', '^GC', '^GD', '^GE'
+SYMBOLS = tuple(f'^B{it}' for it in '0123789ABCEKMOQSUX')
 # What is in force before a label says otherwise.
 SETTINGS = {'^PW': '^PW832', '^LL': '^LL1218', '^LH': '^LH0,0', '^FW': '^FWN', '^CF': '^CFA,9,5', '^BY': '^BY2,3.0,10'}
 
@@ -40,7 +41,7 @@ def labels(items: Items) -> Iterator[Tuple[Dict[str, str], List[Field]]]:
             field['bytes'].append((n, int(text[5:], 16)))
         elif name in CONTENTS:
             field.update(content=text, bytes=[])
-        elif name in ('^B3', '^BE', '^BC', '^BQ'):
+        elif name in SYMBOLS:
             field['symbol'] = text
         elif name in ('^FO', '^FT'):
             field.update(at=text, item=n)
@@ -98,11 +99,12 @@ def ink(out: bytes) -> Iterator[Optional[Box]]:
 
 
 class Edges:
-    """Where fields lie, printed each alone, in so many `seconds`; what is printed alike is printed once (`seen`)."""
+    """Where fields lie, printed each alone, in so many `seconds`, by the words behind a label's; what is printed alike
+    is printed once (`seen`)."""
 
     def __init__(self, sheet: Sequence[str], vp: Optional[Sequence[str]] = None,
-                 seconds: Optional[float] = None) -> None:
-        self.sheet, self.vp = list(sheet), vp
+                 seconds: Optional[float] = None, whole: bool = True) -> None:
+        self.words, self.vp = [*([WHOLE] if whole else []), *sheet], vp
         self.end = None if seconds is None else time.monotonic() + seconds
         self.seen: Dict[bytes, Optional[Box]] = {}
 
@@ -113,7 +115,7 @@ class Edges:
         """Where a field's dots lie, from the label's corner; None where it has none."""
         stream, x, y = alone(field, *size)
         if stream not in self.seen:
-            out, line, _ = run(['label', *self.sheet], stream, self.vp)
+            out, line, _ = run(['label', *self.words], stream, self.vp)
             self.seen[stream] = next(ink(out), None) if not line else None
         found = self.seen[stream]
         return found and (x + found[0], y + found[1], x + found[2], y + found[3])

@@ -4,6 +4,7 @@ A line for each: commands that are skipped and what they do, unless they set wha
 vp doesn't look at; characters that the sheets lack; fields outside a format or off a label's edges; the fault. The
 number is that of its first byte, counted from 0. Status 1 where there is one. --known KNOWN takes the lines of that
 file for known: they aren't said, as often as they stand there; with --write-known all lines of now are written there.
+--as-it-came says it of the profile alone, and not of the whole language.
 
     lint parcel.zpl
     lint --known lint.txt --write-known streams/*     keeps what is accepted
@@ -22,6 +23,7 @@ from .program import read
 from .remarks import remarks
 from .sheets import chosen
 from .streams import LANGUAGES
+from .words import add_as_it_came
 
 
 def known_lines(name: str) -> 'Counter[str]':
@@ -38,6 +40,7 @@ def words_of() -> argparse.ArgumentParser:
     words.add_argument('--font-b', metavar='SHEET', help='the sheet of font B')
     words.add_argument('--known', metavar='KNOWN', help="a file of lines that aren't said")
     words.add_argument('--write-known', action='store_true', help='writes the lines of now into that file')
+    add_as_it_came(words)
     bounds.add_words(words, bounds.HELD)
     return words
 
@@ -54,7 +57,8 @@ def main() -> int:
         try:
             data = read(file)
             language = given.lang or language_of(data, file)
-            found = remarks(data, language, chosen(language, given.font_a, given.font_b), own=bounds.of(given))
+            sheets = chosen(language, given.font_a, given.font_b)
+            found = remarks(data, language, sheets, own=bounds.of(given), whole=not given.as_it_came)
         except Fault as fault:
             print(f'lint: {fault}', file=sys.stderr)
             last = max(last, fault.status)

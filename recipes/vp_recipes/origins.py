@@ -9,6 +9,7 @@ import io
 from typing import Callable, Iterator, List, NamedTuple, Optional, Sequence, Tuple
 
 from .images import Cut, images
+from .labels import CONTENTS
 from .vp.commands import Items
 from .vp.comparing import Place
 
@@ -52,7 +53,7 @@ def fields(items: Items) -> Iterator[Field]:
             start, has = place, False
             if name == '^XZ':
                 label, is_open = label + 1, False
-        elif name in ('^FD', '^GB', '^GF'):
+        elif name in CONTENTS:
             has = True
 
 

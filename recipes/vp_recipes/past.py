@@ -1,9 +1,10 @@
-"""Prints a stream past what ends it: past [--most-rows N ..] [WORD..] < STREAM > IMAGES
+"""Prints a stream past what ends it: past [--as-it-came] [--most-rows N ..] [WORD..] < STREAM > IMAGES
 
-Each lead and byte that begin no known command (F1) are cut out, and so is each command of a symbol that is refused (F2,
-F3, F4), at most 100 of these; each is said with its place, and the rest is printed. WORD.. run vp; without them vp
-receipt with the shipped sheets. Status 1 where anything was cut out, or another fault is left. --most-rows,
---most-bytes, --most-images and --most-seconds say where a print ends that goes on and on, N or none.
+Each command of a symbol that is refused (F2, F3, F4) is cut out, at most 100 of these, and by the profile also each
+lead and byte that begin no known command (F1); each is said with its place, and the rest is printed. WORD.. run vp;
+without them vp receipt --whole with the shipped sheets, or with --as-it-came the same by the profile. Status 1 where
+anything was cut out, or another fault is left. --most-rows, --most-bytes, --most-images and --most-seconds say where a
+print ends that goes on and on, N or none.
 """
 import os
 import re
@@ -16,8 +17,8 @@ from typing import IO, Iterator, List, Optional, Sequence, Tuple
 from . import bounds
 from .faults import Fault, text_of, told
 from .program import direct, find_vp, read
-from .sheets import shipped
-from .streams import named
+from .streams import WHOLE, named
+from .words import printing
 
 UNKNOWN = re.compile(r'vp: F1 after (\d+) bytes: unknown command (..) (..)')
 SYMBOL = re.compile(r'vp: (F[234]) after (\d+) bytes: (.*)')
@@ -63,10 +64,15 @@ class Looks:
         return told(words, run.status, text_of(run.said))
 
 
-def unknown(data: bytes, vp: Sequence[str], looks: Looks) -> Iterator[int]:
+def listing(words: Sequence[str]) -> List[str]:
+    """The words that list what these print."""
+    return [*direct(find_vp()), 'list', '--lang', 'receipt', *([WHOLE] if WHOLE in words else [])]
+
+
+def unknown(data: bytes, words: Sequence[str], looks: Looks) -> Iterator[int]:
     """The places of the bytes that begin no known command, by reading on behind each. Behind one the reader stands as
     at the start, so two bytes that are known to be none are none there too."""
-    words = [*vp, 'list', '--lang', 'receipt']
+    words = listing(words)
     with tempfile.TemporaryFile() as file:
         file.write(data)
         at, none = 0, set()
@@ -90,11 +96,11 @@ def unknown(data: bytes, vp: Sequence[str], looks: Looks) -> Iterator[int]:
             at += 2
 
 
-def symbol(file: IO[bytes], end: int, vp: Sequence[str], looks: Looks) -> Optional[Tuple[int, str]]:
+def symbol(file: IO[bytes], end: int, words: Sequence[str], looks: Looks) -> Optional[Tuple[int, str]]:
     """The command whose last byte stands before this place in a stream: where it begins, and its name."""
     last: List[str] = []
     file.seek(0)
-    with looks.run([*vp, 'list', '--lang', 'receipt', '--offsets'], file, is_paper=False) as run:
+    with looks.run([*listing(words), '--offsets'], file, is_paper=False) as run:
         for piece in run:
             for line in piece.decode('latin-1').splitlines():
                 if int(line.partition(' ')[0]) > end:
@@ -108,9 +114,9 @@ def symbol(file: IO[bytes], end: int, vp: Sequence[str], looks: Looks) -> Option
     return start, named(name, text if name == 'gs 28 6b' else text[:len('gs 6b 00')])
 
 
-def past(words: Sequence[str], vp: Sequence[str], data: bytes, looks: Looks) -> int:
+def past(words: Sequence[str], data: bytes, looks: Looks) -> int:
     """Prints a stream past what ends it, and says what was cut out."""
-    places = list(unknown(data, vp, looks))
+    places = list(unknown(data, words, looks))
     for at in places:
         print(f'cut out at byte {at}: {data[at]:02X} {data[at + 1]:02X}', file=sys.stderr)
     stream = Stream(data)
@@ -126,7 +132,7 @@ def past(words: Sequence[str], vp: Sequence[str], data: bytes, looks: Looks) -> 
                     printed.write(piece)
             line = str(run.reached) if run.reached else looks.line(run, words)
             fault = SYMBOL.fullmatch(line) if cut < MOST_SYMBOLS else None
-            found = symbol(file, int(fault[2]), vp, looks) if fault else None
+            found = symbol(file, int(fault[2]), words, looks) if fault else None
             if fault and found:
                 place = stream.cut(found[0], int(fault[2]))
                 print(f'cut out at byte {place}: {found[1]}: {fault[1]} {fault[3]}', file=sys.stderr)
@@ -144,6 +150,6 @@ def main() -> int:
     if sys.argv[1:2] in (['-h'], ['--help']):
         print((__doc__ or '').strip())
         return 0
-    own, words = bounds.taken(sys.argv[1:])
-    words = words or [*find_vp(), 'receipt', *shipped('receipt')]
-    return past(direct(words), direct(find_vp()), read('-'), Looks(own))
+    as_it_came = sys.argv[1:2] == ['--as-it-came']
+    own, words = bounds.taken(sys.argv[1 + as_it_came:])
+    return past(direct(words or printing('receipt', as_it_came)), read('-'), Looks(own))

@@ -8,14 +8,14 @@ from .faults import times, told
 from .labels import Edges, off_edges, outside
 from .program import direct, find_vp, ran
 from .sheets import drawn, sheet_words, without_cell
-from .streams import Items, becomes, code_of, first_byte, listing, named, raw, skipped, table
+from .streams import WHOLE, Items, becomes, code_of, first_byte, listing, named, raw, skipped, table
 from .values import BITS, FIGURES, is_start, unread
 
 # The bytes that ESC R draws as characters of a country.
 COUNTRY = b'#$@[\\]^`{|}~'
 # What recipes/expand does of a command, by what the table of commands says.
 BY_EXPAND = {'expanded': ', and written anew by recipes/expand', 'said': '',
-             'left out': ', and left out by recipes/expand'}
+             'left out': ', and left out by recipes/expand', 'printed': ', and drawn by the whole language'}
 # Commands of labels whose parameters it looks at.
 LOOKED_AT = '^FO', '^FT', '^GB', '^FB', '^CF', '^A'
 LEADS = {'10': 'dle', '1B': 'esc', '1C': 'fs', '1D': 'gs'}
@@ -123,10 +123,8 @@ def not_drawn(items: Items, language: str, sheet: Sequence[str]) -> Iterator[Tup
         yield n, f'no sheet of font {font.upper()} is named: its characters are white, {times(count)}'
 
 
-def ending(data: bytes, language: str, sheet: Sequence[str], vp: Optional[Sequence[str]], own: Bounds
-           ) -> List[Tuple[Optional[int], str]]:
-    """The fault that a stream ends in, or the bound that it reaches, as (place, line)."""
-    words = direct([*(vp or find_vp()), language, *sheet])
+def ending(data: bytes, words: Sequence[str], language: str, own: Bounds) -> List[Tuple[Optional[int], str]]:
+    """The fault that a stream ends in which words print, or the bound that it reaches, as (place, line)."""
     # paper of any length is of no use here
     made = ran(words, without_copies(data, language), own, False)
     if made.reached:
@@ -140,16 +138,18 @@ def ending(data: bytes, language: str, sheet: Sequence[str], vp: Optional[Sequen
     return [(place, fault_line(fault[1], text, data))]
 
 
-def remarks(data: bytes, language: str, sheet: Sequence[str], vp: Optional[Sequence[str]] = None, own: Bounds = HELD
-            ) -> List[Tuple[Optional[int], str]]:
-    """What a printer prints and vp doesn't, or not so, as (place, line): `sheet` are the words that name the sheets."""
-    items, _ = listing(data, language, vp, dots=False)
+def remarks(data: bytes, language: str, sheet: Sequence[str], vp: Optional[Sequence[str]] = None, own: Bounds = HELD,
+            whole: bool = True) -> List[Tuple[Optional[int], str]]:
+    """What a printer prints and vp doesn't, or not so, by the whole language or by the profile, as (place, line):
+    `sheet` are the words that name the sheets."""
+    items, _ = listing(data, language, vp, dots=False, whole=whole)
     found = [*read_past(data, items, language), *not_drawn(items, language, sheet)]
     if language == 'label':
         found += [(n, f'the field of {name} stands outside ^XA and ^XZ: it is not printed')
                   for n, name in outside(items)]
         found += off_reading(items)
-        found += off_edges(items, Edges(sheet, vp, own.seconds))
+        found += off_edges(items, Edges(sheet, vp, own.seconds, whole))
     lines = [(first_byte(data, *items[n]), line) for n, line in sorted(found)]
-    lines += ending(data, language, sheet, vp, own)
+    words = [*(vp or find_vp()), language, *([WHOLE] if whole else []), *sheet]
+    lines += ending(data, direct(words), language, own)
     return sorted(lines, key=lambda it: it[0] or 0) if all(place is not None for place, _ in lines) else lines

@@ -3,7 +3,8 @@
 Of a receipt or a label FILE.bin it writes FILE.png into this folder (--to another), of several labels FILE-1.png,
 FILE-2.png and so on. A PNG that was made of something else stays: then FILE.bin.png is written.
 It says the language, which it guesses, what was written anew (recipes/expand), the fault, what a printer's paper would
-show of what was skipped, and which bytes have no character in the sheets. --as-it-came prints the stream as it came.
+show of what was skipped, and which bytes have no character in the sheets. --as-it-came prints the stream as it came,
+by the profile alone.
 
     show order.bin parcel.zpl
     show --to out --open streams/*
@@ -23,10 +24,11 @@ from .faults import Fault, shown, times
 from .images import Files, Taken
 from .kinds import language_of
 from .papers import Paper, paper
-from .program import find_vp, read
+from .program import read
 from .remarks import packed, passed
 from .sheets import chosen, without_cell
 from .streams import LANGUAGES, listing, named, table
+from .words import add_as_it_came, printing
 
 # So many labels are shown where no word says otherwise.
 SHOWN = bounds.FILES._replace(images=100)
@@ -64,7 +66,8 @@ class Shown:
         with tempfile.TemporaryFile() as stream, Files(str(to / names[0]), self.language == 'label', of) as files:
             stream.write(self.data)
             stream.seek(0)
-            ran = paper([*find_vp(), self.language, *self.sheet], cast(BinaryIO, stream), files, 8, own=self.most())
+            words = printing(self.language, self.given.as_it_came, self.sheet)
+            ran = paper(words, cast(BinaryIO, stream), files, 8, own=self.most())
             # (raises what isn't vp's)
             ran.line()
             try:
@@ -96,12 +99,12 @@ class Shown:
         """What the paper doesn't show: what is skipped, and which bytes have no character."""
         if self.anew and not self.has_unseen():
             return
-        items, _ = listing(self.data, self.language, dots=False)
+        items, _ = listing(self.data, self.language, dots=False, whole=not self.given.as_it_came)
         known = table()
         counts: Dict[str, int] = {}
         for _, command, _ in passed(self.data, items, self.language):
-            # (of those that are known it is said where the stream is written anew)
-            if not self.anew or (self.language, command) not in known:
+            # (of a receipt's and those that are known it is said where the stream is written anew)
+            if not self.anew or self.language == 'label' and (self.language, command) not in known:
                 counts[command] = counts.get(command, 0) + 1
         for command, count in counts.items():
             what = known.get((self.language, command), (True, 'is no command that is known'))[1]
@@ -177,7 +180,7 @@ def words_of() -> argparse.ArgumentParser:
     words.add_argument('--font-b', metavar='SHEET', help='the sheet of font B')
     words.add_argument('--to', type=pathlib.Path, default=pathlib.Path(), metavar='FOLDER',
                        help='where the PNGs go; it is made where it is not there')
-    words.add_argument('--as-it-came', action='store_true', help='writes nothing anew')
+    add_as_it_came(words)
     words.add_argument('--table', default='cp858', metavar='CODEC', help='the table that the sheet shows; cp858')
     words.add_argument('--from', dest='encoding', metavar='CODEC', help="what a receipt's text is in, as utf-8")
     words.add_argument('--open', action='store_true', help='shows them, by xdg-open')

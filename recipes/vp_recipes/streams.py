@@ -11,9 +11,11 @@ from .kinds import kind
 from .program import run
 from .vp.commands import Items, becomes, code_of, first_byte, named, raw, rows, skipped, table
 
-__all__ = ['GUESSED', 'LANGUAGES', 'Items', 'becomes', 'code_of', 'first_byte', 'guess', 'items_of', 'lines_of',
-           'listing', 'may_skip', 'named', 'raw', 'rows', 'skipped', 'table']
+__all__ = ['GUESSED', 'LANGUAGES', 'WHOLE', 'Items', 'becomes', 'code_of', 'first_byte', 'guess', 'items_of',
+           'lines_of', 'listing', 'may_skip', 'named', 'raw', 'rows', 'skipped', 'table']
 LANGUAGES = 'receipt', 'label'
+# Has vp read the whole language, and not the profile alone.
+WHOLE = '--whole'
 # Of so many bytes of a stream its language is guessed, where it isn't read whole.
 GUESSED = 1 << 20
 
@@ -23,11 +25,11 @@ def guess(data: bytes) -> str:
     return kind(data).language or 'receipt'
 
 
-def lines_of(data: bytes, language: str, vp: Optional[Sequence[str]] = None, dots: bool = True
+def lines_of(data: bytes, language: str, vp: Optional[Sequence[str]] = None, dots: bool = True, whole: bool = True
              ) -> Tuple[bytes, bool, str]:
-    """What vp lists of a stream, whether with places, and the line of the fault that reading ends in, or ''. Without
-    dots the bytes of a receipt's pictures and symbols are left out."""
-    words, has_places = ['list', '--lang', language], True
+    """What vp lists of a stream by the whole language or by the profile, whether with places, and the line of the fault
+    that reading ends in, or ''. Without dots the bytes of a receipt's pictures and symbols are left out."""
+    words, has_places = ['list', '--lang', language, *([WHOLE] if whole else [])], True
     try:
         out, line, _ = run([*words, '--offsets'], data, vp)
     except Fault as fault:
@@ -48,10 +50,10 @@ def items_of(out: bytes, has_places: bool) -> List[Tuple[Optional[int], str]]:
     return [(None, text) for text in texts]
 
 
-def listing(data: bytes, language: str, vp: Optional[Sequence[str]] = None, dots: bool = True
+def listing(data: bytes, language: str, vp: Optional[Sequence[str]] = None, dots: bool = True, whole: bool = True
             ) -> Tuple[List[Tuple[Optional[int], str]], str]:
     """The items of a stream as (place, text), and the line of the fault that reading ends in, or ''."""
-    out, has_places, line = lines_of(data, language, vp, dots)
+    out, has_places, line = lines_of(data, language, vp, dots, whole)
     return items_of(out, has_places), line
 
 
@@ -59,5 +61,5 @@ def may_skip(out: bytes, language: str) -> bool:
     """Whether a listing has a command in it that isn't printed."""
     if language == 'label':
         return re.search(rb'(?m) skipped$', out) is not None
-    codes = '|'.join(re.escape(command) for of, command in table() if of == language)
-    return re.search(rb'(?m)^(\d+ )?(%s)\b' % codes.encode(), out) is not None
+    codes = '|'.join(re.escape(command) for of, command, shows, *_ in rows() if of == language and shows == 'prints')
+    return re.search(rb'(?m)^(?:\d+ )?(?!(?:%s)\b)(?:esc|gs|fs|dle) ' % codes.encode(), out) is not None

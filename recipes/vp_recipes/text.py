@@ -15,7 +15,8 @@ from . import bounds
 from .faults import Fault, shown, text_of, told
 from .labels import labels
 from .program import direct, find_vp, opened
-from .streams import GUESSED, LANGUAGES, guess
+from .streams import GUESSED, LANGUAGES, WHOLE, guess
+from .words import add_as_it_came
 
 # What puts what follows at another height: anywhere, in standard mode, on a page.
 ANYWHERE = re.compile(r'LF|esc (4a|64)|gs 6b|gs 28 6b 03 00 31 51 30|gs 76 30 [03][0-3] (?!00 00).. .. (?!00 00)')
@@ -79,9 +80,10 @@ def items_as_they_come(run: bounds.Run) -> Iterator[Tuple[None, str]]:
                 yield None, text
 
 
-def say(stream: IO[bytes], language: str, decoded: Callable[[bytes], str], own: bounds.Bounds) -> str:
-    """Says the text of a stream, and gives the line of its fault, or of the bound that is reached."""
-    command = direct([*find_vp(), 'list', '--lang', language])
+def say(stream: IO[bytes], language: str, whole: bool, decoded: Callable[[bytes], str], own: bounds.Bounds) -> str:
+    """Says the text of a stream by the whole language or by the profile, and gives the line of its fault, or of the
+    bound that is reached."""
+    command = direct([*find_vp(), 'list', '--lang', language, *([WHOLE] if whole else [])])
     os.lseek(stream.fileno(), stream.tell(), os.SEEK_SET)
     with bounds.Run(command, stream, own, is_paper=False) as run:
         for line in {'receipt': receipt, 'label': label}[language](items_as_they_come(run)):
@@ -94,6 +96,7 @@ def main() -> int:
     words.add_argument('files', metavar='FILE', nargs='*', default=['-'], help='a stream; without one, standard input')
     words.add_argument('--lang', choices=LANGUAGES, help='the language, not guessed')
     words.add_argument('--table', metavar='CODEC', help='which character a byte is')
+    add_as_it_came(words)
     bounds.add_words(words)
     given = words.parse_args()
     last, chosen = 0, given.table and decoder(given.table)
@@ -104,7 +107,7 @@ def main() -> int:
                 language = given.lang or guess(stream.read(GUESSED))
                 stream.seek(start)
                 decoded = chosen or decoder({'receipt': 'cp437', 'label': 'utf-8'}[language])
-                line = say(stream, language, decoded, bounds.of(given))
+                line = say(stream, language, not given.as_it_came, decoded, bounds.of(given))
             if line:
                 print(line, file=sys.stderr)
                 last = max(last, 1)

@@ -2,7 +2,7 @@
 // so that what takes too long can be ended. Sheets and examples come with the page; files are followed where the
 // browser lets a page read them again. See served.js for what each call is.
 //
-// Streams that are written anew only a server has.
+// All of a stream is what the whole language prints of it: streams that are written anew only a server has.
 
 const SECONDS = 10;
 const MOST_STREAM = 4 << 20;
@@ -42,7 +42,7 @@ export class Printer {
   async state() {
     await this.module;
     return { files: [], examples: given.examples.map(it => it.name), width: 576, language: null, most: MOST_STREAM,
-      anew: null, known: given.known, fonts: { a: 'font-a.pbm', b: 'font-b.pbm' } };
+      anew: true, served: false, known: given.known, fonts: { a: 'font-a.pbm', b: 'font-b.pbm' } };
   }
 
   async print(stream, words, take, signal) {

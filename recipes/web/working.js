@@ -13,16 +13,16 @@ function give(pieces) {
   return new Promise(done => { goOn = done; });
 }
 
-// What prints a stream with its sheets, on its paper.
-const printerOf = ({ lang, width, fontA, fontB }) =>
-  new Printer(lang, { fontA, fontB, ...(lang === 'receipt' && { width: Number(width) }) });
+// What prints a stream with its sheets, on its paper, by the whole language or by the profile.
+const printerOf = ({ lang, width, anew, fontA, fontB }) =>
+  new Printer(lang, { fontA, fontB, whole: anew === '1', ...(lang === 'receipt' && { width: Number(width) }) });
 
 // What the program would say of it: its line on standard error, and its status.
 async function work(job) {
-  const { work: what, lang, stream } = job;
+  const { work: what, lang, anew, stream } = job;
   let machine;
   try {
-    machine = what === 'list' ? new Listing(lang, { offsets: true }) : printerOf(job);
+    machine = what === 'list' ? new Listing(lang, { offsets: true, whole: anew === '1' }) : printerOf(job);
   } catch (error) {
     return { line: `vp: ${error.message}`, status: 3, late: false };
   }

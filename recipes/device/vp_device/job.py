@@ -19,7 +19,7 @@ MOST_LOOKED_AT = 1 << 16
 # Of so many bytes at most a language is guessed, and what shows it at once.
 GUESSED = 256
 SHOWS = re.compile(rb'[\x10\x1b-\x1d]|[\^~][A-Za-z]|\S[^\n]*\n')
-# Commands that print nothing, and end a print in the core.
+# Commands that print nothing, and end a print by the profile.
 LEFT_OUT = 'ESC u', 'ESC v', 'GS g', 'GS j', 'DLE DC4'
 Answer = Callable[[Any, bool], None]
 
@@ -130,7 +130,7 @@ class Job:
             return
         try:
             if not self.printing:
-                words = self.ways.command or tools.words_of(self.language or 'receipt')
+                words = self.ways.words_of(self.language or 'receipt')
                 self.printing = Printing(self.ways.pool, words, self.ways.store.room, self.ways.bounds, self.part_of)
             sizes, fault, reached = self.printing.feed(start, self.part_of(start, end))
         except Cut as cut:
@@ -160,7 +160,7 @@ class Job:
 
     def side_of(self, request: Any) -> int:
         """How many dots the symbol is wide and high that a request asks about."""
-        return tools.side_of(request, self.ways.command or tools.words_of('receipt'))
+        return tools.side_of(request, self.ways.words_of('receipt'))
 
     def can_go_on(self) -> bool:
         """Waits until the printer can print. False where the job was given up, or thrown away."""
@@ -225,7 +225,7 @@ class Job:
         if not self.can_go_on():
             return 'nothing was printed'
         name, room = f'{self.number}.png', self.ways.store.room
-        command = self.ways.command or tools.words_of(self.language or 'receipt')
+        command = self.ways.words_of(self.language or 'receipt')
         try:
             made = batch.printed(self.ways, str(self.ways.store.folder / self.number), os.path.join(room, name),
                                  command, self.language == 'label')

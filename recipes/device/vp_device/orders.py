@@ -17,7 +17,8 @@ MOST_WIDE, MOST_LONG, MOST_DOTS = 15, 150, 1 << 27
 
 class Order(NamedTuple):
     """What is asked for: the language, the form, dots a millimetre, a label's size in dots or None, the width of a
-    receipt's paper in dots, how far it is turned, which image, and whether it is written anew first."""
+    receipt's paper in dots, how far it is turned, which image, whether it is written anew first, and whether it is
+    printed as it came, by the profile alone."""
 
     language: str
     form: str
@@ -27,6 +28,7 @@ class Order(NamedTuple):
     rotation: int = 0
     nth: Optional[int] = None
     expands: bool = False
+    as_it_came: bool = False
 
 
 class Made(NamedTuple):
@@ -63,10 +65,14 @@ def read(path: Match[str], query: Dict[str, str], accept: str) -> Order:
     index = query.get('index', index)
     if index is not None and not re.fullmatch(r'\d{1,4}', index):
         raise ValueError('index is a number from 0 to 9999')
-    if query.get('expand', 'no') not in ('yes', 'no'):
-        raise ValueError('expand is yes or no')
+    wrong = [it for it in ('expand', 'as-it-came') if query.get(it, 'no') not in ('yes', 'no')]
+    if wrong:
+        raise ValueError(f'{wrong[0]} is yes or no')
+    expands, as_it_came = (query.get(it) == 'yes' for it in ('expand', 'as-it-came'))
+    if expands and as_it_came:
+        raise ValueError('expand writes a stream anew, and as-it-came does not')
     made = Order('label', form or accepted(accept), rotation=int(rotation),
-                 nth=int(index) if index is not None else None, expands=query.get('expand') == 'yes')
+                 nth=int(index) if index is not None else None, expands=expands, as_it_came=as_it_came)
     if receipt:
         return made._replace(language='receipt', width=WIDTHS[receipt])
     size = tuple(int(float(it) * INCH * int(dpmm) + 1e-6) for it in (wide, high))

@@ -20,55 +20,65 @@ in_process: Any = importlib.import_module('vp_recipes.in_process')
 program: Any = importlib.import_module('vp_recipes.program')
 sheets: Any = importlib.import_module('vp_recipes.sheets')
 streams: Any = importlib.import_module('vp_recipes.streams')
+words: Any = importlib.import_module('vp_recipes.words')
+add_as_it_came: Any = words.add_as_it_came
 LANGUAGES: Tuple[str, str] = streams.LANGUAGES
 # GS ( k: the symbol that is stored is printed.
 PRINT_SYMBOL = b'\x1d(k\x03\x001Q0'
 
 
-def words_of(language: str, width: Optional[int] = None) -> List[str]:
-    """The words that print a language with the shipped sheets."""
+def words_of(language: str, as_it_came: bool = False, width: Optional[int] = None) -> List[str]:
+    """The words that print a language with the shipped sheets, by the whole language or by the profile."""
     narrow = [f'--width={width}'] if width and language == 'receipt' else []
-    words: List[str] = program.direct([*program.find_vp(), language, *sheets.shipped(language), *narrow])
-    return words
+    made: List[str] = program.direct([*words.printing(language, as_it_came), *narrow])
+    return made
 
 
-def package_of(words: List[str]) -> Any:
+def command_of(given: List[str], expands: bool, as_it_came: bool) -> List[str]:
+    """The words that a user gave to print with, if any. What is written anew they print by the whole language."""
+    if expands and as_it_came:
+        raise program.Fault('--expand writes each stream anew, and --as-it-came does not', 2)
+    command: List[str] = program.direct(words.whole(given) if expands else given) if given else []
+    return command
+
+
+def package_of(command: List[str]) -> Any:
     """The Python package that does what words ask; None where a process has to."""
-    package = in_process.package(words)
-    return package if package and in_process.options(words[1:]) is not None else None
+    package = in_process.package(command)
+    return package if package and in_process.options(command[1:]) is not None else None
 
 
 @functools.lru_cache(8)
-def printers(words: Tuple[str, ...], _: Any) -> Any:
+def printers(command: Tuple[str, ...], _: Any) -> Any:
     """Printers as words ask for them, with the sheets as they were seen."""
-    package, found = package_of(list(words)), in_process.options(words[1:])
+    package, found = package_of(list(command)), in_process.options(command[1:])
     font_a, none = found.get('--font-a'), {'most_rows': None, 'most_bytes': None}
     whole = '--whole' in found
-    if words[1] == 'label':
+    if command[1] == 'label':
         return package.Label(font_a, **none, whole=whole)
     width = int(found.get('--width', '576'))
     return package.Receipt(font_a, found.get('--font-b'), width, **none, whole=whole)
 
 
-def handle_of(words: List[str]) -> Any:
+def handle_of(command: List[str]) -> Any:
     """A printer of the library's that was just switched on, whose paper nobody holds."""
-    seen = in_process.sheets_seen(in_process.options(words[1:]))
-    return printers(tuple(words), seen).start()._handle
+    seen = in_process.sheets_seen(in_process.options(command[1:]))
+    return printers(tuple(command), seen).start()._handle
 
 
 @functools.lru_cache(64)
-def printed_side(symbol: bytes, words: Tuple[str, ...]) -> int:
+def printed_side(symbol: bytes, command: Tuple[str, ...]) -> int:
     """How many rows what prints a symbol makes of it; none where it can't be printed."""
-    package = package_of(list(words))
+    package = package_of(list(command))
     if not package:
         return 0
-    width = int((in_process.options(list(words[1:])) or {}).get('--width', '576'))
+    width = int((in_process.options(list(command[1:])) or {}).get('--width', '576'))
     return sum(it.height for it in package.Receipt(None, None, width).print(symbol + PRINT_SYMBOL))
 
 
-def side_of(request: Any, words: List[str]) -> int:
+def side_of(request: Any, command: List[str]) -> int:
     """How many dots the symbol is wide and high that a request asks about. None is 0."""
-    return printed_side(request.symbol, tuple(words)) if request.symbol else 0
+    return printed_side(request.symbol, tuple(command)) if request.symbol else 0
 
 
 def part(package: Any, name: str) -> Any:

@@ -21,7 +21,7 @@ class Reached(Exception):
 
 def printed(order: Order, data: bytes, state: State, bounds: Any) -> Made:
     """What a stream prints, in the form that is asked for. An index that there is none of gives no body."""
-    words = tools.words_of(order.language, order.width)
+    words = tools.words_of(order.language, order.as_it_came, order.width)
     package = tools.package_of(words)
     stream = anew(order, words, data) if order.expands else data
     handle, cutter, out = tools.handle_of(words), tools.bounds.Cutter(bounds), bytearray()
@@ -84,9 +84,9 @@ def pages_of(order: Order, paper: Any) -> List[bitmap.Page]:
 def told(order: Order, package: Any, data: bytes, state: State, pages: List[bitmap.Page], fault: Any) -> bytes:
     """All that is known of a stream, as JSON."""
     chosen = pages if order.nth is None else pages[order.nth:][:1]
-    listing = package.list(data, order.language, True, None)
+    listing = package.list(data, order.language, True, None, not order.as_it_came)
     found: Any = importlib.import_module('vp_recipes.remarks')
-    remarks = found.remarks(data, order.language, tools.sheets.shipped(order.language))
+    remarks = found.remarks(data, order.language, tools.sheets.shipped(order.language), whole=not order.as_it_came)
     of: Dict[str, Any] = {
         'language': order.language, 'dots_a_millimetre': order.dpmm, 'count': len(pages),
         'images': [{'width': it.width, 'height': it.height,
@@ -102,7 +102,7 @@ def told(order: Order, package: Any, data: bytes, state: State, pages: List[bitm
 def answers(order: Order, package: Any, data: bytes, state: State) -> List[Dict[str, Any]]:
     """What is asked, and what a printer of this state answers."""
     found = []
-    words = tools.words_of(order.language, order.width)
+    words = tools.words_of(order.language, order.as_it_came, order.width)
     for place, it in tools.part(package, 'requests').requests(data, order.language):
         if order.language == 'receipt':
             said = escpos.answer(it.name, it.arguments, state, tools.side_of(it, words))

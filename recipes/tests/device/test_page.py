@@ -39,8 +39,8 @@ class Page(tills.WithPrinter):
         self.has("document.querySelector('#jobs button').textContent.includes('printed')")
         self.has("document.querySelector('article img').naturalWidth === 576")
         self.has("document.getElementById('asked').textContent.includes('5f 56 50 00')")
-        printer.sent(b'\x1b\x7f')
-        self.has("document.querySelector('#jobs .fault').textContent.includes('F1')")
+        printer.sent(b'\x1dk\x04a\0')
+        self.has("document.querySelector('#jobs .fault').textContent.includes('F2')")
         self.has("document.querySelector('article .fault').textContent.includes('unknown command')")
         self.browser.value("document.getElementById('search').value = 'GS I';"
                            "document.getElementById('search').dispatchEvent(new Event('input'))")

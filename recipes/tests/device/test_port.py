@@ -193,9 +193,21 @@ class Kept(tills.WithPrinter):
 
     def test_written_anew(self) -> None:
         printer = self.printer('--expand')
-        printer.sent(b'^XA^FO10,10^GC50,5,B^FS^XZ')
-        printer.sent(b'a\n\x1b\x7f')
-        self.assertEqual(printer.lines(2), ['000001 printed', '000002 vp: F1 after 4 bytes: unknown command 1B 7F'])
+        printer.sent(b'^XA^FO10,10^GB50,50,5,B,8^FS^XZ')
+        printer.sent(b'a\n\x1b\x7f\x1bE')
+        self.assertEqual(printer.lines(2), ['000001 printed', '000002 vp: F8 after 6 bytes: input ends inside a command'])
+
+    def test_as_it_came(self) -> None:
+        told = {(): 'vp: F8 after 6 bytes: input ends inside a command',
+                ('--as-it-came',): 'vp: F1 after 4 bytes: unknown command 1B 7F'}
+        for words, line in told.items():
+            with self.subTest(words):
+                printer = self.printer(*words)
+                printer.sent(b'^XA^FO10,10^GC50,5,B^FS^XZ')
+                printer.sent(b'a\n\x1b\x7f\x1bE')
+                self.assertEqual(printer.lines(2), ['000001 printed' if not words else '000001 nothing was printed',
+                                                    f'000002 {line}'])
+                printer.end()
 
     def test_files_of_others_stay(self) -> None:
         with tempfile.TemporaryDirectory() as room:

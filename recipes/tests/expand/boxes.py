@@ -68,6 +68,7 @@ def contents() -> Iterator[Content]:
                         ('MicroPDF417', b'^BF@,6'),
                         ('Data Matrix', b'^BX@,4,200')):
         yield Content(name, field + b'^FDSome data')
+    yield Content('PDF417 of three columns', b'^B7@,6,,3^FDSome data')
     yield Content('MaxiCode', b'^BD4^FDSome data', turns=False, box=(215, 204))
     yield Content('QR beyond version 10', b'^BQN,2,2^FDHA,' + b'x' * 200, turns=False)
     yield Content('QR', b'^BQN,2,3^FDMA,Some data', turns=False)
@@ -93,7 +94,7 @@ def corner(at: str, end: bool, turn: str, box: Tuple[int, int], below: int) -> T
 def printed(vp: str, streams: List[bytes]) -> List[Optional[Box]]:
     """The boxes of the ink of labels, each by expand and vp."""
     found = expanded(PICTURE + b''.join(streams), 'label', Options(sheet=tuple(shipped('label'))))
-    ran = subprocess.run([vp, 'label', *shipped('label')], input=found.data, stdout=subprocess.PIPE,
+    ran = subprocess.run([vp, 'label', '--whole', *shipped('label')], input=found.data, stdout=subprocess.PIPE,
                          stderr=subprocess.PIPE)
     assert ran.returncode == 0, ran.stderr
     return list(ink(ran.stdout))

@@ -10,7 +10,8 @@ sys.dont_write_bytecode = True
 from vp_recipes.expand import labels, receipts  # noqa: E402
 
 COUNT = 250
-READ = 'XA XZ FS FD FX FH FO FT FR FB A B3 BE BC BQ GB GF PW LL LH LR PO PM PQ CF FW BY'.split()
+READ = ('XA XZ FS FD FX FH FO FT FR FB A B3 BE BC BQ GB GF PW LL LH LR PO PM PQ CF FW BY '
+        'B0 B1 B2 B7 B8 B9 BA BK BM BO BS BU BX GC GD GE').split()
 CONTROLS = {'0a': 'LF', '09': 'HT', '0d': 'CR', '0c': 'FF', '18': 'CAN'}
 WHOLE = [
     b'\n', b'\t', b'\x0c', b'\x18', b'\x1b@', b'\x1bE\x01', b'\x1ba\x01', b'\x1d!\x11', b'\x1bd\x02', b'\x1dV\0',
@@ -20,12 +21,12 @@ WHOLE = [
     b'\x1dv0\0\x01\0\x02\0ab', b'\x1bW12345678', b'\x1b \x01', b'\x1d(k\x01\0a', b'\x1bc3\x01', b'\x1bL', b'\x1bS',
     b'\x1b\x0c', b'\x1d$\x01\0', b'\x1dP\x01\x02',
 ]
-WRONG = [b'\x1b\x7f', b'\x1dv1', b'\x1b*\x05ab', b'\x1dV\x05', b'\x1bc9']
+WRONG = [b'\x1b\x7f', b'\x1dv1', b'\x1b*\x05ab', b'\x1dV\x05', b'\x1bc9', b'\x1d8K\2\0\0\0ab', b'\x10\x7f', b'\x1ca9', b'\x1dk\x20']
 
 
 def listed(vp, data, language):
     """The items of vp's listing with their places, without those of data."""
-    ran = subprocess.run([vp, 'list', '--lang', language, '--offsets'], input=data, stdout=subprocess.PIPE,
+    ran = subprocess.run([vp, 'list', '--lang', language, '--whole', '--offsets'], input=data, stdout=subprocess.PIPE,
                          stderr=subprocess.PIPE)
     items = [it.split(' ', 1) for it in ran.stdout.decode('latin-1').splitlines()]
     kinds = 'byte', 'char', 'column'
@@ -89,9 +90,9 @@ def receipts_agree(vp):
     for _ in range(COUNT):
         data = b''.join(random.choice(WHOLE) if random.random() < .6 else
                         bytes(random.choice(b'AB\xc3 z\x07\0') for _ in range(3)) for _ in range(random.randint(1, 20)))
-        data += random.choice(WRONG) + b'xyz' if random.random() < .1 else b''
+        data += random.choice(WRONG) + b'xyz' + random.choice(WHOLE) if random.random() < .3 else b''
         items = [(it.end, CONTROLS.get(it.name, f'ctl {it.name}') if it.kind == 'control' else it.name)
-                 for it in receipts.units(data) if it.kind in ('control', 'command')]
+                 for it in receipts.units(data) if it.kind in ('control', 'command', 'unknown')]
         wanted, line = listed(vp, data, 'receipt')
         wanted = [(place, text if text.split(' ')[0] not in ('esc', 'gs', 'fs', 'dle') else
                    ' '.join(text.split(' ')[:3 if text[:5] in ('gs 28', 'gs 38') else 2])) for place, text in wanted]

@@ -46,7 +46,7 @@ def printed(vp, name):
     found = expanded(data, language, chosen)
     done = all(it.is_done for it in found.remarks)
     assert done != (name.name in TOLD), f'{name.name}: {found.remarks}'
-    ran = subprocess.run([vp, language, *chosen.sheet], input=found.data, stdout=subprocess.PIPE, stderr=subprocess.PIPE)
+    ran = subprocess.run([vp, language, '--whole', *chosen.sheet], input=found.data, stdout=subprocess.PIPE, stderr=subprocess.PIPE)
     assert ran.returncode == 0, f'{name.name}: {ran.stderr}'
     if chosen == Options(sheet=chosen.sheet):
         again = expanded(found.data, language, chosen)

@@ -1,5 +1,5 @@
 #!/usr/bin/env python3
-"""Reads back each symbol that expand writes, as vp prints it, in all turns: readback.py VP FOLDER [WORD]
+"""Reads back each symbol that expand keeps or writes, as vp prints it, in all turns: readback.py VP FOLDER [WORD]
 
 With ZXingReader, zbarimg and dmtxread, whichever of them there are and read such a symbol.
 """
@@ -97,7 +97,7 @@ RECEIPTS = [
 def printed(vp, data, language):
     """What vp prints of the stream anew: one image's rows, and what was told."""
     found = expanded(data, language, Options(sheet=tuple(shipped(language))))
-    ran = subprocess.run([vp, language, *shipped(language)], input=found.data, stdout=subprocess.PIPE, stderr=subprocess.PIPE)
+    ran = subprocess.run([vp, language, '--whole', *shipped(language)], input=found.data, stdout=subprocess.PIPE, stderr=subprocess.PIPE)
     assert ran.returncode == 0, f'{data[:80]}: {ran.stderr}'
     rows, width = [], 0
     import io

@@ -1,76 +1,62 @@
 #!/usr/bin/env python3
-"""Whether expand takes and refuses the data of vp's own symbols as vp does, and knows how wide they are: refused.py
-VP"""
+"""Whether no symbol's data end a stream that is written anew, and those stay that vp takes: refused.py VP"""
+import os
 import pathlib
 import random
 import subprocess
 import sys
-from typing import Callable, Dict, Optional, Tuple
+from typing import Tuple
 sys.path.insert(0, str(pathlib.Path(__file__).resolve().parent.parent.parent))
 sys.dont_write_bytecode = True
-from vp_recipes.expand import own_symbols  # noqa: E402
-from vp_recipes.labels import ink  # noqa: E402
+from vp_recipes.expand import Options, expanded  # noqa: E402
 
-COUNT = 400
+COUNT = 600
 SIGNS = b'0123456789', b'0123456789ABC', b'ABC*abc-. $/+%', b'>0123456789:;<=AB\x7f', b'{ABCS1234{ab0199\x05'
-FRONTS = {'128': [b'', b'>:', b'>;', b'>9'],
-          'QR': [b'QA,', b'', b'MM,N', b'HM,A', b'LM,B0004', b'QM,K', b'XA,', b'LM,B00'],
-          'GS 128': [b'{A', b'{B', b'{C', b'']}
-COMMANDS = {'39': b'^BY1^B3N,N,20,N', 'EAN': b'^BY1^BEN,20,N', '128': b'^BY1^BCN,20,N',
-            '128 A': b'^BY1^BCN,20,N,N,N,A', 'QR': b'^BQN,2,2',
-            'GS 39': b'E', 'GS EAN': b'C', 'GS 128': b'I'}
-Found = Tuple[Optional[str], Optional[int]]
+FRONTS = {'BQ': [b'QA,', b'', b'MM,N', b'HM,A', b'LM,B0004', b'QM,K', b'XA,', b'LM,B00'],
+          'BC': [b'', b'>:', b'>;', b'>9'], 'I': [b'{A', b'{B', b'{C', b'']}
+LABELS = ('B1N,N,20', 'B2N,20', 'B3N,N,20,N', 'B7N,2,0,3', 'B7N,2', 'B8N,20', 'B9N,20', 'BAN,20', 'BCN,20,N',
+          'BCN,20,N,N,N,A', 'BEN,20,N', 'BKN,N,20', 'BMN,B,20', 'BON,2', 'BQN,2,2', 'BSN,20', 'BUN,20', 'BXN,2,200',
+          'BXN,2,200,10,10', 'BXN,2,140')
+BARS = 'ABCDEFGHI'
 
 
-def bars(kind: str, found: own_symbols.Bars, narrow: int) -> Found:
-    """Why it is refused, and how many dots wide it is."""
-    return found.why, own_symbols.width(kind, found.chars, narrow, (5 * narrow + 1) // 2 if narrow > 1 else 3)
+def stream(n: int) -> Tuple[str, bytes, bytes]:
+    """A language, what prints a symbol of random data, and what prints behind it."""
+    signs = random.choice(SIGNS)
+    data = bytes(random.choice(signs) for _ in range(random.choice([random.randint(0, 14), 12, 60])))
+    if n % 3 == 0:
+        kind = random.choice(BARS)
+        data = random.choice(FRONTS.get(kind, [b''])) + data
+        return 'receipt', b'\x1dw\2\x1dk' + kind.encode() + bytes([len(data)]) + data, b'behind\n'
+    command = random.choice(LABELS)
+    data = random.choice(FRONTS.get(command[:2], [b''])) + data
+    digits = b''.join(b'_%02X' % it for it in data)
+    return 'label', b'^XA^BY1^FO0,0^' + command.encode() + b'^FH_^FD' + digits + b'^FS', b'^FO0,0^GB9,9,9^FS^XZ'
 
 
-def qr(data: bytes) -> Found:
-    why = own_symbols.front_of_qr(data)
-    if why:
-        return why, None
-    level, mode, body = own_symbols.qr_of_label(data)
-    version = own_symbols.version(body, level.decode(), mode.decode() or None)
-    return (None, 2 * (17 + 4 * version)) if version else ('it is too long', None)
-
-
-KNOWN: Dict[str, Callable[[bytes], Found]] = {
-    '39': lambda data: bars('Code 39', own_symbols.code_39(data), 1),
-    'EAN': lambda data: bars('EAN-13', own_symbols.ean_13(data, False), 1),
-    '128': lambda data: bars('Code 128', own_symbols.label_128(data, False), 1),
-    '128 A': lambda data: bars('Code 128', own_symbols.label_128(data, True), 1),
-    'GS 39': lambda data: bars('Code 39', own_symbols.code_39(data), 2),
-    'GS EAN': lambda data: bars('EAN-13', own_symbols.ean_13(data, True), 2),
-    'GS 128': lambda data: bars('Code 128', own_symbols.receipt_128(data), 2), 'QR': qr}
-
-
-def printed(vp: str, kind: str, data: bytes) -> Tuple[bool, Optional[int]]:
-    """Whether vp refuses the data, and how wide it prints the symbol; None where it is too wide."""
-    if kind.startswith('GS'):
-        stream, language = b'\x1dw\2\x1dk' + COMMANDS[kind] + bytes([len(data)]) + data, 'receipt'
-    else:
-        stream, language = (b'^XA^PW1248^LL80^FO0,0' + COMMANDS[kind] + b'^FH_^FD' + b''.join(b'_%02X' % it
-                                                                                              for it in data)
-                            + b'^FS^XZ'), 'label'
-    ran = subprocess.run([vp, language], input=stream, stdout=subprocess.PIPE, stderr=subprocess.PIPE)
-    box = next(ink(ran.stdout), None) if ran.returncode == 0 else None
-    return ran.returncode != 0 and b' F4 ' not in ran.stderr, box[2] - box[0] if box else None
+def printed(vp: str, language: str, data: bytes) -> Tuple[int, bytes, str]:
+    """How vp ends, what it prints, and what it says."""
+    ran = subprocess.run([vp, language, '--whole'], input=data, stdout=subprocess.PIPE, stderr=subprocess.PIPE)
+    return ran.returncode, ran.stdout, ran.stderr.decode()
 
 
 def main() -> None:
-    vp = sys.argv[1]
+    vp = os.environ['VP'] = sys.argv[1]
     random.seed(76)
+    kept = 0
     for n in range(COUNT):
-        kind = list(KNOWN)[n % len(KNOWN)]
-        signs = random.choice(SIGNS)
-        data = bytes(random.choice(signs) for _ in range(random.choice([random.randint(0, 14), 12, 60])))
-        data = random.choice(FRONTS.get(kind, [b''])) + data
-        (why, wide), (is_refused, width) = KNOWN[kind](data), printed(vp, kind, data)
-        assert is_refused == (why is not None), f'{kind} of {data!r}: {why}, and vp refuses it: {is_refused}'
-        assert width is None or wide == width, f'{kind} of {data!r} is {width} dots wide, not {wide}'
-    print(f'{COUNT} symbols are taken and refused as vp does')
+        language, symbol, behind = stream(n)
+        found = expanded(symbol + behind, language, Options())
+        told = '; '.join(it.text for it in found.remarks)
+        as_it_came, anew = printed(vp, language, symbol + behind), printed(vp, language, found.data)
+        assert anew[0] == 0, f'{symbol!r}: {anew[2]}'
+        if as_it_came[0] == 0:
+            assert found.data == symbol + behind and not told, f'{symbol!r}: {told}'
+            kept += 1
+        else:
+            assert told and found.data.endswith(behind), f'{symbol!r}: {as_it_came[2]} {told}'
+    assert COUNT // 4 < kept < COUNT, kept
+    print(f'{kept} of {COUNT} symbols stay as vp draws them, and the others end no stream')
 
 
 if __name__ == '__main__':

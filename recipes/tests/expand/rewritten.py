@@ -1,7 +1,7 @@
 #!/usr/bin/env python3
 """Small streams as drivers and tills send them, and what stands in the new ones: rewritten.py VP
 
-Each prints to its end. What is written anew is in the words that vp prints, and written anew again it stays.
+Each prints to its end by the whole language. What is written anew is in its words, and written anew again it stays.
 """
 import os
 import pathlib
@@ -51,8 +51,18 @@ def labels() -> List[Case]:
         Case('one of them by ^CF, and twice as high', b'^XA^CFS^FO9,9^FDHg^FS^FO9,99^ASN,80,70^FDHg^FS^XZ',
              [b'^A.N,40,', b'^A.N,80,']),
         Case('font 0 where no size was given', b'^XA^FO9,9^A0N^FDHg^FS^XZ', [b'^A.N,15,']),
-        Case('an oblong Data Matrix', b'^XA^FO9,9^BXN,4,200,,,,_,2^FDHello 12^FS^XZ', [b'^GFA'], [],
-             ['^BX: Data Matrix is written']),
+        Case('an oblong Data Matrix', b'^XA^FO9,9^BXN,4,200,,,,_,2^FDHello 12^FS^XZ',
+             [b'^XA^FO9,9^BXN,4,200,,,,_,2^FDHello 12^FS^XZ'], [b'^GFA']),
+        Case('Data Matrix of an older quality', b'^XA^FO9,9^BXN,4,140^FDHello^FS^FO0,0^GB9,9,1^FS^XZ',
+             [b'^FO9,9^GFA', b'^GB9,9,1'], [b'^BX'], ['^BX: a kind of it that is not drawn']),
+        Case('PDF417 of any size', b'^XA^FO9,9^B7N,6,2^FDHello^FS^XZ', [b'^GFA'], [b'^B7'],
+             ['^B7: PDF417 is written as a picture']),
+        Case("Aztec's rune", b'^XA^FO9,9^BON,4,N,300^FD25^FS^XZ', [b'^GFA'], [b'^BO'],
+             ['^BO: Aztec is written as a picture']),
+        Case('Codabar that ends at the right', b'^XA^FO400,9,1^BY2^BKN,N,40,N^FD123^FS^XZ',
+             [b'^FO274,9^BKN,N,40,N^FD123']),
+        Case('shapes', b'^XA^FO9,9^GC40,3,W^FS^FO90,9,1^GD30,40,3^FS^XZ',
+             [b'^FO9,9^GC40,3,W^FS^FO60,9^GD30,40,3^FS'], [b'^GF']),
         Case('Intelligent Mail of 31 digits', b'^XA^FO9,9^BY3^BZN,40,N,N,3^FD0123456709498765432101234567891^FS^XZ',
              [b'^GFA'], [],
              ['^BZ: USPS is written as a picture']),
@@ -66,7 +76,7 @@ def labels() -> List[Case]:
              ['^BQ: model 1 of QR is written as model 2']),
         Case('letters in EAN-13', b'^XA^FO9,9^BEN,40^FD40063813A^FS^FO0,0^GB9,9,1^FS^XZ', [b'^FO9,9^GFA', b'^GB9,9,1'],
              [],
-             ['^BE: its data are not digits']),
+             ['^BE: its data have a sign that it has not']),
         Case('a sign that Code 39 has not', b'^XA^FO9,9^B3N,N,40^FDabc^FS^XZ', [b'^FO9,9^GFA'], [],
              ['^B3: its data have a sign']),
         Case('a set that Code 128 has not', b'^XA^FO9,9^BCN,40^FDA>4B^FS^XZ', [b'^FO9,9^GFA'], [],
@@ -104,9 +114,13 @@ def receipts() -> List[Case]:
         Case('two colours of a stored picture', b'\x1d(L\x0e\x000C0AB\2\10\0\1\0001\xf02\x0f\x1d(L\6\x000EAB\1\1',
              [b'\x1dv0\0\1\0\1\0\xff'], [],
              ['GS ( L: a second colour is written in black']),
-        Case('a refused symbol', b'a\n\x1dk\2abc\0b\n', [b'a\nb\n'], [], ['GS k 2: EAN-13: its data are not digits']),
+        Case('a refused symbol', b'a\n\x1dk\2abc\0b\n', [b'a\nb\n'], [], ['GS k 2: EAN-13: its data have a sign that it has not']),
         Case('bars wider than the line', b'\x1dw\6\x1dkI\x20{B' + b'x' * 30 + b'after\n', [b'after\n'], [b'\x1dk'],
-             ['GS k 73: Code 128 is 2']),
+             ['GS k 73: Code 128: it is wider than the line']),
+        Case('bars that vp draws', b'\x1dk\x00012345678905\0\x1dkF\x04' + b'1234\x1dkH\2AB',
+             [b'\x1dk\x00012345678905\0\x1dkF\x04' + b'1234\x1dkH\2AB']),
+        Case('a command that is none', b'a\x1b\x7f\x9bb\n', [b'a\x1b\x7f\x1bt\x13\xbdb\n'], [],
+             ['ESC 7f is no command that is known: it is read past']),
         Case('QR of model 1', b'\x1d(k\4\0001A1\0\x1d(k\5\0001P0hi\x1d(k\3\0001Q0', [b'\x1d(k\4\0001A2\0'], [],
              ['model 1 of QR is written as model 2']),
         Case('QR without data', b'\x1d(k\5\0001P0hi\x1b@\x1d(k\3\0001Q0after\n', [b'after\n'], [],
@@ -128,7 +142,7 @@ def check(vp: str, language: str, case: Case, options: Options) -> None:
         assert part not in found.data, f'{case.what}: {part!r} in {found.data!r}'
     for text in case.told:
         assert text in told, f'{case.what}: it tells {told!r}'
-    ran = subprocess.run([vp, language], input=found.data, stdout=subprocess.PIPE, stderr=subprocess.PIPE)
+    ran = subprocess.run([vp, language, '--whole'], input=found.data, stdout=subprocess.PIPE, stderr=subprocess.PIPE)
     assert ran.returncode == 0, f'{case.what}: {ran.stderr!r} of {found.data!r}'
     again = expanded(found.data, language, options)
     assert again.data == found.data, f'{case.what}: written anew twice: {again.data!r}'

@@ -29,9 +29,12 @@ def test_prints(page):
     # what vp leaves out is written anew where the page asks for it, and a fault's byte is that of the stream that came
     circle = b'^XA^PW80^LL40^FO8,8^GC20,3^FS^XZ'
     assert not any(page.print(circle)[0][9:]) and any(page.print(circle, more='&anew=1')[0][9:])
-    assert [19, '^GC is written as a picture'] in json.loads(page.good('remarks?lang=label&anew=1', circle))
-    same(page.print(b'a\x10\x14\x01\x00\x05\x1b\x7f', 'receipt', '&anew=1')[1]['line'],
-         'vp: F1 after 8 bytes: unknown command 1B 7F')
+    assert not json.loads(page.good('remarks?lang=label&anew=1', circle)), 'what the whole language draws is told'
+    assert b'^GC20,3\n' in page.list(circle, more='&anew=1')[0] and b'^GC skipped\n' in page.list(circle)[0]
+    found = json.loads(page.good('remarks?lang=label&anew=1', b'^XA^PW80^LL40^FO8,8^BFN,4^FDx^FS^XZ'))
+    assert any(text.startswith('^BF: MicroPDF417') for _, text in found), found
+    same(page.print(b'a\x10\x14\x01\x00\x05\x1bE', 'receipt', '&anew=1')[1]['line'],
+         'vp: F8 after 8 bytes: input ends inside a command')
 
 
 def test_faults(page):

@@ -74,8 +74,8 @@ class Viewer:
     def print(self, body, language='label', more=''):
         return self.passed(f'print?lang={language}{more}', body)
 
-    def list(self, body, language='label'):
-        return self.passed(f'list?lang={language}', body)
+    def list(self, body, language='label', more=''):
+        return self.passed(f'list?lang={language}{more}', body)
 
 
 def same(said, expected):

@@ -49,7 +49,7 @@ def test_help(browser):
     type_at(browser, '^BX', more=-1)
     browser.wait(f"{HELP}.includes('Field Origin') && {HELP}.includes('from the top; 0 to 32,000; else 0')", 'help')
     type_at(browser, 'BXN', more=2)
-    browser.wait(f"{HELP}.includes('Data Matrix') && {HELP}.includes('read past')", 'what is read past')
+    browser.wait(f"{HELP}.includes('Data Matrix Bar Code') && {HELP}.includes('read past by the profile')", 'another')
     type_at(browser, '90,80', more=1)
     browser.wait(f"{HELP}.includes('Graphic Box') && {HELP}.includes('width in dots; 1 to 32,000; else t')", 'a width')
     shown(browser, 'shipping.zpl')
@@ -100,8 +100,8 @@ def test_words(browser):
 
 
 def test_docs(_):
-    """The ranges that help says are those of the documents, of the profile's commands."""
-    rows, page = {}, (ROOT / 'docs/zpl.md').read_text(encoding='utf-8').partition('\n## The whole language\n')[0]
+    """The ranges that help says are those of the documents."""
+    rows, page = {}, (ROOT / 'docs/zpl.md').read_text(encoding='utf-8')
     assert 'd is 1 to 1,024' in page
     for line in page.splitlines():
         found = [it.strip() for it in line.split('|')]
@@ -114,7 +114,8 @@ def test_docs(_):
         assert name in row[2], (command, name, row[2])
         for number in re.findall(r'\d[\d,.]*\d|\d', ' '.join(it.partition('; ')[2] for it in parameters.split(' | '))):
             # (some are said as those of another command, those of pictures below the table)
-            near = row[3] + rows['^B3'][3] * (command in ('^BE', '^BC')) + 'd is 1 to 1,024' * (command == '^GF')
+            near = (' '.join(row[3:]) + rows['^B3'][3] * command.startswith('^B') + 'd is 1 to 1,024' * (command == '^GF')
+                    + rows['^GC'][3] * (command == '^GE'))
             assert number in near, (command, number, near)
 
 

@@ -64,11 +64,22 @@ def test_limits(browser):
     assert b'P4' in bytes(browser.value('[...viewer.tab().paper.subarray(0, 2)]'))
 
 
+def test_whole(browser):
+    """The page prints and lists by the whole language; without `all of it`, as the tests behind this do, by the profile."""
+    new_stream(browser, 'label')
+    browser.value("document.getElementById('text').select()")
+    browser.insert('^XA^PW80^LL40^FO8,8^GC20,3^FS^XZ')
+    has_ink = 'viewer.tab().paper.subarray(9).some(it => it)'
+    listed = "viewer.tab().rows.some(it => it.kind === 'skip')"
+    browser.wait(f'{READY} && {has_ink} && !{listed}', 'a circle')
+    browser.click("document.getElementById('anew')")
+    browser.wait(f'{READY} && !{has_ink} && {listed}', 'a circle that is skipped')
+
+
 def test_alone(browser):
     """Nothing is asked of any other place, and what the page lacks isn't offered."""
     asked = "performance.getEntriesByType('resource').map(it => it.name)"
     same([it for it in browser.value(asked) if not it.startswith(('data:', 'blob:'))], [])
-    same(browser.value("document.getElementById('anew').closest('label').hidden"), True)
 
 
 def test_followed(browser):
@@ -122,7 +133,7 @@ def test_page(browser, room, page, streams, only_streams):
         took = opened(browser, page)
         print(f'{browser.name}: the page is loaded, and has printed, in {1000 * took:.0f} ms')
         browser.size(2200, 1700)
-        for test in (test_first, test_as_lint, *SAID, *SEEN, *WRITTEN, *ON_BOTH, test_files, test_alone, test_followed,
+        for test in (test_first, test_as_lint, test_whole, *SAID, *SEEN, *WRITTEN, *ON_BOTH, test_files, test_alone, test_followed,
                      *KEPT, test_limits):
             test(browser)
         same(browser.errors, [])

@@ -4,6 +4,7 @@ from typing import Optional
 from . import shapes, symbols
 from .labels import Command
 from .pictures import Bad, Picture, read
+from .placed import Point
 from .store import named
 from .symbol_fields import SymbolField
 from .text_fields import TextField
@@ -25,14 +26,12 @@ class Field(TextField, SymbolField):
             if 'GS' in self.parts:
                 return self.sign(self.parts['GS'])
             return self.of_symbol(self.symbol) if self.symbol else self.of_text()
-        if name == 'GB':
-            return self.box(command)
+        if name in ('GB', 'GC', 'GE', 'GD'):
+            return self.shape(command)
         if name == 'GF':
             return self.graphic(command)
         if name in ('XG', 'IM'):
             return self.stored(command)
-        if name in ('GC', 'GE', 'GD'):
-            return self.shape(command)
         return self.again()
 
     # ---- pictures and shapes
@@ -91,11 +90,12 @@ class Field(TextField, SymbolField):
         self.remarks.anew(command.start, f'the picture {name} is written out')
         return self.pictured(thing.magnified(across, down))
 
-    def box(self, command: Command) -> Optional[bytes]:
+    def shape(self, command: Command) -> Optional[bytes]:
+        """A shape that vp draws itself, but for round corners: where its right edge is at the place, by its width."""
         t = command.number(2, 1, 1, 32000)
-        width, height = (max(t, command.number(n, t, 1, 32000)) for n in (0, 1))
-        round_by = command.number(4, 0, 0, 8)
-        if round_by and not self.is_white(command, 3) and not self.is_too_much(width, height):
+        width, height = self.size_of_shape(command, t)
+        round_by = command.number(4, 0, 0, 8) if command.name == 'GB' else 0
+        if round_by and not self.is_white(command) and not self.is_too_much(width, height):
             self.remarks.anew(command.start, '^GB: a box with round corners is written as a picture')
             return self.pictured(shapes.rounded(width, height, t, round_by))
         if not self.moved_right() or not self.at:
@@ -103,28 +103,21 @@ class Field(TextField, SymbolField):
         x, y = self.corner(width, height, 'N')
         return self.again_as({id(self.at): b'^FO%d,%d' % (max(0, x), max(0, y))})
 
-    def is_white(self, command: Command, n: int) -> bool:
-        if command.letter(n, 'BW', 'B') != 'W' or 'FR' in self.parts:
-            return False
-        self.remarks.not_written(command.start, f'^{command.name}: a white shape with round edges is not written')
-        return True
-
-    def shape(self, command: Command) -> bytes:
+    def size_of_shape(self, command: Command, t: int) -> Point:
+        """How wide and high a shape is whose lines are t dots thick."""
+        if command.name == 'GB':
+            return max(t, command.number(0, t, 1, 32000)), max(t, command.number(1, t, 1, 32000))
         if command.name == 'GC':
-            width = height = command.number(0, 3, 3, 4095)
-            t, colour = command.number(1, 1, 1, 4095), 2
-        else:
-            width, height = (command.number(n, 3, 3, 4095) for n in (0, 1))
-            t, colour = command.number(2, 1, 1, 4095), 3
-        if self.is_white(command, colour) or self.is_too_much(width, height):
-            return b''
-        if command.name == 'GD':
-            leans = 'L' if command.parameter(4)[:1].upper() in ('\\', 'L') else 'R'
-            picture = shapes.diagonal(max(width, t), height, t, leans)
-        else:
-            picture = shapes.ellipse(width, height, t)
-        self.remarks.anew(command.start, f'^{command.name} is written as a picture')
-        return self.pictured(picture)
+            side = command.number(0, 3, 3, 4095)
+            return side, side
+        least, most = (max(3, t), 32000) if command.name == 'GD' else (max(3, min(t, 4095)), 4095)
+        return command.number(0, least, 3, most), command.number(1, least, 3, most)
+
+    def is_white(self, command: Command) -> bool:
+        if command.letter(3, 'BW', 'B') != 'W' or 'FR' in self.parts:
+            return False
+        self.remarks.not_written(command.start, '^GB: a white box with round corners is not written')
+        return True
 
     def sign(self, command: Command) -> bytes:
         height, width = (command.number(n, own or 24, 1, 1500)

@@ -1,11 +1,10 @@
-"""The symbols of labels: what each command's parameters and data make."""
+"""The symbols of labels that vp doesn't draw: what each command's parameters and data make."""
 import re
 from typing import Callable, Dict, Optional, Tuple
 
-from . import zint
+from .asking import LONG, UNSUPPORTED
 from .identifiers import bracketed, divided, spelled
 from .labels import Command
-from .own_symbols import qr_of_label
 from .symbols import Symbol
 from .zint import Refused
 
@@ -28,10 +27,8 @@ NAMES = {
 }
 # MicroPDF417's modes: how many columns each has.
 MICRO = [1] * 6 + [2] * 7 + [3] * 10 + [4] * 11
-SIZES = {(10, 10): 1, (12, 12): 2, (14, 14): 3, (16, 16): 4, (18, 18): 5, (20, 20): 6, (22, 22): 7, (24, 24): 8,
-         (26, 26): 9, (32, 32): 10, (36, 36): 11, (40, 40): 12, (44, 44): 13, (48, 48): 14, (52, 52): 15, (64, 64): 16,
-         (72, 72): 17, (80, 80): 18, (88, 88): 19, (96, 96): 20, (104, 104): 21, (120, 120): 22, (132, 132): 23,
-         (144, 144): 24, (8, 18): 25, (8, 32): 26, (12, 26): 27, (12, 36): 28, (16, 36): 29, (16, 48): 30}
+# Those that vp draws, but for what it refuses.
+DRAWN = {'B0', 'B1', 'B2', 'B3', 'B7', 'B8', 'B9', 'BA', 'BC', 'BE', 'BK', 'BM', 'BO', 'BQ', 'BS', 'BU', 'BX'}
 
 
 def check_of_tens(digits: str) -> str:
@@ -61,7 +58,7 @@ def compressed(text: str) -> str:
     raise Refused('its digits are none that UPC-E has')
 
 
-def upc_e(data: bytes) -> Tuple[str, str]:
+def upc_e(data: bytes) -> str:
     """What zint takes of UPC-E's data: a zero, and six digits."""
     text = digits_of(data)
     if len(text) in (11, 12):
@@ -69,19 +66,7 @@ def upc_e(data: bytes) -> Tuple[str, str]:
     six = compressed(text) if len(text) == 10 else text[1:7] if len(text) in (7, 8) else text
     if len(six) != 6:
         raise Refused('it takes six to twelve digits')
-    return '0' + six, whole_upc(six)
-
-
-def whole_upc(six: str) -> str:
-    """The eleven digits that six of UPC-E stand for."""
-    last = six[5]
-    if last in '012':
-        return '0' + six[:2] + last + '0000' + six[2:5]
-    if last == '3':
-        return '0' + six[:3] + '00000' + six[3:5]
-    if last == '4':
-        return '0' + six[:4] + '00000' + six[4]
-    return '0' + six[:5] + '0000' + last
+    return '0' + six
 
 
 def form_of(name: str) -> str:
@@ -95,57 +80,6 @@ def symbol(command: Command, data: bytes) -> Symbol:
     if not make:
         raise Refused('it is not written')
     return make(command, data)
-
-
-def interleaved(command: Command, data: bytes) -> Symbol:
-    text = digits_of(data)
-    if command.letter(4, 'YN', 'N') == 'Y':
-        text += check_of_tens(text)
-    text = '0' * (len(text) % 2) + text
-    return Symbol('2 of 5', 3, text.encode(), form='two', text=text.encode())
-
-
-def codabar(command: Command, data: bytes) -> Symbol:
-    text = data.decode('latin-1').upper()
-    if not text or text[0] not in 'ABCD' or text[-1] not in 'ABCD' or len(text) < 3:
-        text = command.letter(5, 'ABCD', 'A') + text + command.letter(6, 'ABCD', 'A')
-    return Symbol('Codabar', 18, text.encode('latin-1'), form='two', text=text.encode('latin-1'))
-
-
-def code_11(command: Command, data: bytes) -> Symbol:
-    words = ('--vers=1',) if command.letter(1, 'YN', 'N') == 'Y' else ()
-    return Symbol('Code 11', 1, data, words, 'two', data)
-
-
-def msi(command: Command, data: bytes) -> Symbol:
-    kind = 'ABCD'.index(command.letter(1, 'ABCD', 'B'))
-    words = (f'--vers={(0, 1, 2, 4)[kind]}',)
-    return Symbol('MSI', 47, data, words, 'two', digits_of(data).encode())
-
-
-def upc_a(command: Command, data: bytes) -> Symbol:
-    text = (digits_of(data)[:11]).rjust(11, '0')
-    text += check_of_tens(text)
-    shown = text if command.letter(4, 'YN', 'Y') == 'Y' else text[:11]
-    return Symbol('UPC-A', 34, text.encode(), text=shown.encode())
-
-
-def upc_e_of(command: Command, data: bytes) -> Symbol:
-    text, whole = upc_e(data)
-    shown = text + (check_of_tens(whole) if command.letter(4, 'YN', 'Y') == 'Y' else '')
-    return Symbol('UPC-E', 37, text.encode(), text=shown.encode())
-
-
-def ean_8(command: Command, data: bytes) -> Symbol:
-    text = digits_of(data)[:7].rjust(7, '0')
-    text += check_of_tens(text)
-    return Symbol('EAN-8', 13, text[:7].encode(), text=text.encode())
-
-
-def ean_13(command: Command, data: bytes) -> Symbol:
-    text = digits_of(data)[:12].rjust(12, '0')
-    text += check_of_tens(text)
-    return Symbol('EAN-13', 13, text.encode(), text=text.encode())
 
 
 def postal(command: Command, data: bytes) -> Symbol:
@@ -175,68 +109,12 @@ def code_128(command: Command, data: bytes) -> Symbol:
     return Symbol('Code 128', 16, bracketed(elements), ('--gs1nocheck',), text=shown)
 
 
-def code_39(command: Command, data: bytes) -> Symbol:
-    with_check = command.name == 'BL' or command.letter(1, 'YN', 'N') == 'Y'
-    return Symbol('Code 39', 8, data.strip(b'*'), ('--vers=1',) if with_check else (), 'two', data.strip(b'*'))
-
-
-def data_matrix(command: Command, data: bytes) -> Symbol:
-    quality = command.number(2, 0)
-    if quality != 200:
-        raise Refused(f'quality {quality} is not written, 200 is')
-    columns, rows = command.number(3, 0), command.number(4, 0)
-    sign = (command.parameters() + [''] * 8)[6][:1] or '_'
-    data, is_gs1 = escaped(data, sign.encode('latin-1'))
-    words: Tuple[str, ...] = ()
-    if is_gs1:
-        elements = divided(data.lstrip(b'\x1d'))
-        if not elements:
-            raise Refused('its identifiers cannot be told apart')
-        data, words = bracketed(elements), ('--gs1', '--gs1nocheck')
-    if (rows, columns) in SIZES:
-        return Symbol('Data Matrix', 71, data, (*words, f'--vers={SIZES[rows, columns]}'), 'matrix')
-    if command.letter(7, '12', '1') == '2':
-        return oblong(data, words)
-    return Symbol('Data Matrix', 71, data, (*words, '--square'), 'matrix')
-
-
-def oblong(data: bytes, words: Tuple[str, ...]) -> Symbol:
-    """The smallest of the sizes that aren't squares in which the data have room."""
-    for (rows, columns), number in SIZES.items():
-        found = Symbol('Data Matrix', 71, data, (*words, f'--vers={number}'), 'matrix')
-        try:
-            if rows != columns and zint.modules(found.kind, found.data, found.words):
-                return found
-        except Refused:
-            continue
-    raise Refused('no size that is no square has room for its data')
-
-
-def escaped(data: bytes, sign: bytes) -> Tuple[bytes, bool]:
-    """Data Matrix's escapes: the bytes, FNC1 as GS, and whether one stands in front."""
-    out, at = bytearray(), 0
-    while at < len(data):
-        if data[at:at + 1] == sign and at + 1 < len(data):
-            after = data[at + 1:at + 2]
-            if after == b'1':
-                out += b'\x1d'
-            elif after == b'd' and data[at + 2:at + 5].isdigit():
-                out.append(min(255, int(data[at + 2:at + 5])))
-                at += 3
-            elif after == sign:
-                out += sign
-            elif b'@' <= after <= b'_':
-                out.append(after[0] - 0x40)
-            else:
-                out += sign + after
-            at += 2
-            continue
-        out.append(data[at])
-        at += 1
-    return bytes(out), data.startswith(sign + b'1')
+def logmars(command: Command, data: bytes) -> Symbol:
+    return Symbol('Code 39', 8, data.strip(b'*'), ('--vers=1',), 'two', data.strip(b'*'))
 
 
 def pdf_417(command: Command, data: bytes) -> Symbol:
+    """PDF417 of as many rows and columns as it takes, or of others than are asked for."""
     level, columns, rows = command.number(2, 0), command.number(3, 0), command.number(4, 0)
     words = [f'--secure={min(level, 8)}']
     words += [f'--cols={columns}'] if 1 <= columns <= 30 else []
@@ -250,18 +128,11 @@ def micro_pdf(command: Command, data: bytes) -> Symbol:
     return Symbol('MicroPDF417', 84, data, (f'--cols={MICRO[min(command.number(2, 0), 33)]}',), 'stacked')
 
 
-def aztec(command: Command, data: bytes) -> Symbol:
-    size = command.number(3, 0)
-    if size == 300:
-        return Symbol('Aztec', 128, data, (), 'matrix')
-    words: Tuple[str, ...] = ()
-    if 101 <= size <= 104:
-        words = (f'--vers={size - 100}',)
-    elif 201 <= size <= 232:
-        words = (f'--vers={size - 200 + 4}',)
-    elif size:
-        words = (f'--secure={1 if size < 17 else 2 if size < 30 else 3 if size < 43 else 4}',)
-    return Symbol('Aztec', 92, data, words, 'matrix')
+def rune(command: Command, data: bytes) -> Symbol:
+    """Aztec's rune of a number to 255."""
+    if command.number(3, 0) != 300:
+        raise Refused(LONG)
+    return Symbol('Aztec', 128, data, (), 'matrix')
 
 
 def maxicode(command: Command, data: bytes) -> Symbol:
@@ -281,7 +152,7 @@ def data_bar(command: Command, data: bytes) -> Symbol:
     kind = command.number(1, 1, 1, 12)
     main = data.split(b'|')[0]
     if kind in (7, 8, 9, 10):
-        return {7: upc_a, 8: upc_e_of, 9: ean_13, 10: ean_8}[kind](command, main)._replace(text=None)
+        return of_shops(kind, main)
     if kind in (11, 12) or b'|' in data:
         raise Refused('composite symbols are not written')
     if kind == 6:
@@ -294,10 +165,20 @@ def data_bar(command: Command, data: bytes) -> Symbol:
     return Symbol('DataBar', number, digits, form='stacked' if rows else 'fixed', rows=rows)
 
 
+def of_shops(kind: int, data: bytes) -> Symbol:
+    """UPC-A, UPC-E, EAN-13 and EAN-8 of ^BR, without text."""
+    if kind == 8:
+        return Symbol('UPC-E', 37, upc_e(data).encode())
+    count, name, number = {7: (11, 'UPC-A', 34), 9: (12, 'EAN-13', 13), 10: (7, 'EAN-8', 13)}[kind]
+    return Symbol(name, number, digits_of(data)[:count].rjust(count, '0').encode())
+
+
 def qr(command: Command, data: bytes) -> Symbol:
     """QR where it is larger than version 10, of a front that is one: its level, and what follows it."""
-    level, _, body = qr_of_label(data)
-    return Symbol('QR', 58, body, (f'--secure={"LMQH".index(level.decode("ascii")) + 1}',), 'matrix')
+    front = re.match(rb'([HQML])(?:A,|M,(?:[NA]|B\d{4}))', data)
+    if not front:
+        raise Refused(UNSUPPORTED)
+    return Symbol('QR', 58, data[front.end():], (f'--secure={b"LMQH".index(front[1]) + 1}',), 'matrix')
 
 
 def with_number(name: str, kind: int, form: str, is_text: bool = True) -> Callable[[Command, bytes], Symbol]:
@@ -305,11 +186,8 @@ def with_number(name: str, kind: int, form: str, is_text: bool = True) -> Callab
 
 
 MAKERS: Dict[str, Callable[[Command, bytes], Symbol]] = {
-    'B0': aztec, 'BO': aztec, 'B1': code_11, 'B2': interleaved, 'B3': code_39, 'BL': code_39, 'B7': pdf_417,
-    'B8': ean_8, 'B9': upc_e_of, 'BC': code_128, 'BD': maxicode, 'BE': ean_13, 'BF': micro_pdf, 'BK': codabar,
-    'BM': msi, 'BQ': qr, 'BR': data_bar, 'BU': upc_a, 'BX': data_matrix, 'BZ': postal,
-    'BA': with_number('Code 93', 25, 'fixed'), 'BI': with_number('Industrial 2 of 5', 7, 'two'),
+    'B0': rune, 'BO': rune, 'BL': logmars, 'B7': pdf_417, 'BC': code_128, 'BD': maxicode, 'BF': micro_pdf, 'BQ': qr,
+    'BR': data_bar, 'BZ': postal, 'BI': with_number('Industrial 2 of 5', 7, 'two'),
     'BP': with_number('Plessey', 86, 'two'), 'B4': with_number('Code 49', 24, 'stacked', False),
     'B5': with_number('Planet', 82, 'postal'), 'BB': with_number('Codablock', 74, 'stacked', False),
-    'BS': with_number('UPC add-on', 13, 'fixed'),
 }

@@ -7,6 +7,7 @@ from .pictures import Picture
 from .places import Written
 from .receipts import Unit, units
 from ..program import run
+from ..streams import WHOLE
 
 # What sets how the next letters stand, and is said again before a line that vp prints on its own.
 STYLES = {'esc 20', 'esc 21', 'esc 2d', 'esc 45', 'esc 47', 'esc 4d', 'esc 61', 'esc 44', 'gs 21', 'gs 42', 'gs 4c',
@@ -148,7 +149,7 @@ class Lines:
     def printed(self, data: bytes) -> List[Picture]:
         """The strips that vp prints of a line, each as wide as the line."""
         stream = b''.join(self.styles.values()) + b'\x1b3\0' + data + b'\n'
-        out, _, _ = run(['receipt', *self.options.sheet], stream)
+        out, _, _ = run(['receipt', WHOLE, *self.options.sheet], stream)
         room, at = min(self.area, WIDTH - self.left), 0
         found: List[Picture] = []
         while at < len(out):

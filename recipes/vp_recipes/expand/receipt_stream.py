@@ -1,13 +1,13 @@
 """A receipt's stream anew, unit by unit: what vp prints is kept, what moves no paper is left out."""
 from typing import Callable, Dict, Tuple
 
-from . import own_symbols, symbols, zint
+from . import asking, symbols, zint
 from .letters import COUNTRIES, PAGES
 from .options import Options
 from .pictures import Picture
 from .places import Written
 from .receipt_letters import TextWriter
-from .receipt_symbols import BARS, NAMES, OWN_BARS, Planes, of_bars
+from .receipt_symbols import BARS, DRAWN_BARS, NAMES, Planes, of_bars
 from .receipts import Unit, units, word
 from .remarks import Remarks
 from .till_pictures import Kept, has_other_colour, magnified, of_columns
@@ -59,17 +59,14 @@ class Writer(TextWriter):
                 self.command(unit)
             elif unit.kind == 'display':
                 self.remarks.anew(unit.start, "ESC =: text for the customer's display is left out")
+            elif unit.kind == 'unknown':
+                whose = "one of Star's" if unit.name in ('esc 1d', 'esc 1e', 'esc 07') else 'no command that is known'
+                self.refused(unit, f'{shown(unit.name)} is {whose}: it is read past')
+                self.keep(unit)
             else:
-                self.ended(unit)
+                self.lines.end()
+                self.stream.keep(unit.start, unit.end)
         self.lines.end()
-
-    def ended(self, unit: Unit) -> None:
-        """What ends the stream: a command that isn't known, or one that is cut."""
-        if unit.kind == 'unknown':
-            whose = "one of Star's" if unit.name in ('esc 1d', 'esc 1e', 'esc 07') else 'no command that is known'
-            self.refused(unit, f'{shown(unit.name)} is {whose}: nothing behind it is printed')
-        self.lines.end()
-        self.stream.keep(unit.start, unit.end)
 
     def keep(self, unit: Unit) -> None:
         self.lines.keep(unit)
@@ -295,29 +292,31 @@ class Writer(TextWriter):
     # ---- symbols
 
     def bar_code(self, unit: Unit, arguments: bytes) -> None:
-        kind = arguments[0]
-        data = arguments[1:-1] if kind < 7 else arguments[2:]
-        if kind in OWN_BARS:
-            self.own_bars(unit, OWN_BARS[kind], data)
+        kind, data = arguments[0], arguments[2:]
+        if kind in DRAWN_BARS:
+            self.drawn(unit, f'GS k {kind}: {DRAWN_BARS[kind]}')
         elif kind in BARS:
             self.symbol(unit, f'GS k {kind}', BARS[kind], lambda: (of_bars(kind, data), self.module, self.bars))
         else:
             self.refused(unit, f'GS k {kind}: a bar code that is not known: it is left out')
 
-    def own_bars(self, unit: Unit, name: str, data: bytes) -> None:
-        """Bars that vp draws itself, where it takes their data and they have room."""
-        found = {'Code 39': own_symbols.code_39, 'Code 128': own_symbols.receipt_128,
-                 'EAN-13': lambda it: own_symbols.ean_13(it, True)}[name](data)
-        if found.why:
-            self.refused(unit, f'GS k {self.data[unit.start + 2]}: {name}: {found.why}: it is not printed')
-            return
-        width = own_symbols.width(name, found.chars, self.module, symbols.wide_of_receipt(self.module))
-        if self.shown:
-            width = max(width, self.lines.cells(self.shown_font).size[0] * found.letters)
-        if width > self.room():
-            self.too_wide(unit, f'GS k {self.data[unit.start + 2]}', name, width)
+    def drawn(self, unit: Unit, title: str, stored: bytes = b'', but_for: str = '') -> bool:
+        """A symbol that vp draws itself of what is stored, kept where it takes the data and they have room; false where
+        it doesn't for a reason that another way is left for."""
+        set_now = b'\x1dh\1\x1dw%c\x1dH%c\x1df%c' % (self.module, self.shown, self.shown_font == 'b')
+        if self.is_page:
+            area = b''.join(it.to_bytes(2, 'little') for it in (0, 0, *self.page))
+            set_now += b'\x1bL\x1bW' + area + b'\x1bT%c' % self.page_lies
+        else:
+            set_now += b'\x1dW' + self.room().to_bytes(2, 'little')
+        why = asking.refusal('receipt', set_now + stored + self.data[unit.start:unit.end] + b'\x0c' * self.is_page)
+        if why and why == but_for:
+            return False
+        if why:
+            self.refused(unit, f'{title}: {why}: it is not printed')
         else:
             self.keep(unit)
+        return True
 
     def too_wide(self, unit: Unit, title: str, name: str, width: int) -> None:
         self.refused(unit, f'{title}: {name} is {width} dots wide, and the line {self.room()}: it is not printed')
@@ -346,16 +345,10 @@ class Writer(TextWriter):
         if not prints:
             self.keep(unit)
             return
-        data = self.planes.data.get(49, b'')
-        version = None if self.planes.is_micro() else own_symbols.version(data, self.planes.level())
-        if not data or not version:
+        is_drawn = not self.planes.is_micro() and self.drawn(unit, f'GS ( k 49: {NAMES[49]}', self.planes.of_qr(),
+                                                             asking.LONG)
+        if not is_drawn:
             self.symbol(unit, 'GS ( k 49', NAMES[49], lambda: self.planes.symbol(49))
-            return
-        width = (17 + 4 * version) * self.planes.module(49)
-        if width > self.room():
-            self.too_wide(unit, 'GS ( k 49', NAMES[49], width)
-        else:
-            self.keep(unit)
 
     def symbol(self, unit: Unit, title: str, name: str, make: Callable[[], Tuple[symbols.Symbol, int, int]]) -> None:
         """A symbol as a raster; `make` gives it with its module and its height, or raises zint.Refused."""
@@ -363,10 +356,9 @@ class Writer(TextWriter):
             symbol, narrow, height = make()
             if not symbol.data:
                 raise zint.Refused('there are no data')
-            wide = symbols.wide_of_receipt(narrow)
             if symbol.name == 'DataBar' and symbol.form == 'fixed':
                 height = max(height, 13 * narrow)
-            drawing = symbols.Drawing(narrow, wide, height, self.shown in (1, 3), self.shown in (2, 3),
+            drawing = symbols.Drawing(narrow, narrow, height, self.shown in (1, 3), self.shown in (2, 3),
                                       self.lines.cells(self.shown_font))
             found = symbols.picture(symbol, drawing)
         except zint.Refused as why:

@@ -1,18 +1,18 @@
-"""The symbols of receipts: what GS k and GS ( k print that vp doesn't."""
+"""The symbols of receipts: what GS k and GS ( k print, and how that is written which vp doesn't draw."""
 from typing import Dict, Tuple
 
 from .identifiers import bracketed, divided, spelled
-from .label_symbols import check_of_tens, digits_of, upc_e
+from .label_symbols import check_of_tens, digits_of
 from .symbols import Symbol
 from .zint import Refused
 
 NAMES = {48: 'PDF417', 49: 'QR', 50: 'MaxiCode', 51: 'DataBar', 52: 'a composite symbol', 53: 'Aztec',
          54: 'Data Matrix'}
-BARS = {0: 'UPC-A', 1: 'UPC-E', 3: 'EAN-8', 5: '2 of 5', 6: 'Codabar', 65: 'UPC-A', 66: 'UPC-E', 68: 'EAN-8',
-        70: '2 of 5', 71: 'Codabar', 72: 'Code 93', 74: 'GS1-128', 75: 'DataBar', 76: 'DataBar', 77: 'DataBar',
-        78: 'DataBar', 79: 'Code 128'}
+BARS = {74: 'GS1-128', 75: 'DataBar', 76: 'DataBar', 77: 'DataBar', 78: 'DataBar', 79: 'Code 128'}
 # Those that vp draws itself.
-OWN_BARS = {2: 'EAN-13', 4: 'Code 39', 67: 'EAN-13', 69: 'Code 39', 73: 'Code 128'}
+DRAWN_BARS = {0: 'UPC-A', 1: 'UPC-E', 2: 'EAN-13', 3: 'EAN-8', 4: 'Code 39', 5: '2 of 5', 6: 'Codabar', 65: 'UPC-A',
+              66: 'UPC-E', 67: 'EAN-13', 68: 'EAN-8', 69: 'Code 39', 70: '2 of 5', 71: 'Codabar', 72: 'Code 93',
+              73: 'Code 128'}
 # Of each kind of GS ( k the least and the greatest module.
 MODULES = {48: (2, 8), 49: (1, 16), 50: (1, 16), 51: (2, 8), 53: (2, 16), 54: (2, 16)}
 # How a symbol comes: with its module, and the height of a row of it.
@@ -22,30 +22,6 @@ Sized = Tuple[Symbol, int, int]
 def of_bars(kind: int, data: bytes) -> Symbol:
     """The symbol of GS k."""
     name = BARS[kind]
-    if name == 'UPC-A':
-        text = digits_of(data)
-        if len(text) not in (11, 12):
-            raise Refused('it takes eleven or twelve digits')
-        text = text[:11] + check_of_tens(text[:11])
-        return Symbol(name, 34, text.encode(), text=text.encode())
-    if name == 'UPC-E':
-        text, whole = upc_e(data)
-        return Symbol(name, 37, text.encode(), text=(text + check_of_tens(whole)).encode())
-    if name == 'EAN-8':
-        text = digits_of(data)
-        if len(text) not in (7, 8):
-            raise Refused('it takes seven or eight digits')
-        text = text[:7] + check_of_tens(text[:7])
-        return Symbol(name, 13, text[:7].encode(), text=text.encode())
-    if name == '2 of 5':
-        text = digits_of(data)
-        if len(text) % 2:
-            raise Refused('it takes an even number of digits')
-        return Symbol(name, 3, data, form='two', text=data)
-    if name == 'Codabar':
-        return Symbol(name, 18, data.upper(), form='two', text=data)
-    if name == 'Code 93':
-        return Symbol(name, 25, data, text=data)
     if name == 'Code 128':
         return Symbol(name, 20, data, text=data)
     return of_elements(name, kind, data)
@@ -99,6 +75,12 @@ class Planes:
     def number(self, cn: int, fn: int, n: int, default: int, least: int, most: int) -> int:
         found = self.settings.get((cn, fn), b'')
         return found[n] if n < len(found) and least <= found[n] <= most else default
+
+    def of_qr(self) -> bytes:
+        """What has vp print QR as it is stored now, but for the function that prints."""
+        body = b'1P0' + self.data.get(49, b'')
+        return b'\x1d(k\3\0001C%c\x1d(k\3\0001E%c\x1d(k%s%s' % (
+            self.module(49), 48 + 'LMQH'.index(self.level()), (len(body) & 0xFFFF).to_bytes(2, 'little'), body)
 
     def symbol(self, cn: int) -> Sized:
         """The symbol, its module, and the height of a row of it; raises Refused."""

@@ -5,7 +5,8 @@ from typing import Dict, Iterator, NamedTuple, Optional, Tuple
 
 class Unit(NamedTuple):
     """Bytes `start` to `end`: a text, a control byte, a text for the customer's display, or a command by its name as
-    the listing has it (lead and next byte, of families the third too), whose arguments are the bytes behind that."""
+    the listing has it (lead and next byte, of families the third too), whose arguments are the bytes behind that. A
+    command that isn't known is of kind 'unknown', and what is cut at the end of kind 'cut'."""
     kind: str
     name: str
     start: int
@@ -17,7 +18,7 @@ LEADS = {0x1B: 'esc', 0x1D: 'gs', 0x1C: 'fs', 0x10: 'dle'}
 TEXT = re.compile(rb'[\x20-\xff]+')
 # What ends a text for the display: ESC = with the printer's bit.
 LISTENS = re.compile(rb'\x1b=[%s]' % re.escape(bytes(range(1, 256, 2))))
-# How many bytes each command takes behind its name. Those below the line the profile hasn't.
+# How many bytes each command takes behind its name: those of the profile, and others.
 FIXED = {
     'esc': {0: '2 @ L S i m \x0c', 1: '! - 3 E G J d M T a % ? R t = U r { V', 2: '$ \\', 3: 'p', 8: 'W'},
     'gs': {1: '! B H f h w a r I b', 2: '$ L W P \\'},
@@ -114,9 +115,7 @@ def bars(data: bytes, at: int, kind: int) -> Optional[int]:
 
 
 def long_graphics(data: bytes, at: int, first: int) -> Optional[int]:
-    """GS 8 L."""
-    if first != 0x4C:
-        return -1
+    """GS 8."""
     return 5 + int.from_bytes(data[at + 1:at + 5], 'little') if at + 4 < len(data) else None
 
 
@@ -184,9 +183,13 @@ MEASURED = {
 }
 
 
+# Those whose first argument says how long they are: one that isn't known ends behind it.
+SAID_BY_FIRST = {*BY_FIRST, ('esc', '*'), ('gs', 'v'), ('gs', 'Q'), ('gs', 'k'), ('gs', 'z'), ('fs', 'g')}
+
+
 def units(data: bytes) -> Iterator[Unit]:
-    """The whole units of a stream in turn. Behind one of no known command, of kind 'unknown', comes no other; what is
-    cut at the end is of kind 'cut'."""
+    """The units of a stream in turn. One of no known command is two bytes, and a third one where that should have said
+    how long it is, as vp reads them past."""
     at, end = 0, len(data)
     while at < end:
         byte = data[at]
@@ -215,8 +218,10 @@ def units(data: bytes) -> Iterator[Unit]:
             size = measured(lead, chr(second), data, at + 2)
         name = f'{lead} {second:02x}'
         if size == -1:
-            yield Unit('unknown', name, at, end, b'')
-            return
+            stop = min(end, at + (3 if (lead, chr(second)) in SAID_BY_FIRST else 2))
+            yield Unit('unknown', name, at, stop, b'')
+            at = stop
+            continue
         if size is None or at + 2 + size > end:
             yield Unit('cut', name, at, end, b'')
             return

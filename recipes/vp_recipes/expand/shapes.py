@@ -1,4 +1,4 @@
-"""Circles, ellipses, diagonals, boxes with round corners and signs, as pictures."""
+"""Boxes with round corners and signs, as pictures."""
 import math
 from typing import Optional
 
@@ -27,14 +27,6 @@ def ellipse(width: int, height: int, t: int) -> Picture:
 
     return Picture(width, [amid(width, edge(width, height, y, False))
                            & ~amid(width, edge(width - 2 * t, height - 2 * t, y, True)) for y in range(height)])
-
-
-def diagonal(width: int, height: int, t: int, leans: str) -> Picture:
-    """A line t dots wide, measured along its rows, from corner to corner: R from the lower left, L from the upper."""
-    way = max(0, width - t)
-    starts = [y * way // max(1, height - 1) for y in range(height)]
-    return Picture(width, [row_of(width, start, start + t)
-                           for start in (starts if leans == 'L' else [way - it for it in starts])])
 
 
 def rounded(width: int, height: int, t: int, r: int) -> Picture:

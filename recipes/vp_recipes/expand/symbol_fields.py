@@ -1,13 +1,10 @@
-"""The symbol of a label's field: vp's own, the picture of another, or a frame where there is none."""
+"""The symbol of a label's field: vp's, the picture of one that vp doesn't draw, or a frame where there is none."""
 from typing import Optional, Tuple
 
-from . import label_symbols, own_symbols, symbols, zint
+from . import asking, label_symbols, symbols, zint
 from .labels import Command
 from .pictures import Picture
-from .placed import Placed, Point
-
-# Symbols that vp draws itself.
-OWN = {'B3', 'BE', 'BC', 'BQ'}
+from .placed import Placed, escaped
 
 
 class SymbolField(Placed):
@@ -15,17 +12,15 @@ class SymbolField(Placed):
 
     def of_symbol(self, command: Command) -> Optional[bytes]:
         """The field anew, None where vp prints it as it is."""
-        is_own = command.name in OWN and not self.is_beyond(command)
-        why = self.refused(command) if is_own else None
-        if why:
-            return self.framed(command, why)
-        if is_own and (self.moved() or self.is_first_model(command) or self.is_typeset()
-                       and self.drawing(command)[0].below):
-            return self.placed_anew(command)
-        if is_own:
-            return self.again()
+        name = command.name
+        if self.is_drawn(command):
+            why = self.refused(command)
+            if not why:
+                return self.drawn(command)
+            if name not in label_symbols.MAKERS or why not in (asking.UNSUPPORTED, asking.LONG):
+                return self.framed(command, why)
         if not self.data:
-            self.remarks.not_written(command.start, f'^{command.name}: its field has no data')
+            self.remarks.not_written(command.start, f'^{name}: its field has no data')
             return b''
         try:
             symbol = label_symbols.symbol(command, self.data)
@@ -34,8 +29,8 @@ class SymbolField(Placed):
         except zint.Refused as refusal:
             return self.framed(command, str(refusal))
         except FileNotFoundError:
-            return self.framed(command, f'{label_symbols.NAMES[command.name]} needs zint: a frame stands in its place')
-        self.remarks.anew(command.start, f'^{command.name}: {symbol.name} is written as a picture')
+            return self.framed(command, f'{label_symbols.NAMES[name]} needs zint: a frame stands in its place')
+        self.remarks.anew(command.start, f'^{name}: {symbol.name} is written as a picture')
         return self.symbol_at(found, turn, drawing.cells.size[1] if drawing.below and symbol.text else 0)
 
     def symbol_at(self, found: Picture, turn: str, below: int = 0) -> bytes:
@@ -53,50 +48,49 @@ class SymbolField(Placed):
 
     # ---- those of vp
 
-    def is_beyond(self, command: Command) -> bool:
-        """Whether vp draws no such symbol of its own kind."""
-        if command.name == 'BC':
-            return command.letter(5, 'UD', '') != ''
-        if command.name != 'BQ' or own_symbols.front_of_qr(self.data):
-            return False
-        return self.version() is None
+    def is_drawn(self, command: Command) -> bool:
+        """Whether vp draws such a symbol: of Code 128 without the modes U and D."""
+        return command.name in label_symbols.DRAWN and (command.name != 'BC' or command.letter(5, 'UD', '') == '')
 
-    def version(self) -> Optional[int]:
-        level, mode, body = own_symbols.qr_of_label(self.data)
-        return own_symbols.version(body, level.decode('latin-1'), mode.decode('latin-1') or None)
+    def settings_of_bars(self) -> bytes:
+        """^BY as it is in force."""
+        it = self.settings
+        return b'^BY%d,%d.%d,%d' % (it.module, it.ratio // 10, it.ratio % 10, it.bars)
 
-    def refused(self, command: Command) -> Optional[str]:
-        """Why vp refuses the data of its own symbol, or None."""
-        if command.name == 'BQ':
-            return own_symbols.front_of_qr(self.data)
-        return self.own_bars(command).why
-
-    def own_bars(self, command: Command) -> own_symbols.Bars:
-        if command.name == 'B3':
-            found = own_symbols.code_39(self.data)
-            more = command.letter(1, 'YN', 'N') == 'Y'
-            return found._replace(chars=found.chars + more, letters=found.letters + more)
-        if command.name == 'BE':
-            return own_symbols.ean_13(self.data, False)
-        return own_symbols.label_128(self.data, command.letter(5, 'A', '') == 'A')
+    def refused(self, command: Command) -> str:
+        """Why vp refuses the data of its own symbol, or ''."""
+        field = self.settings_of_bars() + self.in_words(command) + escaped(self.data)
+        why = asking.refusal('label', b'^XA^PW1^LL1' + field + b'^XZ')
+        if why == asking.WHY['symbol: set'] and command.name == 'BQ':
+            return 'its data begin without a level and a comma, as QA,'
+        return why
 
     def is_first_model(self, command: Command) -> bool:
         return command.name == 'BQ' and command.number(1, 2, 1, 2) == 1
 
-    def placed_anew(self, command: Command) -> bytes:
-        """vp's own symbol in its place by its size: with text below its bars its point is the bars' lower end. Of QR
-        it is the other model where the first is asked for."""
-        written = {id(command): command.written()}
+    def in_words(self, command: Command) -> bytes:
+        """The command as vp takes it: of QR the second model, where the first is asked for."""
+        if not self.is_first_model(command):
+            return command.written()
+        first, _, *others = command.parameters()
+        return b'^BQ' + ','.join([first, '2', *others]).encode('latin-1')
+
+    def drawn(self, command: Command) -> Optional[bytes]:
+        """vp's symbol, None where it stands as it is: with text below its bars its point of ^FT is the bars' lower end,
+        and with a place that isn't a plain one it is said. Of QR it is the other model where the first is asked for."""
+        drawing, turn = self.drawing(command)
+        below = drawing.cells.size[1] if drawing.below and self.is_typeset() else 0
+        if not (self.moved() or below or self.is_first_model(command)):
+            return self.again()
+        written = {id(command): self.in_words(command)}
         if self.is_first_model(command):
             self.remarks.not_written(command.start, '^BQ: model 1 of QR is written as model 2')
-            parts = (command.parameters() + [''])[:1] + ['2'] + command.parameters()[2:]
-            written[id(command)] = b'^BQ' + ','.join(parts).encode('latin-1')
-        drawing, turn = self.drawing(command)
-        if self.is_typeset() and drawing.below:
+        if below:
             self.remarks.anew(command.start,
                               f'^{command.name}: the lower end of its bars stands at ^FT, not of its text')
-        width, height = self.own_size(command)
-        x, y = self.corner(width, height, turn, drawing.cells.size[1] if drawing.below and self.is_typeset() else 0)
+        # (where the place is at the left the box's size counts for nothing)
+        width, height = self.drawn_size(command) if self.moved_right() else (0, 0)
+        x, y = self.corner(width, height, turn, below)
         if self.at and self.is_typeset():
             # the point of vp is the lower left corner of the box as it is read
             dx, dy = {'N': (0, height), 'R': (0, 0), 'I': (width, 0), 'B': (height, width)}[turn]
@@ -105,18 +99,14 @@ class SymbolField(Placed):
             written[id(self.at)] = b'^FO%d,%d' % (max(0, x), max(0, y))
         return self.again_as(written)
 
-    def own_size(self, command: Command) -> Point:
+    def drawn_size(self, command: Command) -> Tuple[int, int]:
         """How wide and high the box of vp's own symbol is, before it is turned."""
-        drawing, _ = self.drawing(command)
-        if command.name == 'BQ':
-            side = drawing.narrow * (17 + 4 * (self.version() or 1))
-            return side, side
-        found, narrow = self.own_bars(command), drawing.narrow
-        kind = {'B3': 'Code 39', 'BE': 'EAN-13', 'BC': 'Code 128'}[command.name]
-        width = own_symbols.width(kind, found.chars, narrow, drawing.wide)
-        is_shown = drawing.above or drawing.below
-        cell_wide, cell_high = drawing.cells.size
-        return max(width, cell_wide * found.letters * is_shown), drawing.height + cell_high * is_shown
+        data = escaped(self.data)
+        upright, about = (f'^{command.name}{",".join([turn, *command.parameters()[1:]])}'.encode('latin-1') + data
+                          for turn in 'NI')
+        width, height = asking.size(self.settings_of_bars(), upright, about)
+        # (QR is a square that isn't turned)
+        return (height, height) if command.name == 'BQ' else (width, height)
 
     # ---- how it is drawn
 

@@ -45,10 +45,6 @@ def wide_of_label(narrow: int, ratio: int) -> int:
     return max(narrow + 1, narrow * ratio // 10)
 
 
-def wide_of_receipt(narrow: int) -> int:
-    return (5 * narrow + 1) // 2
-
-
 def bars(row: str, narrow: int, wide: int, form: str) -> str:
     """A row of modules as dots."""
     if form == 'two':

@@ -103,17 +103,19 @@ class Kept:
             return 'a picture in shades is not written'
         width, height = word(rest, 4), word(rest, 6)
         need = size(kind, width, height)
+        if not need:
+            return True
         if len(rest) - 8 < need:
             return f'a picture is cut: {len(rest) - 8:,} of {need:,} bytes'
-        found = made(kind, rest[8:8 + need], width, height).magnified(twice(rest[1]), twice(rest[2]))
-        if found.rows and found.width:
-            self.waiting.append(found)
+        self.waiting.append(made(kind, rest[8:8 + need], width, height).magnified(twice(rest[1]), twice(rest[2])))
         return True
 
     def define_named(self, whose: str, kind: str, rest: bytes) -> Union[bool, str]:
         """A picture under two letters: a, the letters, how many colours, its size, of each colour its data."""
         width, height = word(rest, 4), word(rest, 6)
         need, count = size(kind, width, height), max(1, min(4, rest[3]))
+        if not need:
+            return 'a picture of no dots is not stored'
         if len(rest) - 8 < count * (1 + need):
             return f'a picture is cut: {len(rest) - 8:,} of {count * (1 + need):,} bytes'
         if len(self.named) < MOST:
