@@ -7,18 +7,17 @@ mod sheets;
 
 use run::{run, words};
 use std::process::ExitCode;
+use vp_engine::Counted;
 
 fn main(rt: HostRuntime) -> ExitCode {
     let mut errors = rt.stderr();
     match words(&rt, &mut errors) {
-        Ok(words) => ExitCode::from(run(
-            &rt,
-            rt.alloc(),
-            words.as_slice(),
-            &mut rt.stdin(),
-            &mut rt.stdout(),
-            &mut errors,
-        )),
+        Ok(words) => {
+            let mut input = Counted::new(rt.stdin());
+            let output = rt.stdout();
+            let (status, _) = run(&rt, rt.alloc(), words.as_slice(), &mut input, output, &mut errors);
+            ExitCode::from(status)
+        }
         Err(status) => ExitCode::from(status),
     }
 }
