@@ -41,7 +41,7 @@ class Page(tills.WithPrinter):
         self.has("document.getElementById('asked').textContent.includes('5f 56 50 00')")
         printer.sent(b'\x1dk\x04a\0')
         self.has("document.querySelector('#jobs .fault').textContent.includes('F2')")
-        self.has("document.querySelector('article .fault').textContent.includes('unknown command')")
+        self.has("document.querySelector('article .fault').textContent.includes('symbol: character')")
         self.browser.value("document.getElementById('search').value = 'GS I';"
                            "document.getElementById('search').dispatchEvent(new Event('input'))")
         self.has("document.querySelectorAll('#jobs li').length === 1")
