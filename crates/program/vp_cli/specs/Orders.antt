@@ -1,5 +1,5 @@
 -- What is done by an order.
-use Rattle.std.specs.Prelude.{◌≡◌, ◌⊎◌, ℕ, List, Bool, Option, None, Some, Result, Ok, Err}
+use Rattle.std.specs.Prelude.{◌≡◌, ◌⊎◌, ℕ, List, Option, None, Some, Result, Ok, Err}
 use Rattle.std.specs.Borrow.{Bor}
 use Rattle.std.specs.Io.KnownBytes.{Appends}
 use Rattle.vp_glyph.specs.Sheets.{Sheets}
@@ -63,24 +63,24 @@ module _ {File : Type 0} (names : List ℕ → File → Type 0) (remaining : Fil
 
   -- an input before and after, the bytes that it has left, and what an output holds before and after
   module _ {Input : Type 0} (before after : Input) (left : Input → Option (List ℕ)) (held holds : Option (List ℕ))
-      where
-    -- what is read is the input, or where a file is named that file alone
-    abbrev pub DoesWith : Setup → Option (Bor (List ℕ)) → Result (Unit {0}) Stop → Type 0
-    DoesWith setup None ended = Does held holds setup (left before) (left after) ended
-    DoesWith setup (Some name) ended = (after ≡ before)
-        × (((ended ≡ Err (CannotOpen name)) × (holds ≡ held))
-        ⊎ ((file : File) × names name.now file
-        × (last : Option (List ℕ)) × Does held holds setup (remaining file) last ended))
+    where
+      -- what is read is the input, or where a file is named that file alone
+      abbrev pub DoesWith : Setup → Option (Bor (List ℕ)) → Result (Unit {0}) Stop → Type 0
+      DoesWith setup None ended = Does held holds setup (left before) (left after) ended
+      DoesWith setup (Some name) ended = (after ≡ before)
+          × (((ended ≡ Err (CannotOpen name)) × (holds ≡ held))
+          ⊎ ((file : File) × names name.now file
+          × (last : Option (List ℕ)) × Does held holds setup (remaining file) last ended))
 
-    abbrev pub IsFollowed : Result Setup Stop → Option (Bor (List ℕ)) → Result (Unit {0}) Stop → Type 0
-    IsFollowed (Ok setup) file ended = DoesWith setup file ended
-    IsFollowed (Err stop) file ended = (ended ≡ Err stop) × (after ≡ before) × (holds ≡ held)
+      abbrev pub IsFollowed : Result Setup Stop → Option (Bor (List ℕ)) → Result (Unit {0}) Stop → Type 0
+      IsFollowed (Ok setup) file ended = DoesWith setup file ended
+      IsFollowed (Err stop) file ended = (ended ≡ Err stop) × (after ≡ before) × (holds ≡ held)
 
-    -- a stream is printed or listed
-    pub record IsCarriedOut (stream : Stream) (ended : Result (Unit {0}) Stop) : Type 0 where
-      pub setup : Result Setup Stop
-      pub is_setup : IsSetup stream.language stream.task setup
-      pub followed : IsFollowed setup stream.file ended
+      -- a stream is printed or listed
+      pub record IsCarriedOut (stream : Stream) (ended : Result (Unit {0}) Stop) : Type 0 where
+        pub setup : Result Setup Stop
+        pub is_setup : IsSetup stream.language stream.task setup
+        pub followed : IsFollowed setup stream.file ended
 
   -- the images of a file, which is opened twice, are joined
   pub record IsJoining (name : Bor (List ℕ)) (form : Form) (held holds : Option (List ℕ))

@@ -1,5 +1,5 @@
 -- What a run of the program does by its words.
-use Rattle.std.specs.Prelude.{◌≡◌, ℕ, List, Option, Result, Ok, Err}
+use Rattle.std.specs.Prelude.{◌≡◌, ◌⊎◌, ℕ, List, Option, Result, Ok, Err}
 use Rattle.std.specs.declared.io.ErrorKind.{ErrorKind as IoKind}
 use Rattle.std.specs.declared.io.ErrorKind.TheVariants.{InvalidData}
 use Rattle.clap.specs.Words.{Text, kind_of}
@@ -32,11 +32,12 @@ status_without_words kind = 4
 
 module _ {File Input : Type 0} (names : List ℕ → File → Type 0) (remaining : File → Option (List ℕ))
     (before after : Input) (left : Input → Option (List ℕ)) (held holds : Option (List ℕ)) where
-  -- an order is obeyed; else nothing is read
+  -- an order is obeyed; else nothing is read, and nothing written but help and the version
   abbrev pub IsRunBy : Result Order Error → ℕ → Type 0
   IsRunBy (Ok order) status = (ended : Result (Unit {0}) Stop)
       × IsObeyed names remaining before after left held holds order ended × (status ≡ exit_status ended)
-  IsRunBy (Err error) status = (after ≡ before) × (status ≡ usage_status (kind_of error))
+  IsRunBy (Err error) status =
+      (after ≡ before) × (status ≡ usage_status (kind_of error)) × ((status ≡ 0) ⊎ (holds ≡ held))
 
   -- the words are answered by the table of the program's words, and so it is run
   pub record IsRunOf (words : List Text) (status : ℕ) : Type 0 where

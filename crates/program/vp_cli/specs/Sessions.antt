@@ -1,5 +1,5 @@
 -- What a session does from its beginning, and how it ends.
-use Rattle.std.specs.Prelude.{◌≡◌, List, [], ℕ, ⊤, Option, Result, Ok, Err}
+use Rattle.std.specs.Prelude.{◌≡◌, List, [], ℕ, Option, Result, Ok, Err}
 use Rattle.vp_engine.specs.Session.{Desk, Pumps}
 use Rattle.vp_engine.specs.Setups.{Setup}
 use Rattle.vp_engine.specs.declared.session.Report.{Report}

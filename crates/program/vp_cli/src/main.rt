@@ -15,7 +15,14 @@ fn main(rt: HostRuntime) -> ExitCode {
         Ok(words) => {
             let mut input = Counted::new(rt.stdin());
             let output = rt.stdout();
-            let (status, _) = run(&rt, rt.alloc(), words.as_slice(), &mut input, output, &mut errors);
+            let (status, _) = run(
+                &rt,
+                rt.alloc(),
+                words.as_slice(),
+                &mut input,
+                output,
+                &mut errors,
+            );
             ExitCode::from(status)
         }
         Err(status) => ExitCode::from(status),

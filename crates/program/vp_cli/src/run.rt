@@ -127,7 +127,12 @@ fn join_images<'a, F: Folder, K: Sink + Drop>(
         Ok(file) => file,
         Err(stop) => return (Err(stop), output),
     };
-    let (height, output) = joined(form, &mut Counted::new(first), &mut Counted::new(second), output);
+    let (height, output) = joined(
+        form,
+        &mut Counted::new(first),
+        &mut Counted::new(second),
+        output,
+    );
     (ended_joining(height), output)
 }
 
@@ -204,7 +209,13 @@ fn carry_out<'a, F: Folder, I: Source, K: Sink>(
         return work_on(alloc, work, stream.language, input, output);
     };
     let file = open(folder, name)?;
-    work_on(alloc, work, stream.language, &mut Counted::new(file), output)
+    work_on(
+        alloc,
+        work,
+        stream.language,
+        &mut Counted::new(file),
+        output,
+    )
 }
 
 /// Prints or lists what is read, as it comes.
@@ -285,7 +296,8 @@ fn ended_by<'a>(fault: RunFault) -> Stop<'a>
 
 /// Writes help to the output, and usage to the errors, and gives the output back.
 fn usage<O: Write + Drop, E: Write>(error: &clap::Error, mut output: O, errors: &mut E) -> (u8, O)
-    ensures { result.0 ≡ usage_status (kind_of error.now) }
+    ensures status { result.0 ≡ usage_status (kind_of error.now) }
+    ensures kept { (result.0 ≡ 0) ⊎ (O.contents result.1 ≡ O.contents output) }
 {
     if error.kind() == ErrorKind::OutOfMemory {
         return (report(&Stop::Memory, errors), output);

@@ -48,11 +48,7 @@ fn sheet<'a, F: Folder>(
 }
 
 /// The bytes of a sheet's file.
-fn bytes_of<'a, F: Folder>(
-    folder: &F,
-    alloc: Global,
-    name: &'a str,
-) -> Result<Vec<u8>, Stop<'a>>
+fn bytes_of<'a, F: Folder>(folder: &F, alloc: Global, name: &'a str) -> Result<Vec<u8>, Stop<'a>>
     ensures { MatchResult result
         (λ bytes. HasBytes (F.names folder.now) F.File.remaining name.entry.now bytes.items)
         (λ stop. (stop ≡ CannotOpen name.entry) ⊎ ((stop ≡ Read) ⊎ (stop ≡ Memory))) }

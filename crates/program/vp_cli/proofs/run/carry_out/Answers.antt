@@ -38,9 +38,9 @@ returns g c = record {
       c.in_ok-file.ensures,
       g.F.File.Read.remaining c.work_on-2.new.input.inner,
       does_with (g.K.Sink.contents c.args.output.now) (g.K.Sink.contents c.work_on-2.new.output)
-      (setup_in c.args.stream.language c.in_ok-work.work) (g.F.File.Read.remaining c.new.result.inner)
-      (g.F.File.Read.remaining c.in_ok-file.file) (g.F.File.Read.remaining c.work_on-2.new.input.inner) c.work_on-2.result
-      (ap g.F.File.Read.remaining (ap (λ t. t.inner) c.new.ensures)) c.work_on-2.ensures,
+          (setup_in c.args.stream.language c.in_ok-work.work) (g.F.File.Read.remaining c.new.result.inner)
+          (g.F.File.Read.remaining c.in_ok-file.file) (g.F.File.Read.remaining c.work_on-2.new.input.inner) c.work_on-2.result
+          (ap g.F.File.Read.remaining (ap (λ t. t.inner) c.new.ensures)) c.work_on-2.ensures,
     ),
   );
 }
