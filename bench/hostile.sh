@@ -146,10 +146,15 @@ measure '1,024 QR symbols of 250 bytes' '^PW1248' 1024 "^BQN,2,10^FDLA,$(repeate
 single='^PW1^LL1^PQ100'
 all_cells="^A0R,1500,1^FB1,9999,-9999^FD$(repeated 262000 A)^FS"
 measure '100 copies of a dot of a turned block of 262,000 cells' "$single" 1 "$all_cells"
-measure 'the same, from below' "$single" 1 "^FT0,0^A0R,1,1^FB1,9999,0^FD$(repeated 262000 A)^FS"
+measure 'the same, of lines a dot apart' "$single" 1 "^FT0,0^A0R,1,1^FB1,9999,0^FD$(repeated 262000 A)^FS"
 measure 'the same of 131,000 lines' "$single" 1 "^A0R,1500,1^FB3,9999,-9999^FD$(repeated 131000 'A ')^FS"
 measure '2,000 copies of a dot of a picture of 262,000 rows, turned' '^PW1^LL1^PQ2000^POI' 1 \
     "^FT0,1^GFA,,99999999,1,F0$(repeated 262000 :)^FS"
+
+# and of one of two bands, each of which is painted for each copy
+measure '242 copies of a turned block of 87,000 paragraphs' '^PW1248^LL33^PQ242' 1 \
+    "^A0R,1500,1^FB32000,9999,-9999^FD$(repeated 87000 'A\&')^FS"
+measure 'the same of 1,020 turned blocks' '^PW1^LL33^PQ242' 1020 "^A0R,1500,1^FB1,9999,-9999^FD$cells^FS"
 
 # begun NAME HEAD FIELD: the first million bytes of a hundred million copies
 begun() {

@@ -148,6 +148,13 @@ pub cell_row : (sheet : Option Glyphs) (c w place s : ℕ) (at : ℤ) (d : ℕ) 
 unfolding sampled_dot
 cell_row sheet c w place s at d row l h = grind arith
 
+-- dots that were added are there
+pub again_added : (old f new : Bool) → new ≡ (old || f) → new ≡ (new || f)
+again_added old f new e = grind arith
+
+pub same_added : (old f : Bool) → old ≡ f → old ≡ (old || f)
+same_added old f e = grind arith
+
 -- rows that were white
 pub rows_white : (r x : ℕ) (f new : Bool) → new ≡ (half_dot (get_or (replicate {A = ℕ} 24 0) r 0) x || f) → new ≡ f
 rows_white r x f new e = e ∙ ap (λ t. t || f) (ap (λ v. half_dot v x) (zero_at 24 r) ∙ white_half x)

@@ -1,5 +1,5 @@
 -- How a block is laid, as it is painted.
-use Rattle.std.specs.Prelude.{◌≡◌, ◌<◌, ℕ, ℤ, List, slice_index}
+use Rattle.std.specs.Prelude.{◌≡◌, ◌<◌, ◌||◌, ℕ, ℤ, List, slice_index}
 use Rattle.vp_dots.specs.Dots.{shifted}
 use Rattle.vp_glyph.specs.declared.block.Block.{Block}
 use Rattle.vp_glyph.specs.Blocks.{BlockLayout, line_dot}
@@ -32,3 +32,9 @@ sheet_rows b = record {
 abbrev pub AreRowsOf : BlockLayout → ℤ → List ℕ → List ℕ → Type 0
 AreRowsOf b at cells rows = (s x : ℕ) → s < 24 → x < 32
     → half_dot (slice_index rows s) x ≡ shifted at (λ x. line_dot (sheet_rows b) 0 cells x s) x
+
+-- its dots are on rows, beside others
+abbrev pub HaveLine : BlockLayout → ℤ → List ℕ → List ℕ → Type 0
+HaveLine b at cells rows = (s x : ℕ) → s < 24 → x < 32
+    → half_dot (slice_index rows s) x
+    ≡ (half_dot (slice_index rows s) x || shifted at (λ x. line_dot (sheet_rows b) 0 cells x s) x)

@@ -4,7 +4,7 @@ ghost use Rattle.vp_dots.specs.Dots.{shifted};
 ghost use Rattle.vp_glyph.specs.Texts.{text_dot};
 ghost use Rattle.vp_glyph.specs.Blocks.{pieces, first, block_lines, line_dot, lines_dot, line_pieces};
 ghost use Rattle.vp_glyph.specs.Halves.{half_dot};
-ghost use Rattle.vp_glyph.specs.Layouts.{layout_of, sheet_rows};
+ghost use Rattle.vp_glyph.specs.Layouts.{layout_of, sheet_rows, HaveLine};
 
 use crate::block::Block;
 use crate::lines::{Line, behind_cells, hand_line, next_cell};
@@ -70,8 +70,41 @@ impl<A: Small> Block<'_, A> {
         add_cells(line, self.sheet, &self.stretch, at, left, rows)
     }
 
-    /// The first 32 dots of the rows of the sheet on which the lines of a text stand over each other. Their
-    /// pieces and the cells that are drawn are counted.
+    /// Adds a line to rows that have another one, unless it is known to be like that: the line that they have
+    /// then. The cells that are drawn are counted.
+    #[inline(always)]
+    fn join<'t>(
+        &self,
+        line: Line<'t>,
+        last: Line<'t>,
+        at: i64,
+        rows: &mut [u32; 24],
+        counter: &mut u64,
+    ) -> Line<'t>
+        requires cells { line.cells ≤ length (first (pieces line.text.now)) }
+        requires most { line.cells ≤ self.now.wide / self.now.w }
+        requires last { HaveLine (layout_of self.now) at (take last.cells (first (pieces last.text.now)))
+            rows.old }
+        ensures added { (s x : ℕ) → s < 24 → x < 32 → half_dot (slice_index rows.new s) x
+            ≡ (half_dot (slice_index rows.old s) x || shifted at (λ x. line_dot
+            (sheet_rows (layout_of self.now)) 0 (take line.entry.cells (first (pieces line.entry.text.now)))
+            x s) x) }
+        ensures last { HaveLine (layout_of self.now) at
+            (take result.cells (first (pieces result.text.now))) rows.new }
+        ensures counted { counter.old ≤ counter.new }
+        ensures most { counter.new ≤ counter.old + line.entry.cells }
+    {
+        if line.is_like(last) {
+            return last;
+        }
+        let drawn = self.add_rows(line, at, rows);
+        *counter = counter.saturating_add(u64::from(drawn));
+        line
+    }
+
+    /// The first 32 dots of the rows of the sheet on which the lines of a text stand over each other, of
+    /// which those that are known to be like the one above them are drawn with it. Their pieces and the cells
+    /// that are drawn are counted.
     pub(crate) fn joined(&self, text: &[u8], at: i64, counter: &mut u64) -> [u32; 24]
         requires { self.now.w ≤ self.now.wide }
         ensures rows { (s x : ℕ) → s < 24 → x < 32 → half_dot (slice_index result s) x
@@ -82,11 +115,11 @@ impl<A: Small> Block<'_, A> {
     {
         let most = (self.wide / self.w) as usize;
         let mut rows = [0u32; 24];
+        let mut last = Line { text, cells: 0 };
         let mut left = Some(text);
         while let Some(text) = left {
             let (line, rest) = hand_line(text, most, counter);
-            let drawn = self.add_rows(line, at, &mut rows);
-            *counter = counter.saturating_add(u64::from(drawn));
+            last = self.join(line, last, at, &mut rows, counter);
             left = rest;
         }
         rows

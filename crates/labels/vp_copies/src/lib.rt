@@ -1,7 +1,8 @@
 //! The copies of a label as bytes: which byte comes next, and what has to be ready before it does.
 //!
 //! A copy is one image, its header and its rows. Its rows are painted by bands of 32, and whoever paints is
-//! told when a copy begins and which band is wanted next; so nothing here hangs on what an image shows.
+//! told when a copy begins and which band is wanted next, where it doesn't stand: the only band of an image is
+//! wanted once, for all copies. So nothing here hangs on what an image shows.
 //!
 //! - `place`: what has to be ready for the next byte, and where it is behind bytes of a copy.
 //! - `rows`: whole rows of a band, many at a call.
