@@ -147,9 +147,8 @@ uint32_t vp_held(vp *printer, vp_held_now *held);
 uint32_t vp_memory(vp *printer, size_t *bytes);
 
 /* Begins the printer anew, whatever it took and put out, and behind a fault: it stands as vp_new made it, with its
- * sheets, and prints the next stream as a new one does. It takes no memory and gives none back, and costs a few
- * hundred instructions; where a page was laid on, also what ESC L takes to make that white. VP_OK, or
- * VP_NO_PRINTER. */
+ * sheets, and prints the next stream as a new one does. It takes no memory and gives none back, cuts no sheet, and
+ * makes of a page white what was laid on: so it costs by what was used. VP_OK, or VP_NO_PRINTER. */
 uint32_t vp_reset(vp *printer);
 
 /* Frees the printer, where there is one, and leaves {0}: a second call does nothing. */
