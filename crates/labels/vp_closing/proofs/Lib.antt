@@ -5,3 +5,4 @@ pub mod Graphics
 pub mod Masks
 pub mod Shown
 pub mod Codes
+pub mod Kept

@@ -1,6 +1,6 @@
 use Rattle.vp_label.specs.Standing.{bands}
 -- What the bytes of a format bound.
-use Rattle.std.proofs.Common.{◌≡◌, ◌≤◌, ℕ, zero, suc, ◌+◌, ◌*◌, Bool, true, false, Option, Some, None, Result, List, [], ◌∷◌, length, reverse, refl, arith, lit≤, option_map}
+use Rattle.std.proofs.Common.{◌≡◌, ◌≤◌, ℕ, zero, suc, ◌+◌, ◌-◌, ◌*◌, Bool, true, false, Option, Some, None, Result, List, [], ◌∷◌, length, reverse, refl, arith, lit≤, option_map}
 use Rattle.std.proofs.lemmas.Grind.{common_steps}
 use Rattle.std.proofs.lemmas.Nat.{mul-le}
 use Rattle.std.proofs.lemmas.List.{length_push}
@@ -20,13 +20,15 @@ use Rattle.vp_label_settings.specs.declared.parts.FieldParts.{FieldParts}
 use Rattle.vp_label_settings.specs.Formats.{is_open, stored}
 use Rattle.vp_label_settings.specs.Parts.{content}
 use Rattle.vp_label_settings.specs.Settings.{settings_of}
-use Rattle.vp_closing.specs.Closing.{field_with, field_of}
+use Rattle.vp_closing.specs.Closing.{colour_of, field_with, field_of, operation}
+use Rattle.vp_closing.specs.Contents.{content_of}
 use Rattle.vp_closing.proofs.Codes.{data_in, begin_of, closed_data}
 use Rattle.vp_bands.specs.Meeting.{bands_of, copy_work, pairs, field_meets}
 use Rattle.vp_bands.proofs.Painted.{pairs_more, no_pairs}
 use Rattle.vp_label.specs.Bytes.{format_bytes, all_codes, all_texts}
 use Rattle.vp_label_settings.specs.Laws.{AreInRange}
-use Rattle.vp_label.specs.Entries.{entries, with_kept, printed_entries}
+use Rattle.vp_label.specs.Entries.{all_stored, behind_made, entries, with_kept, printed_bytes, printed_entries}
+use Rattle.vp_label.proofs.Stores.{fewer}
 use Rattle.vp_label.specs.Prints.{view_of}
 use Rattle.vp_label.specs.Work.{label_work, most_work}
 
@@ -43,8 +45,9 @@ of_start false = 0
 abbrev spent : List Field → Option OpenContent → List ℕ → Bool → ℕ
 spent fields c bytes opened = 6 * length fields + of_content c + length bytes + of_start opened
 
-kept_few : (fields : List Field) (g : OpenContent → Result Field Fault) (c : Option OpenContent) → 6 * length (with_kept fields (option_map g c)) ≤ 6 * length fields + 2 * of_content c
-kept_few fields g c = grind (arith, length_push)
+kept_few : (fields : List Field) (g : OpenContent → Result Field Fault) (made : ℕ) (c : Option OpenContent) → 6 * length (with_kept fields (option_map g (option_map (behind_made made) c))) ≤ 6 * length fields + 2 * of_content c
+kept_few fields g made None = omega arith
+kept_few fields g made (Some o) = grind (arith, length_push)
 
 none_open : (before : List Item) → is_open before ≡ false → format_bytes before ≡ 0
 none_open [] e = refl
@@ -72,19 +75,32 @@ kept_with : (sheets : Sheets) (bytes : List ℕ) (s : Settings) (p : FieldParts)
     → all_data (with_kept fields (Some (field_with sheets bytes s p op r))) ≤ all_data fields + data_in r
 kept_with sheets bytes s p op fields r = grind (arith, sum_by_push)
 
-kept_codes : (sheets : Sheets) (bytes : List ℕ) (s : Settings) (p : FieldParts) (fields : List Field) (c : Option OpenContent)
-    → Codes fields c bytes → all_data (with_kept fields (option_map (field_of sheets bytes s p) c)) ≤ length bytes
-kept_codes sheets bytes s p fields c h = grind (arith, kept_with, closed_data)
+-- as many bytes stand behind the begin of a content that stands behind what was made
+begin_moved : (made given all : ℕ) (o : OpenContent) → made + given ≡ all → all - begin_of (behind_made made o) all ≡ given - begin_of o given
+begin_moved made given all o e = grind arith
+
+kept_codes : (sheets : Sheets) (all bytes : List ℕ) (s : Settings) (p : FieldParts) (fields : List Field) (made : ℕ) (c : Option OpenContent)
+    → made + length bytes ≡ length all → Codes fields c bytes → all_data (with_kept fields (option_map (field_of sheets all s p) (option_map (behind_made made) c))) ≤ length bytes
+kept_codes sheets all bytes s p fields made None e h = omega (arith, h.codes)
+kept_codes sheets all bytes s p fields made (Some o) e h =
+    let few = kept_with sheets all s p (operation s p (colour_of (behind_made made o))) fields (content_of all s p (behind_made made o)) in
+    let data = closed_data all s p (behind_made made o) in
+    let moved = begin_moved made (length bytes) (length all) o e in
+    omega (arith, few, data, moved, h.codes, h.within)
+
+-- the data are fewer than all bytes by what was made
+made_is : (before : List Item) → (length (all_stored before) - length (stored before)) + length (stored before) ≡ length (all_stored before)
+made_is before = let few = fewer before in omega (arith, few)
 
 codes_within : (sheets : Sheets) (before : List Item) → Codes (entries sheets before) (content before) (stored before)
 codes_within sheets [] = record { codes = lit≤ tt; within = lit≤ tt }
-codes_within sheets (Given c name sent ∷ before) = grind (arith, codes_within sheets before, kept_codes)
+codes_within sheets (Given c name sent ∷ before) = grind (arith, codes_within sheets before, kept_codes, made_is)
 codes_within sheets (Data byte ∷ before) = grind (arith, codes_within sheets before, length_push)
 
 -- The image that ^XZ prints, which closes the last field.
 
 pub fields_few : (sheets : Sheets) (before : List Item) → 6 * length (printed_entries sheets before) + all_codes (printed_entries sheets before) + all_texts (printed_entries sheets before) ≤ format_bytes before
-fields_few sheets before = grind (arith, all_spent, none_open, kept_few, kept_codes, codes_within)
+fields_few sheets before = grind (arith, all_spent, none_open, kept_few, kept_codes, codes_within, made_is)
 
 -- The bytes that were read.
 
@@ -109,11 +125,11 @@ copy_plain : (bands fields codes texts bytes met work : ℕ) → work ≤ 43960 
 copy_plain bands fields codes texts bytes met work w m few = grind (arith, mul-le bands (6 * fields + codes + texts) bands bytes (omega arith) few)
 
 pub copy_few : (sheets : Sheets) (before : List Item) (view : View) (n : ℕ)
-    → copy_work sheets (stored before) view (printed_entries sheets before) n ≤ 43960 * pairs sheets (stored before) view (printed_entries sheets before) n + 262 * (n * all_texts (printed_entries sheets before)) + 2 * (n * all_codes (printed_entries sheets before))
-    → copy_work sheets (stored before) view (printed_entries sheets before) n ≤ 7327 * (n * format_bytes before)
+    → copy_work sheets (printed_bytes before) view (printed_entries sheets before) n ≤ 43960 * pairs sheets (printed_bytes before) view (printed_entries sheets before) n + 262 * (n * all_texts (printed_entries sheets before)) + 2 * (n * all_codes (printed_entries sheets before))
+    → copy_work sheets (printed_bytes before) view (printed_entries sheets before) n ≤ 7327 * (n * format_bytes before)
 copy_few sheets before view n h =
     copy_plain n (length (printed_entries sheets before)) (all_codes (printed_entries sheets before)) (all_texts (printed_entries sheets before)) (format_bytes before) _ _ h
-    (pairs_few sheets (stored before) view (printed_entries sheets before) n) (fields_few sheets before)
+    (pairs_few sheets (printed_bytes before) view (printed_entries sheets before) n) (fields_few sheets before)
 
 -- The label that was printed last.
 

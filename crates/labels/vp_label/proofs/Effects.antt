@@ -12,7 +12,7 @@ use Rattle.vp_label_settings.specs.Formats.{is_open, stored, stored_by}
 use Rattle.vp_label_settings.specs.Refusals.{head_refusal}
 use Rattle.vp_label.specs.declared.gathered.Effect.TheVariants.{Sets, Begins, Closes, Prints}
 use Rattle.vp_label.specs.Effects.{effect_of}
-use Rattle.vp_label.specs.Entries.{entries, entries_by, closed}
+use Rattle.vp_label.specs.Entries.{all_stored, bytes_by, entries, entries_by, closed, printed_bytes}
 use Rattle.vp_label.specs.Refusals.{command_refusal}
 use Rattle.vp_label.specs.Prints.{prints_by, unless_empty, label_image}
 use Rattle.vp_field.specs.declared.view.View.{View}
@@ -27,6 +27,7 @@ use Rattle.std.proofs.Common.{arith}
 pub record OnlySets (sheets : Sheets) (before : List Item) (command : Command) : Type 0 where
   pub fields : entries_by (closed sheets before) command (entries sheets before) ≡ entries sheets before
   pub stored : stored_by command (stored before) ≡ stored before
+  pub bytes : bytes_by (printed_bytes before) command (all_stored before) ≡ all_stored before
   pub refusal : command_refusal sheets before command ≡ head_refusal (is_open before) command
   pub prints : prints_by sheets before command ≡ []
 
@@ -53,6 +54,18 @@ idle sheets (Data b ∷ before) shut = idle sheets before shut
 idle sheets (Given FormatStart name sent ∷ before) shut = cc
 idle sheets (Given FormatEnd name sent ∷ before) shut = ended sheets (is_open before) name sent before refl (λ so. idle sheets before so)
 idle sheets (Given _ name sent ∷ before) shut = rw shut (idle sheets before shut)
+
+-- and no byte
+ended_bytes : (opened : Bool) (name : Name) (sent : List Kept) (before : List Item) → is_open before ≡ opened →
+    (is_open before ≡ false → all_stored before ≡ []) → all_stored (Given FormatEnd name sent ∷ before) ≡ []
+ended_bytes opened name sent before so idle_before = grind arith
+
+pub no_bytes : (before : List Item) → is_open before ≡ false → all_stored before ≡ []
+no_bytes [] shut = refl
+no_bytes (Data b ∷ before) shut = rw shut (no_bytes before shut)
+no_bytes (Given FormatStart name sent ∷ before) shut = cc
+no_bytes (Given FormatEnd name sent ∷ before) shut = ended_bytes (is_open before) name sent before refl (λ so. no_bytes before so)
+no_bytes (Given _ name sent ∷ before) shut = rw shut (no_bytes before shut)
 
 -- a command that sets what is in force alone leaves what is held
 pub holds_still : (sheets : Sheets) (before : List Item) (held : Held) (command : Command) (name : Name) (sent : List Kept) → effect_of (is_open before) command ≡ Sets →
