@@ -1,5 +1,5 @@
 -- Contents that are stored, or will be, and fields that show them.
-use Rattle.std.proofs.Common.{◌≡◌, ◌++◌, List, ℕ, ℤ, Result, IfOk, length-append, omega, arith, refl}
+use Rattle.std.proofs.Common.{◌≡◌, ◌++◌, List, ℕ, ℤ, Result, IfOk, length-append, arith}
 use Rattle.vp_dots.specs.declared.Op.{Op}
 use Rattle.vp_dots.specs.declared.fault.Fault.{Fault}
 use Rattle.vp_glyph.specs.Sheets.{Sheets}

@@ -6,3 +6,4 @@ pub mod Masks
 pub mod Shown
 pub mod Codes
 pub mod Kept
+pub mod Rows

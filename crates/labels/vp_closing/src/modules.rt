@@ -19,13 +19,13 @@ use vp_matrix::Matrix;
 const ROW_BYTES: usize = 73;
 
 /// Draws a row of modules on white bytes, a dot for each.
-fn draw_row(matrix: &Matrix, y: usize, row: &mut [u8])
+fn draw_row(matrix: &Matrix, y: u32, row: &mut [u8])
     requires inside { y < rows matrix.now }
     requires bytes { length row.old ≡ row_bytes (columns matrix.now) }
     requires white { (d : ℕ) → d < 8 * length row.old → dot row.old d ≡ false }
     ensures { row.new ≡ image_row (image matrix.now) y }
 {
-    matrix.scaled(1, 1).paint_row(y as u32, Op::Black, 0, row);
+    matrix.scaled(1, 1).paint_row(y, Op::Black, 0, row);
     dots_decide(row);
 }
 
@@ -36,7 +36,7 @@ fn keep_rows<A: Small>(matrix: &Matrix, format: &mut Format<A>)
     ensures fields { format.new.fields ≡ format.old.fields }
 {
     let bytes = (matrix.columns() + 7) / 8;
-    for y in 0..matrix.rows() {
+    for y in 0..matrix.rows() as u32 {
         let mut row = [0; ROW_BYTES];
         draw_row(matrix, y, &mut row[..bytes]);
         let Ok(()) = format.keep(&row[..bytes]) else {

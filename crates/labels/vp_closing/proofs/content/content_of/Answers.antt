@@ -1,7 +1,7 @@
-use Rattle.std.proofs.Common.{[], Ok, ap, sym, subst, ◌∙◌}
+use Rattle.std.proofs.Common.{Ok, ap, sym, subst, ◌∙◌}
 use Rattle.vp_field.specs.declared.sized.SizedContent.{SizedContent}
 use Rattle.vp_label_settings.specs.declared.parts.OpenContent.{OpenContent}
-use Rattle.vp_closing.specs.Contents.{content_of, sized_if, IsShown}
+use Rattle.vp_closing.specs.Contents.{content_of, made_of, sized_if, IsShown}
 use Rattle.vp_closing.proofs.content.content_of.Goals as goal
 
 pub returns-in-Frame-clause-value : goal.returns-in-Frame-clause-value
@@ -13,7 +13,7 @@ returns-in-Frame-clause-value g c =
 
 pub returns-in-Frame-clause-shown : goal.returns-in-Frame-clause-shown
 returns-in-Frame-clause-shown g c =
-    subst (λ (s : SizedContent). IsShown c.args.stored.now [] s.content) (sym (c.graphic_box.ensures c.args.sheets.now c.args.stored.now)) tt
+    subst (λ (s : SizedContent). IsShown c.args.stored.now (made_of c.args.stored.now c.args.parts.now.symbol c.args.content) s.content) (sym (c.graphic_box.ensures c.args.sheets.now c.args.stored.now)) tt
 
 pub returns-in-Ring-clause-value : goal.returns-in-Ring-clause-value
 returns-in-Ring-clause-value g c =
@@ -24,7 +24,7 @@ returns-in-Ring-clause-value g c =
 
 pub returns-in-Ring-clause-shown : goal.returns-in-Ring-clause-shown
 returns-in-Ring-clause-shown g c =
-    subst (λ (s : SizedContent). IsShown c.args.stored.now [] s.content) (sym (c.ring.ensures c.args.sheets.now c.args.stored.now)) tt
+    subst (λ (s : SizedContent). IsShown c.args.stored.now (made_of c.args.stored.now c.args.parts.now.symbol c.args.content) s.content) (sym (c.ring.ensures c.args.sheets.now c.args.stored.now)) tt
 
 pub returns-in-Diagonal-clause-value : goal.returns-in-Diagonal-clause-value
 returns-in-Diagonal-clause-value g c =
@@ -35,4 +35,4 @@ returns-in-Diagonal-clause-value g c =
 
 pub returns-in-Diagonal-clause-shown : goal.returns-in-Diagonal-clause-shown
 returns-in-Diagonal-clause-shown g c =
-    subst (λ (s : SizedContent). IsShown c.args.stored.now [] s.content) (sym (c.diagonal.ensures c.args.sheets.now c.args.stored.now)) tt
+    subst (λ (s : SizedContent). IsShown c.args.stored.now (made_of c.args.stored.now c.args.parts.now.symbol c.args.content) s.content) (sym (c.diagonal.ensures c.args.sheets.now c.args.stored.now)) tt
