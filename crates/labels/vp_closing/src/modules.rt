@@ -37,9 +37,10 @@ fn keep_rows<A: Small>(matrix: &Matrix, format: &mut Format<A>)
 {
     let bytes = (matrix.columns() + 7) / 8;
     for y in 0..matrix.rows() as u32 {
-        let mut row = [0; ROW_BYTES];
-        draw_row(matrix, y, &mut row[..bytes]);
-        let Ok(()) = format.keep(&row[..bytes]) else {
+        let mut room = [0; ROW_BYTES];
+        let row = &mut room[..bytes];
+        draw_row(matrix, y, row);
+        let Ok(()) = format.keep(row) else {
             unreachable!()
         };
     }
@@ -52,10 +53,16 @@ pub fn keep_made<A: Small>(format: &mut Format<A>, parts: &FieldParts)
     ensures stored { format.new.stored ≡ stored_with format.old.stored parts.now }
     ensures fields { format.new.fields ≡ format.old.fields }
 {
-    let Some(OpenContent::Data { start }) = parts.content else {
+    let Some(content) = parts.content else {
         return;
     };
-    let Some(SymbolChoice::Matrix(choice)) = parts.symbol else {
+    let OpenContent::Data { start } = content else {
+        return;
+    };
+    let Some(symbol) = parts.symbol else {
+        return;
+    };
+    let SymbolChoice::Matrix(choice) = symbol else {
         return;
     };
     let stored = format.stored();
