@@ -170,6 +170,7 @@ impl<A: Small> Gathered<A> {
             self.new.made + length (stored before) ≡ length (printed_bytes before)) }
         ensures read { self.new.format.fields.read ≡ self.old.format.fields.read }
         ensures kept { OnOk result (AreKept self.new.format.stored self.new.format.fields.items) }
+        ensures few { OnOk result (length self.new.format.stored ≤ STORED) }
         ensures err { OnErr result (self.new ≡ self.old) }
     {
         in_range();

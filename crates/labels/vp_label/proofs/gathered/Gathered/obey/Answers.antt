@@ -11,7 +11,7 @@ use Rattle.vp_label.specs.Effects.{effect_of}
 use Rattle.vp_label.specs.Gathered.{held_of}
 use Rattle.vp_label.specs.Prints.{label_image, view_of}
 use Rattle.vp_label.specs.declared.gathered.Effect.TheVariants.{Sets, Begins, Closes, Prints}
-use Rattle.vp_label.proofs.Effects.{holds_still, begins_shut, closes, ends, idle, no_bytes, printed_copies, same_text, sets}
+use Rattle.vp_label.proofs.Effects.{holds_still, begins_shut, closed_held, closed_made, closes, ends, idle, no_bytes, printed_copies, same_text, sets}
 use Rattle.vp_label.proofs.gathered.Gathered.obey.Goals as goal
 
 no_name : Name
@@ -42,8 +42,8 @@ returns-in_ok-close-in-Closes-clause-stands g c = λ before name sent g.
     let is = closes (is_open before) c.args.command e in
     record {
       in_force = c.in_ok-in_force.ensures.stands before name sent g.in_force (λ so. let h = g.held so in let made = g.made so in omega (arith, ap length (c.stored.ensures.bytes ∙ h.stored), made, c.saturating_sub-given.ensures));
-      held = λ still. let h = g.held is.0 in grind (arith, is, h, c.in_ok-close-in-Closes.ensures.fields before g is.0, c.in_ok-close-in-Closes.ensures.stored before g is.0);
-      made = λ still. grind (arith, is, c.in_ok-close-in-Closes.ensures.made before g is.0);
+      held = λ still. closed_held c.args.sheets.now before (held_of c.close.new.self) c.args.command name sent is.1 is.0 (c.in_ok-close-in-Closes.ensures.fields before g is.0) (c.in_ok-close-in-Closes.ensures.stored before g is.0) c.in_ok-close-in-Closes.ensures.kept c.in_ok-close-in-Closes.ensures.few;
+      made = λ still. closed_made before c.args.command name sent c.close.new.self.made is.1 is.0 (c.in_ok-close-in-Closes.ensures.made before g is.0);
     }
 
 pub returns-in_ok-close-in-Prints-clause-stands : goal.returns-in_ok-close-in-Prints-clause-stands
