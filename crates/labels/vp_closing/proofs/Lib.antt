@@ -5,3 +5,5 @@ pub mod Graphics
 pub mod Masks
 pub mod Shown
 pub mod Codes
+pub mod Kept
+pub mod Rows

@@ -6,3 +6,5 @@ pub mod Symbols
 pub mod Matrices
 pub mod Contents
 pub mod Closing
+-- What the code keeps.
+pub mod Rows

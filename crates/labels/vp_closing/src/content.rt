@@ -1,8 +1,7 @@
 //! What a field shows, as the format keeps it, and its size.
-ghost use Rattle.std.specs.Prelude.{◌≡◌, ◌+◌, ◌≤◌, length, IfOk};
+ghost use Rattle.std.specs.Prelude.{◌≡◌, ◌+◌, ◌≤◌, length, Some, IfOk, OnOk};
 ghost use Rattle.vp_label_settings.specs.Laws.{AreInRange, IsFieldBlockIf, IsContent, IsSymbolIf};
-ghost use Rattle.vp_field.specs.Contents.{IsStored};
-ghost use Rattle.vp_closing.specs.Contents.{bytes_from, data_content, content_of, sized_if};
+ghost use Rattle.vp_closing.specs.Contents.{bytes_from, data_content, content_of, made_of, made_with, sized_if, CanBeMade, IsAccepted, IsShown};
 
 use crate::graphic::picture_content;
 use crate::matrix::matrix_content;
@@ -15,7 +14,7 @@ use vp_glyph::Sheets;
 use vp_label_settings::{FieldParts, OpenContent, Settings, SymbolChoice};
 
 /// The stored bytes from a place on.
-fn bytes_from(stored: &[u8], start: u32) -> Span
+pub(crate) fn bytes_from(stored: &[u8], start: u32) -> Span
     requires within { start ≤ length stored.now }
     requires few { length stored.now ≤ STORED }
     ensures value { result ≡ bytes_from stored.now start }
@@ -42,7 +41,9 @@ fn data_content<A: Small>(
     requires few { length stored.now ≤ STORED }
     ensures value { result ≡ sized_if sheets.now stored.now
         (data_content stored.now settings.now parts.now parts.now.symbol bytes) }
-    ensures stored { IfOk result (λ shown. IsStored stored.now shown.content) }
+    ensures shown { IfOk result (λ shown. IsShown stored.now
+        (made_with stored.now bytes parts.now.symbol) shown.content) }
+    ensures made { OnOk result (IsAccepted stored.now bytes parts.now.symbol) }
 {
     match parts.symbol {
         None => {
@@ -77,7 +78,9 @@ pub fn content_of<A: Small>(
     requires few { length stored.now ≤ STORED }
     ensures value { result ≡ sized_if sheets.now stored.now
         (content_of stored.now settings.now parts.now content) }
-    ensures stored { IfOk result (λ shown. IsStored stored.now shown.content) }
+    ensures shown { IfOk result (λ shown. IsShown stored.now
+        (made_of stored.now parts.now.symbol content) shown.content) }
+    ensures made { OnOk result (CanBeMade stored.now parts.now.symbol (Some content)) }
 {
     match content {
         OpenContent::Data { start } => {

@@ -1,8 +1,9 @@
 //! A field that is closed, as the format keeps it.
-ghost use Rattle.std.specs.Prelude.{◌≡◌, ◌≤◌, length, IfOk, IfSome};
+ghost use Rattle.std.specs.Prelude.{◌≡◌, ◌≤◌, ◌++◌, length, Some, IfOk, OnOk, IfSome};
 ghost use Rattle.vp_label_settings.specs.Laws.{AreInRange, AreParts, IsFieldBlockIf, IsContent, IsSymbolIf};
 ghost use Rattle.vp_field.specs.Fields.{IsKept};
 ghost use Rattle.vp_format.specs.Formats.{held};
+ghost use Rattle.vp_closing.specs.Contents.{made_of, stored_with, CanBeMade};
 ghost use Rattle.vp_closing.specs.Closing.{asked_orientation, closed, colour_of, field_of, operation, paint_of};
 
 use crate::content::content_of;
@@ -79,7 +80,8 @@ fn field_of<A: Small>(
     requires content { IsContent (length stored.now) asked }
     requires few { length stored.now ≤ STORED }
     ensures value { result ≡ field_of sheets.now stored.now settings.now parts.now asked }
-    ensures kept { IfOk result (IsKept stored.now) }
+    ensures kept { IfOk result (IsKept (stored.now ++ made_of stored.now parts.now.symbol asked)) }
+    ensures made { OnOk result (CanBeMade stored.now parts.now.symbol (Some asked)) }
 {
     let shown = content_of(sheets, stored, settings, parts, asked)?;
     let orientation = orientation_of(asked_orientation(settings, parts), &shown.content);
@@ -95,8 +97,9 @@ fn field_of<A: Small>(
 }
 
 /// The field that its parts close in a format, as the format keeps it; without a content there is none. It is
-/// refused as `Symbol` or `SymbolTooLong` where the data have no such symbol, or it isn't drawn,
-/// and as `Graphic` where a code that starts in one of a picture's rows is refused.
+/// refused as `Symbol` or `SymbolTooLong` where the data have no such symbol, or it isn't drawn, as `StoreFull`
+/// where the modules of one have no room, and as `Graphic` where a code that starts in one of a picture's rows
+/// is refused. What it makes is stored by `keep_made`.
 pub fn closed<A: Small>(
     sheets: &Sheets<A>,
     format: &Format<A>,
@@ -107,7 +110,9 @@ pub fn closed<A: Small>(
     requires parts { AreParts (length format.now.stored) parts.now }
     ensures value { result ≡ closed sheets.now (held format.now.fields format.now.stored)
         settings.now parts.now }
-    ensures kept { IfSome result (λ field. IfOk field (IsKept format.now.stored)) }
+    ensures kept { IfSome result (λ field. IfOk field (IsKept (stored_with format.now.stored parts.now))) }
+    ensures made { IfSome result (λ field. OnOk field (CanBeMade format.now.stored
+        parts.now.symbol parts.now.content)) }
 {
     let content = parts.content?;
     Some(field_of(sheets, format.stored(), settings, parts, content))

@@ -1,17 +1,17 @@
-//! Two-dimensional symbols of data, or why there are none.
-ghost use Rattle.std.specs.Prelude.{◌≡◌, ◌+◌, ◌<◌, ◌≤◌, length, IfOk};
+//! Two-dimensional symbols of data, in which a sign may begin escapes, or why there are none.
+ghost use Rattle.std.specs.Prelude.{◌≡◌, ◌+◌, ◌<◌, ◌≤◌, length, None, Some, OnOk, IfOk, IfErr};
+ghost use Rattle.vp_matrix.specs.Encoding.{IsMatrix};
 ghost use Rattle.vp_glyph.specs.Sheets.{Sheets as Given};
 ghost use Rattle.vp_label_settings.specs.Laws.{AreBars, IsMatrixAsked};
-ghost use Rattle.vp_closing.specs.Contents.{sized_if};
-ghost use Rattle.vp_closing.specs.Matrices.{lead_of, code_of, escape_of, by_rows, wide_of, row_high, high_of, matrix_of};
-ghost use Rattle.vp_field.specs.Contents.{IsStored};
+ghost use Rattle.vp_closing.specs.Contents.{sized_if, HaveSymbol, IsShown};
+ghost use Rattle.vp_closing.specs.Matrices.{lead_of, code_of, escape_of, by_rows, wide_of, row_high, high_of, plain_data, data_refusal, matrix_of, matrix_made};
 
 use vp_dots::Fault;
-use vp_escapes::is_gs1;
-use vp_field::{SizedContent, bytes_of, encoded};
+use vp_escapes::{is_gs1, unescaped};
+use vp_field::{SizedContent, bytes_of};
 use vp_format::{MatrixSymbol, STORED, Span};
 use vp_label_settings::{BarDefaults, MatrixAsked};
-use vp_matrix::{Lead, MatrixCode};
+use vp_matrix::{Lead, Matrix, MatrixCode, encode};
 
 /// What leads the data of ^BX, in which a sign begins escapes.
 fn lead_of(sign: u8, bytes: &[u8]) -> Lead
@@ -25,7 +25,7 @@ fn lead_of(sign: u8, bytes: &[u8]) -> Lead
 }
 
 /// Which symbol data are drawn as.
-fn code_of(asked: MatrixAsked, bytes: &[u8]) -> MatrixCode
+pub(crate) fn code_of(asked: MatrixAsked, bytes: &[u8]) -> MatrixCode
     ensures { result ≡ code_of asked bytes.now }
 {
     match asked {
@@ -43,7 +43,7 @@ fn code_of(asked: MatrixAsked, bytes: &[u8]) -> MatrixCode
 }
 
 /// The sign that begins an escape in data.
-fn escape_of(asked: MatrixAsked) -> Option<u8>
+pub(crate) fn escape_of(asked: MatrixAsked) -> Option<u8>
     ensures { result ≡ escape_of asked }
 {
     match asked {
@@ -116,7 +116,24 @@ fn high_of(defaults: BarDefaults, rows: usize, asked: MatrixAsked) -> u16
     }
 }
 
-/// A two-dimensional symbol, unless its data have none.
+/// The symbol of data, or why they have none. Data with escapes are refused first where they stand for more
+/// bytes than a Data Matrix symbol holds (`SymbolTooLong`), and then as those that they stand for.
+#[tactic(auto, unfolding(crate::specs::Matrices::data_refusal))]
+pub(crate) fn encoded(code: MatrixCode, escape: Option<u8>, bytes: &[u8]) -> Result<Matrix, Fault>
+    ensures accepted { OnOk result (data_refusal code escape bytes.now ≡ None) }
+    ensures refused { IfErr result (λ fault. data_refusal code escape bytes.now ≡ Some fault) }
+    ensures symbol { IfOk result (IsMatrix code (plain_data escape bytes.now)) }
+{
+    let Some(sign) = escape else {
+        return encode(code, bytes);
+    };
+    match unescaped(sign, bytes) {
+        None => Err(Fault::SymbolTooLong),
+        Some(data) => encode(code, data.bytes.as_slice()),
+    }
+}
+
+/// A two-dimensional symbol, unless its data have none, or its modules no room behind what is stored.
 pub fn matrix_content(
     stored: &[u8],
     defaults: BarDefaults,
@@ -129,21 +146,26 @@ pub fn matrix_content(
     requires few { length stored.now ≤ STORED }
     ensures value { (sheets : Given) → result ≡ sized_if sheets stored.now
         (matrix_of stored.now defaults asked bytes) }
-    ensures stored { IfOk result (λ shown. IsStored stored.now shown.content) }
+    ensures shown { IfOk result (λ shown. IsShown stored.now (matrix_made stored.now asked bytes)
+        shown.content) }
+    ensures made { OnOk result (HaveSymbol stored.now asked bytes) }
 {
     let src = bytes_of(stored, bytes);
-    let code = code_of(asked, src);
-    let escape = escape_of(asked);
-    let matrix = encoded(code, escape, src)?;
+    let matrix = encoded(code_of(asked, src), escape_of(asked), src)?;
+    let columns = matrix.columns();
     let rows = matrix.rows();
-    Ok(SizedContent::matrix(
-        &matrix,
-        MatrixSymbol {
-            bytes,
-            escape,
-            code,
-            wide: wide_of(defaults, rows, asked),
-            high: high_of(defaults, rows, asked),
+    let len = rows * ((columns + 7) / 8);
+    if len > STORED - stored.len() {
+        return Err(Fault::StoreFull);
+    }
+    Ok(SizedContent::matrix(MatrixSymbol {
+        modules: Span {
+            start: stored.len() as u32,
+            len: len as u32,
         },
-    ))
+        columns: columns as u16,
+        rows: rows as u16,
+        wide: wide_of(defaults, rows, asked),
+        high: high_of(defaults, rows, asked),
+    }))
 }

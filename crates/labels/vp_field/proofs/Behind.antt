@@ -50,7 +50,7 @@ ink_behind sheets left top o (Bars b) stored more h =
 ink_behind sheets left top o (Qr q) stored more h =
     ap (λ (d : List ℕ). standing left top Normal (qr_side q.level q.mode d q.module) (qr_side q.level q.mode d q.module) (λ x y. qr_dot q.level q.mode d q.module x y)) (bytes_behind stored more q.bytes h.bytes)
 ink_behind sheets left top o (Matrix m) stored more h =
-    ap (λ (d : List ℕ). standing left top o (matrix_width m.code m.escape d m.wide) (matrix_height m.code m.escape d m.high) (λ x y. matrix_dot m.code m.escape d m.wide m.high x y)) (bytes_behind stored more m.bytes h.bytes)
+    ap (λ (d : List ℕ). standing left top o (matrix_width m) (matrix_height m) (λ x y. matrix_dot m d x y)) (bytes_behind stored more m.modules h.modules)
 ink_behind sheets left top o (Ring r) stored more h = refl
 ink_behind sheets left top o (Diagonal d) stored more h = refl
 

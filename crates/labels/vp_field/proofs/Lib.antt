@@ -12,6 +12,7 @@ pub mod White
 pub mod Shown
 pub mod OnLabel
 pub mod Matrices
+pub mod DarkRuns
 pub mod Boxed
 pub mod Behind
 pub mod Pictured

@@ -31,7 +31,7 @@ use Rattle.vp_format.specs.declared.field.MatrixSymbol.{MatrixSymbol}
 use Rattle.vp_shapes.specs.Ellipses.{ring_dot}
 use Rattle.vp_shapes.specs.Diagonals.{diagonal_dot}
 use Rattle.vp_field.specs.Frames.{frame_dot}
-use Rattle.vp_field.specs.Matrices.{data_refusal, matrix_width, matrix_height, matrix_dot}
+use Rattle.vp_field.specs.Matrices.{matrix_width, matrix_height, matrix_dot}
 use Rattle.vp_field.specs.Axes.{lines_of}
 use Rattle.vp_field.specs.declared.axis.Lines.{Lines}
 use Rattle.vp_field.specs.declared.axis.Lines.TheVariants.{Along, Across}
@@ -110,8 +110,7 @@ content_width sheets stored (contents.Picture p) = 8 * p.row_bytes
 content_width sheets stored (contents.Bars b) =
     bars_width sheets b.narrow b.wide b.height b.place (symbol_of b.code (bytes_of stored b.bytes))
 content_width sheets stored (contents.Qr q) = qr_side q.level q.mode (bytes_of stored q.bytes) q.module
-content_width sheets stored (contents.Matrix m) =
-    matrix_width m.code m.escape (bytes_of stored m.bytes) m.wide
+content_width sheets stored (contents.Matrix m) = matrix_width m
 content_width sheets stored (contents.Ring r) = r.width
 content_width sheets stored (contents.Diagonal d) = d.width
 
@@ -124,8 +123,7 @@ content_height sheets stored (contents.Picture p) = p.rows
 content_height sheets stored (contents.Bars b) =
     bars_height sheets b.narrow b.wide b.height b.place (symbol_of b.code (bytes_of stored b.bytes))
 content_height sheets stored (contents.Qr q) = qr_side q.level q.mode (bytes_of stored q.bytes) q.module
-content_height sheets stored (contents.Matrix m) =
-    matrix_height m.code m.escape (bytes_of stored m.bytes) m.high
+content_height sheets stored (contents.Matrix m) = matrix_height m
 content_height sheets stored (contents.Ring r) = r.height
 content_height sheets stored (contents.Diagonal d) = d.height
 
@@ -140,8 +138,7 @@ content_dot sheets stored (contents.Picture p) x y = picture_dot (picture_of sto
 content_dot sheets stored (contents.Bars b) x y =
     bars_dot sheets b.narrow b.wide b.height b.place (symbol_of b.code (bytes_of stored b.bytes)) x y
 content_dot sheets stored (contents.Qr q) x y = qr_dot q.level q.mode (bytes_of stored q.bytes) q.module x y
-content_dot sheets stored (contents.Matrix m) x y =
-    matrix_dot m.code m.escape (bytes_of stored m.bytes) m.wide m.high x y
+content_dot sheets stored (contents.Matrix m) x y = matrix_dot m (bytes_of stored m.modules) x y
 content_dot sheets stored (contents.Ring r) x y = ring_dot r.width r.height r.thickness x y
 content_dot sheets stored (contents.Diagonal d) x y = diagonal_dot d.width d.height d.thickness d.leaning x y
 
@@ -193,14 +190,13 @@ pub record IsSymbol (stored : List ℕ) (q : QrSymbol) : Type 0 where
   pub version : q.version ≡ version_of q.level q.mode (bytes_of stored q.bytes)
   pub mask : q.mask ≡ mask_of q.level q.mode (bytes_of stored q.bytes)
 
--- a two-dimensional symbol has modules of some dots, and its data have one (^BX, ^B7, ^BO)
+-- a two-dimensional symbol has modules of some dots (^BX, ^B7, ^BO), and its modules are stored
 pub record IsMatrixSymbol (stored : List ℕ) (m : MatrixSymbol) : Type 0 where
-  pub bytes : LiesIn stored m.bytes
+  pub modules : LiesIn stored m.modules
   pub wide_some : 0 < m.wide
   pub wide_most : m.wide ≤ 64
   pub high_some : 0 < m.high
   pub high_most : m.high ≤ 1000
-  pub accepted : data_refusal m.code m.escape (bytes_of stored m.bytes) ≡ None
 
 -- a content whose parameters are in their ranges, and whose bytes are stored
 abbrev pub IsStored : List ℕ → Content → Type 0

@@ -12,7 +12,7 @@
 //! - `block_columns`, `block_band`: blocks of lines, many of whose rows are drawn at once: those that fall on
 //!   columns of the label, and those of lines that meet.
 //! - `marks`: what earlier bands left of a field: the marks of a picture, or a QR symbol as it was drawn.
-//! - `matrix`: two-dimensional symbols.
+//! - `matrix`, `modules`: two-dimensional symbols, and their modules as ink.
 //! - `content`, `sized`, `field`: what fields show, with their sizes, and how they are painted.
 //! - `view`: how a label is put out.
 //! - `axis`, `laid`: which way the lines of an ink run on the label as it is put out, and where they begin.
@@ -42,6 +42,7 @@ mod line;
 mod lines;
 mod marks;
 mod matrix;
+mod modules;
 mod paint;
 mod pen;
 mod picture;
@@ -61,7 +62,6 @@ pub use content::{bytes_of, orientation_of};
 pub use field::paint_field;
 pub use laws::{dots_move, in_the_box, stored_behind, stroke_after_stroke, turned_and_mirrored};
 pub use marks::Marks;
-pub use matrix::encoded;
 pub use sized::SizedContent;
 pub use turning::{dots_fall, turned_rows};
 pub use view::View;

@@ -4,9 +4,9 @@ ghost use Rattle.vp_bars.specs.Boxes.{box_pieces};
 ghost use Rattle.vp_dots.specs.Dots.{dots, shifted};
 ghost use Rattle.vp_dots.specs.Painting.{Painted};
 
+use crate::modules::Modules;
 use vp_bars::BarBox;
 use vp_dots::{Ink, Op, Small};
-use vp_matrix::MatrixInk;
 use vp_qr::QrInk;
 use vp_shapes::{Diagonal, Ring};
 
@@ -32,7 +32,7 @@ impl Pieces for QrInk {
     }
 }
 
-impl Pieces for MatrixInk<'_> {
+impl Pieces for Modules<'_> {
     ghost most_pieces = { λ s d. 1 };
 
     fn paint_pieces(&self, y: u32, op: Op, at: i64, row: &mut [u8]) -> u64 {

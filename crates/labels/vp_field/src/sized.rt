@@ -4,9 +4,7 @@ ghost use Rattle.vp_bars.specs.Symbologies.{symbol_of};
 ghost use Rattle.vp_format.specs.declared.field.Content.TheVariants as contents;
 ghost use Rattle.vp_glyph.specs.Sheets.{Sheets as Given};
 ghost use Rattle.vp_qr.specs.Places.{size};
-ghost use Rattle.vp_matrix.specs.Encoding.{IsMatrix};
 ghost use Rattle.vp_field.specs.Contents.{bytes_of, IsText, IsTextBlock, IsSymbol};
-ghost use Rattle.vp_field.specs.Matrices.{plain_data};
 ghost use Rattle.vp_field.specs.Sizes.{sized};
 
 use crate::content::{block_of, cells};
@@ -15,7 +13,6 @@ use vp_bars::Bars;
 use vp_dots::{Ink, Small};
 use vp_format::{BarSymbol, Content, GraphicBox, MatrixSymbol, Picture, QrSymbol, Text, TextBlock};
 use vp_glyph::{Font, Sheets};
-use vp_matrix::Matrix;
 use vp_shapes::{Diagonal, Ring};
 
 /// What a field shows, and its width and its height in dots, as it is read.
@@ -91,15 +88,14 @@ impl SizedContent {
     }
 
     /// A two-dimensional symbol.
-    pub fn matrix(matrix: &Matrix, symbol: MatrixSymbol) -> Self
+    pub fn matrix(symbol: MatrixSymbol) -> Self
         ensures { (sheets : Given) (stored : List ℕ) →
-            IsMatrix symbol.code (plain_data symbol.escape (bytes_of stored symbol.bytes)) matrix.now →
             result ≡ sized sheets stored (contents.Matrix symbol) }
     {
         SizedContent {
             content: Content::Matrix(symbol),
-            width: u32::from(symbol.wide) * matrix.columns() as u32,
-            height: u32::from(symbol.high) * matrix.rows() as u32,
+            width: u32::from(symbol.wide) * u32::from(symbol.columns),
+            height: u32::from(symbol.high) * u32::from(symbol.rows),
         }
     }
 

@@ -4,7 +4,6 @@ use crate::rows::Coding;
 use vp_bars::{BarCode, HriPosition};
 use vp_dots::Op;
 use vp_glyph::Alignment;
-use vp_matrix::MatrixCode;
 use vp_qr::{Level, Mode};
 use vp_shapes::{Diagonal, Ring};
 use vp_zpl::item::Orientation;
@@ -75,13 +74,13 @@ pub struct QrSymbol {
     pub mask: u8,
 }
 
-/// A two-dimensional symbol (^BX, ^B7, ^BO): its data, the sign that begins an escape among them, if one
-/// does, and the width and the height of a module in dots, 1 to 64 and 1 to 1,000.
+/// A two-dimensional symbol (^BX, ^B7, ^BO): its modules, of which rows of bits are stored, how many columns
+/// and rows it has of them, and the width and the height of a module in dots, 1 to 64 and 1 to 1,000.
 #[derive(Clone, Copy, Debug, PartialEq, Eq)]
 pub struct MatrixSymbol {
-    pub bytes: Span,
-    pub escape: Option<u8>,
-    pub code: MatrixCode,
+    pub modules: Span,
+    pub columns: u16,
+    pub rows: u16,
     pub wide: u8,
     pub high: u16,
 }

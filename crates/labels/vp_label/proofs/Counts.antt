@@ -7,7 +7,7 @@ use Rattle.vp_dots.specs.Headers.{header_of}
 use Rattle.vp_dots.specs.Images.{Image, row_bytes, pbm}
 use Rattle.vp_glyph.specs.Sheets.{Sheets}
 use Rattle.vp_field.specs.declared.view.View.{View}
-use Rattle.vp_label.proofs.Effects.{idle}
+use Rattle.vp_label.proofs.Effects.{idle, no_bytes}
 use Rattle.vp_format.specs.Formats.{Held}
 use Rattle.vp_zpl.specs.Items.{Item}
 use Rattle.vp_label_settings.specs.Formats.{is_open}
@@ -15,7 +15,7 @@ use Rattle.vp_output.specs.declared.place.Line.{Line}
 use Rattle.vp_output.specs.declared.place.Line.TheVariants.{Head, Row}
 use Rattle.vp_copies.specs.Copies.{band_rows, bytes_above, copies_text, line_bytes, pending, Place}
 use Rattle.vp_copies.specs.Progress.{IsPlaceOf}
-use Rattle.vp_label.specs.Held.{band_rows_after, fields_after, rows_at}
+use Rattle.vp_label.specs.Held.{band_rows_after, fields_after, rows_at, stored_after}
 use Rattle.vp_label.specs.Press.{press_image, IsBetween}
 use Rattle.vp_label.specs.Prints.{image, label_image, view_of}
 use Rattle.vp_label.specs.Standing.{IsPrinting}
@@ -49,6 +49,11 @@ held_rows law sheets g before left i p some printing same is high place copies =
 pub no_fields : (sheets : Sheets) (before : List Item) (left : List ℕ) → length left ≤ 0 → is_open before ≡ false → fields_after sheets before left ≡ 0
 no_fields sheets [] left none shut = refl
 no_fields sheets (item ∷ before) left none shut = rw (le-ltb 0 (length left) none, idle sheets (item ∷ before) shut) refl
+
+-- and no bytes
+pub no_stored : (before : List Item) (left : List ℕ) → length left ≤ 0 → is_open before ≡ false → stored_after before left ≡ 0
+no_stored [] left none shut = refl
+no_stored (item ∷ before) left none shut = rw (le-ltb 0 (length left) none, no_bytes (item ∷ before) shut) refl
 
 -- the image of which copies are put out is the label's
 pub same_image : {A : Type 0} (sheets : Sheets) (held : Held) (v : View) (p : Press A) → p.copies.width ≡ v.width → p.copies.height ≡ v.height →

@@ -1,5 +1,5 @@
 -- What follows from a command's effect.
-use Rattle.std.proofs.Common.{◌≡◌, ℕ, true, false, List, [], ◌∷◌, refl, Bool}
+use Rattle.std.proofs.Common.{◌≡◌, ◌∙◌, ◌+◌, ◌≤◌, ℕ, true, false, List, [], ◌∷◌, refl, Bool}
 use Rattle.vp_glyph.specs.Sheets.{Sheets}
 use Rattle.vp_zpl.specs.Spelling.{Kept}
 use Rattle.vp_zpl.specs.declared.name.Name.{Name}
@@ -12,11 +12,12 @@ use Rattle.vp_label_settings.specs.Formats.{is_open, stored, stored_by}
 use Rattle.vp_label_settings.specs.Refusals.{head_refusal}
 use Rattle.vp_label.specs.declared.gathered.Effect.TheVariants.{Sets, Begins, Closes, Prints}
 use Rattle.vp_label.specs.Effects.{effect_of}
-use Rattle.vp_label.specs.Entries.{entries, entries_by, closed}
+use Rattle.vp_label.specs.Entries.{all_stored, bytes_by, entries, entries_by, closed, printed_bytes, printed_entries}
 use Rattle.vp_label.specs.Refusals.{command_refusal}
 use Rattle.vp_label.specs.Prints.{prints_by, unless_empty, label_image}
 use Rattle.vp_field.specs.declared.view.View.{View}
-use Rattle.vp_label.specs.Gathered.{Holds}
+use Rattle.vp_format.specs.declared.format.TheConstants.{STORED}
+use Rattle.vp_label.specs.Gathered.{AreKept, Holds}
 use Rattle.vp_format.specs.Formats.{Held}
 use Rattle.vp_dots.specs.Images.{Image}
 use Rattle.vp_copies.specs.Copies.{copies_text}
@@ -27,6 +28,7 @@ use Rattle.std.proofs.Common.{arith}
 pub record OnlySets (sheets : Sheets) (before : List Item) (command : Command) : Type 0 where
   pub fields : entries_by (closed sheets before) command (entries sheets before) ≡ entries sheets before
   pub stored : stored_by command (stored before) ≡ stored before
+  pub bytes : bytes_by (printed_bytes before) command (all_stored before) ≡ all_stored before
   pub refusal : command_refusal sheets before command ≡ head_refusal (is_open before) command
   pub prints : prints_by sheets before command ≡ []
 
@@ -54,10 +56,32 @@ idle sheets (Given FormatStart name sent ∷ before) shut = cc
 idle sheets (Given FormatEnd name sent ∷ before) shut = ended sheets (is_open before) name sent before refl (λ so. idle sheets before so)
 idle sheets (Given _ name sent ∷ before) shut = rw shut (idle sheets before shut)
 
+-- and no byte
+ended_bytes : (opened : Bool) (name : Name) (sent : List Kept) (before : List Item) → is_open before ≡ opened →
+    (is_open before ≡ false → all_stored before ≡ []) → all_stored (Given FormatEnd name sent ∷ before) ≡ []
+ended_bytes opened name sent before so idle_before = grind arith
+
+pub no_bytes : (before : List Item) → is_open before ≡ false → all_stored before ≡ []
+no_bytes [] shut = refl
+no_bytes (Data b ∷ before) shut = rw shut (no_bytes before shut)
+no_bytes (Given FormatStart name sent ∷ before) shut = cc
+no_bytes (Given FormatEnd name sent ∷ before) shut = ended_bytes (is_open before) name sent before refl (λ so. no_bytes before so)
+no_bytes (Given _ name sent ∷ before) shut = rw shut (no_bytes before shut)
+
 -- a command that sets what is in force alone leaves what is held
 pub holds_still : (sheets : Sheets) (before : List Item) (held : Held) (command : Command) (name : Name) (sent : List Kept) → effect_of (is_open before) command ≡ Sets →
     (is_open before ≡ true → Holds sheets before held) → is_open (Given command name sent ∷ before) ≡ true → Holds sheets (Given command name sent ∷ before) held
 holds_still sheets before held c name sent e h so = grind arith
+
+-- behind a field that is closed
+pub closed_made : (before : List Item) (command : Command) (name : Name) (sent : List Kept) (made : ℕ) → command ≡ FieldSeparator → is_open before ≡ true → made + length (stored before) ≡ length (printed_bytes before)
+    → made + length (stored (Given command name sent ∷ before)) ≡ length (all_stored (Given command name sent ∷ before))
+closed_made before command name sent made e so h = rw (e, so) h
+
+pub closed_held : (sheets : Sheets) (before : List Item) (held : Held) (command : Command) (name : Name) (sent : List Kept) → command ≡ FieldSeparator → is_open before ≡ true
+    → held.fields ≡ printed_entries sheets before → held.stored ≡ printed_bytes before → AreKept held.stored held.fields → length held.stored ≤ STORED → Holds sheets (Given command name sent ∷ before) held
+closed_held sheets before held command name sent e so fields stored kept few =
+    rw e record { fields = fields ∙ rw so refl; stored = stored ∙ rw so refl; kept = kept; few = few }
 
 -- the copies of a format with fields
 pub printed_copies : (i : Image) (fields : List Field) (q : ℕ) → copies_text i (if length fields == 0 then 0 else q) ≡ unless_empty fields (copies_text i q)

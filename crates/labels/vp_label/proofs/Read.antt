@@ -12,7 +12,7 @@ module _ {A : Type 0} (sheets : Sheets) (g : Gathered A) (fields : Closed) (same
   read = record g { format = record g.format { fields = fields } }
 
   pub read_gathers : (before : List Item) → Gathers sheets g before → Gathers sheets read before
-  read_gathers before h = record { in_force = h.in_force; held = λ so. rw same (h.held so) }
+  read_gathers before h = record { in_force = h.in_force; held = λ so. rw same (h.held so); made = h.made }
 
   pub read_printed : (before : List Item) → IsPrinted sheets g before → IsPrinted sheets read before
   read_printed before h = record { view = h.view; stored = h.stored; fields = same ∙ h.fields }

@@ -7,10 +7,10 @@ use Rattle.vp_format.specs.declared.field.Field.{Field}
 use Rattle.vp_glyph.specs.Sheets.{Sheets}
 use Rattle.vp_zpl.specs.Items.{Item, data_items}
 use Rattle.vp_zpl.specs.Items.Item.{Data}
-use Rattle.vp_label_settings.specs.Formats.{followed_by, stored}
+use Rattle.vp_label_settings.specs.Formats.{followed_by}
 use Rattle.vp_label_settings.specs.Settings.{settings_of}
 use Rattle.vp_bands.specs.Meeting.{bands_of, copy_work, shown_pairs}
-use Rattle.vp_label.specs.Entries.{printed_entries}
+use Rattle.vp_label.specs.Entries.{printed_bytes, printed_entries}
 use Rattle.vp_label.specs.Prints.{prints, view_of}
 use Rattle.vp_label.specs.Standing.{painting, shown, IsPrinting, Printing}
 use Rattle.vp_label.specs.Work.{label_work, label_shown, most_work, least_work, of_last}
@@ -37,7 +37,7 @@ newest_least sheets before item pending old new is idle le none = omega (arith, 
 
 -- while bytes are pending, it is the format that is held
 held_last : {A : Type 0} (number : Sheets → List ℕ → View → List Field → ℕ) (last : Sheets → List Item → ℕ)
-    → ((sheets : Sheets) (before : List Item) → last sheets before ≡ number sheets (stored before) (view_of (settings_of before)) (printed_entries sheets before))
+    → ((sheets : Sheets) (before : List Item) → last sheets before ≡ number sheets (printed_bytes before) (view_of (settings_of before)) (printed_entries sheets before))
     → (sheets : Sheets) (p : Printing A) (before : List Item) → p.sheets ≡ sheets → IsPrinting sheets p.gathered p.pending before → 0 < length p.pending
     → number p.sheets p.gathered.format.stored (view_of p.gathered.in_force.settings) p.gathered.format.fields.items ≡ of_last last sheets before
 held_last number last by_last sheets p before same printing some = grind (arith, length-drop)

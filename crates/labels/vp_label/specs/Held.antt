@@ -6,8 +6,7 @@ use Rattle.vp_glyph.specs.Sheets.{Sheets}
 use Rattle.vp_zpl.specs.Items.{Item}
 use Rattle.vp_output.specs.declared.place.Line.TheVariants.{Row}
 use Rattle.vp_copies.specs.Copies.{band_rows}
-use Rattle.vp_label_settings.specs.Formats.{stored}
-use Rattle.vp_label.specs.Entries.{entries, printed_entries}
+use Rattle.vp_label.specs.Entries.{all_stored, entries, printed_bytes, printed_entries}
 use Rattle.vp_label.specs.Prints.{image, prints}
 
 -- the rows of the band in which the n-th byte of a copy lies, counted from 0: none in the header
@@ -30,7 +29,7 @@ band_rows_after sheets (item ∷ before) pending =
 abbrev pub stored_after : List Item → List ℕ → ℕ
 stored_after [] pending = 0
 stored_after (item ∷ before) pending =
-    if nat_lt 0 (length pending) then length (stored before) else length (stored (item ∷ before))
+    if nat_lt 0 (length pending) then length (printed_bytes before) else length (all_stored (item ∷ before))
 
 -- its fields
 abbrev pub fields_after : Sheets → List Item → List ℕ → ℕ

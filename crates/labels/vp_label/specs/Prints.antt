@@ -11,10 +11,10 @@ use Rattle.vp_field.specs.declared.view.View.{View}
 use Rattle.vp_field.specs.Strokes.{image_dot}
 use Rattle.vp_field.specs.Fields.{stroke_of}
 use Rattle.vp_label_settings.specs.declared.settings.Settings.{Settings}
-use Rattle.vp_label_settings.specs.Formats.{is_open, stored}
+use Rattle.vp_label_settings.specs.Formats.{is_open}
 use Rattle.vp_label_settings.specs.Settings.{settings_of, quantity}
 use Rattle.vp_copies.specs.Copies.{copies_text}
-use Rattle.vp_label.specs.Entries.{printed_entries}
+use Rattle.vp_label.specs.Entries.{printed_bytes, printed_entries}
 
 -- how a label is put out: ^PW, ^LL, ^PO and ^PM
 abbrev pub view_of : Settings → View
@@ -36,7 +36,7 @@ label_image sheets view bytes fields = record {
 -- that of the format that ^XZ ends
 abbrev pub image : Sheets → List Item → Image
 image sheets before =
-    label_image sheets (view_of (settings_of before)) (stored before) (printed_entries sheets before)
+    label_image sheets (view_of (settings_of before)) (printed_bytes before) (printed_entries sheets before)
 
 -- a format without fields prints nothing
 abbrev pub unless_empty : List Field → List ℕ → List ℕ

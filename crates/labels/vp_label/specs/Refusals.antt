@@ -10,9 +10,9 @@ use Rattle.vp_zpl.specs.Items.{Item}
 use Rattle.vp_zpl.specs.Items.Item.{Given, Data}
 use Rattle.vp_format.specs.declared.field.Field.{Field}
 use Rattle.vp_format.specs.declared.format.TheConstants.{FIELDS, STORED}
-use Rattle.vp_label_settings.specs.Formats.{is_open, stored}
+use Rattle.vp_label_settings.specs.Formats.{is_open}
 use Rattle.vp_label_settings.specs.Refusals.{head_refusal}
-use Rattle.vp_label.specs.Entries.{closed, entries}
+use Rattle.vp_label.specs.Entries.{all_stored, closed, entries}
 
 -- a field is refused for what it shows, and else where as many as a format has room for are held
 abbrev pub closing_refusal : Option (Result Field Fault) → ℕ → Option Fault
@@ -33,7 +33,7 @@ abbrev pub refusal : Sheets → List Item → Item → Option Fault
 refusal sheets before (Given command name sent) =
     if is_open before then command_refusal sheets before command else None
 refusal sheets before (Data byte) =
-    if is_open before && nat_le STORED (length (stored before)) then Some StoreFull else None
+    if is_open before && nat_le STORED (length (all_stored before)) then Some StoreFull else None
 
 -- why the first of these is that is refused
 abbrev pub first_refusal : Sheets → List Item → List Item → Option Fault

@@ -1,25 +1,26 @@
 //! What is gathered of the format that is open: all that is in force, its closed fields, and the bytes stored
-//! for them.
-ghost use Rattle.std.specs.Prelude.{◌≡◌, ◌∷◌, [], List, ℕ, IfOk, IsOk, OnOk, OnErr, MatchResult, None, Some, length, true, ◌==◌, ◌<◌, ◌≤◌, if◌then◌else◌};
+//! for them, which are their data and what closing them made.
+ghost use Rattle.std.specs.Prelude.{◌≡◌, ◌∷◌, [], List, ℕ, IfOk, IsOk, OnOk, OnErr, MatchResult, None, Some, length, true, ◌==◌, ◌<◌, ◌≤◌, ◌+◌, if◌then◌else◌};
 ghost use Rattle.vp_glyph.specs.Sheets.{Sheets as Given_sheets};
 ghost use Rattle.vp_zpl.specs.Spelling.{Kept};
 ghost use Rattle.vp_zpl.specs.declared.name.Name.{Name};
 ghost use Rattle.vp_zpl.specs.Items.Item.{Given};
 ghost use Rattle.vp_zpl.specs.Items.{Item, data_items};
 ghost use Rattle.vp_label_settings.specs.Formats.{followed_by, is_open, stored};
-ghost use Rattle.vp_label.specs.Entries.{closed, entries, with_kept, printed_entries};
+ghost use Rattle.vp_label_settings.specs.Laws.{AreParts, IsContent};
+ghost use Rattle.vp_label.specs.Entries.{behind_made, closed, entries, parts_behind, printed_bytes, printed_entries, with_kept};
 ghost use Rattle.vp_label.specs.Refusals.{closing_refusal, first_refusal, refusal};
-ghost use Rattle.vp_label.specs.Gathered.{AreKept, Gathers, IsGathered, IsPrinted, data_room, to_print};
+ghost use Rattle.vp_label.specs.Gathered.{AreBehind, AreKept, Gathers, IsGathered, IsPrinted, data_room, to_print};
 ghost use Rattle.vp_label.specs.Effects.{effect_of};
 ghost use Rattle.vp_label.specs.Prints.{prints};
 
 use std::alloc::{AllocError, Global};
-use vp_closing::closed;
+use vp_closing::{closed, keep_made};
 use vp_dots::{Fault, Small};
 use vp_field::stored_behind;
-use vp_format::{Format, STORED};
+use vp_format::{FIELDS, Format, STORED};
 use vp_glyph::Sheets;
-use vp_label_settings::InForce;
+use vp_label_settings::{FieldParts, InForce, OpenContent};
 use vp_label_settings::laws::{between_formats, data_set_nothing, in_range};
 use vp_zpl::Command;
 
@@ -28,6 +29,8 @@ use vp_zpl::Command;
 pub struct Gathered<A: Small = Global> {
     pub in_force: InForce,
     pub format: Format<A>,
+    /// How many of the bytes that the format stores closing its fields made: the others are data.
+    pub made: u32,
 }
 
 /// What a command does.
@@ -62,6 +65,25 @@ impl Effect {
     }
 }
 
+/// A content whose data stand behind what closing other fields made.
+fn behind_made(made: u32, given: u32, content: OpenContent) -> OpenContent
+    requires content { IsContent given content }
+    requires few { made + given ≤ STORED }
+    ensures value { result ≡ behind_made made content }
+    ensures content { IsContent (made + given) result }
+{
+    match content {
+        OpenContent::Data { start } => OpenContent::Data {
+            start: made + start,
+        },
+        OpenContent::Picture { head, start } => OpenContent::Picture {
+            head,
+            start: made + start,
+        },
+        OpenContent::Frame { .. } | OpenContent::Ring { .. } | OpenContent::Diagonal { .. } => content,
+    }
+}
+
 impl<A: Small> Gathered<A> {
     /// Nothing yet.
     pub fn new(alloc: A) -> Result<Self, AllocError>
@@ -72,6 +94,7 @@ impl<A: Small> Gathered<A> {
         Ok(Gathered {
             in_force: InForce::new(),
             format: Format::new(alloc)?,
+            made: 0,
         })
     }
 
@@ -120,6 +143,21 @@ impl<A: Small> Gathered<A> {
         }
     }
 
+    /// The parts of the open field, whose data stand behind what closing other fields made.
+    fn parts(&self) -> FieldParts
+        requires { AreBehind self.now }
+        ensures value { result ≡ parts_behind self.now.made self.now.in_force.parts }
+        ensures parts { AreParts (length self.now.format.stored) result }
+    {
+        let parts = self.in_force.parts;
+        let len = self.format.stored().len() as u32;
+        let content = match parts.content {
+            None => None,
+            Some(content) => Some(behind_made(self.made, len - self.made, content)),
+        };
+        FieldParts { content, ..parts }
+    }
+
     /// Closes the open field, if there is one. Refused is what it shows, and then one more field than there
     /// is room for (`FieldsFull`).
     fn close(&mut self, sheets: &Sheets<A>) -> Result<(), Fault>
@@ -133,21 +171,34 @@ impl<A: Small> Gathered<A> {
         ensures fields { OnOk result ((before : List Item) → Gathers sheets.now self.old before →
             is_open before ≡ true →
             self.new.format.fields.items ≡ printed_entries sheets.now before) }
-        ensures stored { self.new.format.stored ≡ self.old.format.stored }
+        ensures stored { OnOk result ((before : List Item) → Gathers sheets.now self.old before →
+            is_open before ≡ true → self.new.format.stored ≡ printed_bytes before) }
+        ensures made { OnOk result ((before : List Item) → Gathers sheets.now self.old before →
+            is_open before ≡ true →
+            self.new.made + length (stored before) ≡ length (printed_bytes before)) }
         ensures read { self.new.format.fields.read ≡ self.old.format.fields.read }
         ensures kept { OnOk result (AreKept self.new.format.stored self.new.format.fields.items) }
+        ensures few { OnOk result (length self.new.format.stored ≤ STORED) }
         ensures err { OnErr result (self.new ≡ self.old) }
     {
         in_range();
+        stored_behind();
+        let parts = self.parts();
         let settings = &self.in_force.settings;
-        let Some(closed) = closed(sheets, &self.format, settings, &self.in_force.parts) else {
+        let Some(closed) = closed(sheets, &self.format, settings, &parts) else {
             return Ok(());
         };
         let field = closed?;
-        match self.format.close(field) {
-            Ok(()) => Ok(()),
-            Err(_) => Err(Fault::FieldsFull),
+        if self.format.len() == FIELDS {
+            return Err(Fault::FieldsFull);
         }
+        let before = self.format.stored().len();
+        keep_made(&mut self.format, &parts);
+        self.made += (self.format.stored().len() - before) as u32;
+        let Ok(()) = self.format.close(field) else {
+            unreachable!()
+        };
+        Ok(())
     }
 
     /// The copies that are printed of the format: none where it has no field.
@@ -182,8 +233,8 @@ impl<A: Small> Gathered<A> {
         ensures read { self.new.format.fields.read ≡ self.old.format.fields.read }
         ensures err { OnErr result (self.new ≡ self.old) }
     {
-        let start = self.format.stored().len() as u32;
-        let in_force = self.in_force.after(command, start)?;
+        let given = (self.format.stored().len() as u32).saturating_sub(self.made);
+        let in_force = self.in_force.after(command, given)?;
         match Effect::of(self.in_force.is_open, command) {
             Effect::Sets => {
                 self.in_force = in_force;
@@ -192,6 +243,7 @@ impl<A: Small> Gathered<A> {
             Effect::Begins => {
                 between_formats();
                 self.format.clear();
+                self.made = 0;
                 self.in_force = in_force;
                 Ok(0)
             }

@@ -29,7 +29,7 @@ use vp_dots::{Fault, Small};
 use vp_field::View;
 use vp_glyph::Sheets;
 use vp_label_settings::Settings;
-use vp_label_settings::laws::{between_formats, in_range};
+use vp_label_settings::laws::in_range;
 use vp_zpl::{Command, ZplItem};
 
 /// A label printer. What an item prints is pending until it is put out.
@@ -309,7 +309,6 @@ impl<A: Small> Label<A> {
         ensures most { result ≤ STORED }
     {
         if !self.holds_format() {
-            between_formats();
             return 0;
         }
         self.gathered.format.stored().len() as u32

@@ -54,7 +54,7 @@ use Rattle.vp_pdf417.specs.Encoding.{refusal as pdf417_refusal}
 use Rattle.vp_matrix.specs.declared.code.MatrixCode.{MatrixCode}
 use Rattle.vp_matrix.specs.declared.code.MatrixCode.TheVariants.{DataMatrix, Aztec, Pdf417}
 use Rattle.vp_matrix.specs.Encoding.{aztec_fault, pdf417_fault, fault_of as matrix_fault, matrix_refusal}
-use Rattle.vp_field.specs.Matrices.{data_refusal}
+use Rattle.vp_closing.specs.Matrices.{data_refusal}
 use Rattle.vp_closing.specs.Matrices as matrices
 use Rattle.vp_label_settings.specs.Formats.{stored}
 use Rattle.vp_qr_field.specs.declared.front.QrFront.{QrFront}
@@ -205,11 +205,11 @@ data_by : (code : MatrixCode) (escape : Option ℕ) (bytes : List ℕ) → SomeO
 unfolding data_refusal
 data_by code escape bytes = grind (arith, kind_by)
 
-matrix_unless : (why : Option Fault) (symbol : MatrixSymbol) → SomeOfByte why → ErrOfByte (matrices.matrix_unless why symbol)
-matrix_unless why symbol h = grind arith
+matrix_unless : (why : Option Fault) (is_full : Bool) (symbol : MatrixSymbol) → SomeOfByte why → ErrOfByte (matrices.matrix_unless why is_full symbol)
+matrix_unless why is_full symbol h = grind arith
 
-matrix_by : (d : BarDefaults) (asked : MatrixAsked) (bytes : Span) (code : MatrixCode) (src : List ℕ) → ErrOfByte (matrices.matrix_in d asked bytes code src)
-matrix_by d asked bytes code src = matrix_unless _ _ (data_by code (matrices.escape_of asked) src)
+matrix_by : (stored : List ℕ) (d : BarDefaults) (asked : MatrixAsked) (code : MatrixCode) (src : List ℕ) → ErrOfByte (matrices.matrix_in stored d asked code src)
+matrix_by stored d asked code src = matrix_unless _ _ _ (data_by code (matrices.escape_of asked) src)
 
 content_by : (stored : List ℕ) (s : Settings) (p : FieldParts) (content : OpenContent) → ErrOfByte (content_of stored s p content)
 content_by stored s p content = grind (arith, bars_of_byte, qr_by, front_by, matrix_by)

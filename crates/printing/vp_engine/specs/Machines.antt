@@ -27,6 +27,7 @@ plain p = record {
   gathered = record {
     in_force = p.gathered.in_force;
     format = record { fields = p.gathered.format.fields; stored = p.gathered.format.stored };
+    made = p.gathered.made;
   };
   press = record { copies = p.press.copies; painter = p.press.painter; band = p.press.band };
   pending = p.pending;

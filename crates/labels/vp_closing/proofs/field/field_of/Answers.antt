@@ -5,6 +5,7 @@ use Rattle.vp_format.specs.declared.field.Field.{Field}
 use Rattle.vp_field.specs.Contents.{orientation_of}
 use Rattle.vp_closing.specs.Closing.{asked_orientation, colour_of, field_with, operation}
 use Rattle.vp_closing.specs.Contents.{content_of}
+use Rattle.vp_closing.proofs.Kept.{kept_behind}
 use Rattle.vp_closing.proofs.Shown.{placed_is, rows_kept, shown_of}
 use Rattle.vp_closing.proofs.field.field_of.Goals as goal
 
@@ -34,13 +35,10 @@ returns-clause-kept g c =
     let s = c.in_ok-shown.shown in
     let is = shown_of sheets stored (content_of stored st p c.args.asked) s (sym c.content_of.ensures.value ∙ c.in_ok-shown.was) in
     let turned = c.orientation_of-orientation.ensures ∙ ap (λ o. orientation_of o s.content) c.asked_orientation.ensures in
-    record {
-      near = record {
-        left_low = omega (arith, ints, c.left_of.ensures.low);
-        left_high = omega (arith, ints, c.left_of.ensures.high);
-        top_low = omega (arith, ints, c.top_of.ensures.low);
-        top_high = omega (arith, ints, c.top_of.ensures.high);
-      };
-      content = c.in_ok-shown.ensures.stored;
-      rows = λ any. c.turned_rows.ensures ∙ rows_kept sheets any stored (asked_orientation st p p.symbol) c.orientation_of-orientation.result s turned is.1;
-    }
+    kept_behind stored _ _ _ _ _ _ s.content (record {
+      left_low = omega (arith, ints, c.left_of.ensures.low);
+      left_high = omega (arith, ints, c.left_of.ensures.high);
+      top_low = omega (arith, ints, c.top_of.ensures.low);
+      top_high = omega (arith, ints, c.top_of.ensures.high);
+    }) c.in_ok-shown.ensures.shown
+    (λ any. c.turned_rows.ensures ∙ rows_kept sheets any stored (asked_orientation st p p.symbol) c.orientation_of-orientation.result s turned is.1)

@@ -1,10 +1,11 @@
 use Rattle.std.proofs.Common.{◌≡◌, ◌∙◌, get_or, arith, refl, sym, ap, subst, length, true, ◌++◌, length-append}
 use Rattle.std.proofs.lemmas.Bool.{cases_lt}
 use Rattle.vp_format.specs.declared.format.Format.{Format}
-use Rattle.vp_label_settings.specs.Formats.{followed_by, is_open}
+use Rattle.vp_label_settings.specs.Formats.{followed_by, is_open, stored}
+use Rattle.vp_label.specs.Entries.{all_stored}
 use Rattle.vp_zpl.specs.Items.{data_items}
 use Rattle.vp_label.specs.Gathered.{AreKept}
-use Rattle.vp_label.proofs.Stores.{one_refused, all_taken, all_unheard, all-stored, entries-kept, open-kept}
+use Rattle.vp_label.proofs.Stores.{one_refused, all_taken, all_unheard, all-given, all-stored, entries-kept, open-kept}
 use Rattle.vp_label.proofs.gathered.Gathered.store.Goals as goal
 
 pub returns-then-not-self-clause-refusal : goal.returns-then-not-self-clause-refusal
@@ -14,6 +15,7 @@ pub returns-then-not-self-clause-stands : goal.returns-then-not-self-clause-stan
 returns-then-not-self-clause-stands g c = λ sheets before g. record {
   in_force = c.data_set_nothing.ensures c.args.self.now.in_force before c.args.bytes.now g.in_force;
   held = grind (arith, open-kept);
+  made = grind (arith, open-kept);
 }
 
 pub returns-in-Ok-clause-refusal : goal.returns-in-Ok-clause-refusal
@@ -36,6 +38,7 @@ returns-in-Ok-clause-stands g c = λ sheets before g.
         kept = subst (λ (x : Format _). AreKept x.stored x.fields.items) (sym c.in-Ok.ensures.ok) (λ k d l. c.stored_behind.ensures.kept old.stored bytes (get_or old.fields.items k d) (h.kept k d l));
         few = omega (arith, ap length stored_is, length-append old.stored bytes);
       };
+      made = λ still. omega (arith, g.made so, ap length (all-stored before bytes so), ap length (all-given before bytes so), length-append (all_stored before) bytes, length-append (stored before) bytes);
     }
 
 pub returns-in-Ok-clause-some : goal.returns-in-Ok-clause-some
