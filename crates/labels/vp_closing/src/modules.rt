@@ -67,11 +67,7 @@ pub fn keep_made<A: Small>(format: &mut Format<A>, parts: &FieldParts)
     };
     let stored = format.stored();
     let src = bytes_of(stored, bytes_from(stored, start));
-    let Ok(matrix) = encoded(
-        code_of(choice.asked, src),
-        escape_of(choice.asked),
-        src,
-    ) else {
+    let Ok(matrix) = encoded(code_of(choice.asked, src), escape_of(choice.asked), src) else {
         return;
     };
     keep_rows(&matrix, format);

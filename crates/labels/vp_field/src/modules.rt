@@ -26,10 +26,7 @@ impl Modules<'_> {
         let row_dots = 8 * ((columns + 7) / 8);
         row < u32::from(self.symbol.rows)
             && column < columns
-            && dot_of(
-                self.bytes,
-                row_dots as u128 * row as u128 + column as u128,
-            )
+            && dot_of(self.bytes, row_dots as u128 * row as u128 + column as u128)
     }
 
     /// Dots in a row.

@@ -20,8 +20,8 @@ use vp_dots::{Fault, Small};
 use vp_field::stored_behind;
 use vp_format::{FIELDS, Format, STORED};
 use vp_glyph::Sheets;
-use vp_label_settings::{FieldParts, InForce, OpenContent};
 use vp_label_settings::laws::{between_formats, data_set_nothing, in_range};
+use vp_label_settings::{FieldParts, InForce, OpenContent};
 use vp_zpl::Command;
 
 /// What is gathered of the format that is open.
@@ -80,7 +80,8 @@ fn behind_made(made: u32, given: u32, content: OpenContent) -> OpenContent
             head,
             start: made + start,
         },
-        OpenContent::Frame { .. } | OpenContent::Ring { .. } | OpenContent::Diagonal { .. } => content,
+        OpenContent::Frame { .. } | OpenContent::Ring { .. } | OpenContent::Diagonal { .. } =>
+            content,
     }
 }
 

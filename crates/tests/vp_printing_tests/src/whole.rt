@@ -70,6 +70,28 @@ static MATRIX_LABELS: &[Label] = &[
         fault: None,
     },
     Label {
+        name: "two Data Matrix symbols, twice, each with its own data",
+        bytes: b"^XA^PW24^LL10^PQ2^BXN,1,200^FD123456^FS^FO12,0^BXN,1,200^FD1^FD123456^FS^XZ",
+        prints: &[Printed {
+            width: 24,
+            height: 10,
+            rows: &[
+                (1, 0, b"#.#.#.#.#...#.#.#.#.#"),
+                (1, 0, b"##..#.##.#..##..#.##.#"),
+                (1, 0, b"##.....#....##.....#"),
+                (1, 0, b"##...###.#..##...###.#"),
+                (1, 0, b"##....#.....##....#"),
+                (1, 0, b"#.....####..#.....####"),
+                (1, 0, b"###.##......###.##"),
+                (1, 0, b"####.##..#..####.##..#"),
+                (1, 0, b"#..###.#....#..###.#"),
+                (1, 0, b"##########..##########"),
+            ],
+            copies: 2,
+        }],
+        fault: None,
+    },
+    Label {
         name: "Data Matrix turned, of digits that are escaped",
         bytes: b"^XA^PW16^LL11^BXR,1,200^FD_d0492345_d054^FS^XZ",
         prints: &[Printed {
