@@ -61,24 +61,23 @@ static TWICE: [u8; 40] = [
 fn unpacked(alloc: Global, packed: &[u8], piece: usize) -> Result<(Vec<u8>, State), Fail> {
     let mut inflate = Inflate::new();
     let mut room = [0; 300];
-    let mut lent = 0;
     let mut filled = 0;
     let mut left = packed;
     let mut state = State::More;
     for _ in 0..1000 {
         let n = left.len().min(piece);
-        let step = inflate.step(&left[..n], &mut room[..lent], filled);
+        let done = filled.min(300);
+        let end = (done + 7).min(300);
+        let step = inflate.step(&left[..n], &mut room[..end], done);
         filled = step.filled;
         left = &left[step.taken..];
         state = step.state;
-        if state == State::Full {
-            lent = (lent + 7).min(300);
-        } else if state != State::More || left.is_empty() {
+        if state != State::Full && (state != State::More || left.is_empty()) {
             break;
         }
     }
     let mut all = Vec::new(alloc);
-    all.extend_from_slice(&room[..filled])?;
+    all.extend_from_slice(&room[..filled.min(300)])?;
     Ok((all, state))
 }
 
