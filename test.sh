@@ -123,6 +123,7 @@ if [ -z "$quick" ]; then
     run ./checks/symbols.py
     run ./checks/fonts.py
     run ./checks/codes.py
+    run ./checks/packed.py
     run ./checks/evidence.py out/gate.log
     run ./checks/trust.py out/gate.log
 fi

@@ -54,7 +54,7 @@ is 0 'with --quick and no rt' "$alone" --quick
 # with rt all, and the words are the gate's
 is 0 'with rt' "$with" --all --seed 7
 says '^ran: tools/gate/minutes.py out/gate.log tools/gate/gate.py --all --seed 7 $'
-says "^$((without + 7)) checks passed$"
+says "^$((without + 8)) checks passed$"
 says 'ran: ./checks/evidence.py out/gate.log'
 silent "weren't tried"
 
