@@ -111,7 +111,7 @@ class Faults(unittest.TestCase):
             self.assertEqual((printer.held.fields, printer.held.stored), (1, 3))
 
     def test_memory_stays(self):
-        for setup, without_sheets in (vp.Receipt(), 279552), (vp.Label(), 1327904):
+        for setup, without_sheets in (vp.Receipt(), 279552), (vp.Label(), 1254176):
             with setup.start() as printer:
                 memory = printer.memory
                 self.assertGreater(memory, without_sheets)
@@ -201,8 +201,8 @@ class Bounds(unittest.TestCase):
                 vp.Label().print(stream)
 
     def test_time(self):
-        # copies of which each takes a tenth of a second, and prints twelve bytes
-        slow = b'^XA^PW1^LL1^PQ99999999^POI^FT0,1^GFA,,99999999,1,F0' + 262000 * b':' + b'^FS^XZ'
+        # copies of two bands, of which each takes a hundredth of a second, and prints some forty bytes
+        slow = b'^XA^PW1^LL33^PQ99999999^POI^FT0,1^GFA,,99999999,1,F0' + 262000 * b':' + b'^FS^XZ'
         start = time.monotonic()
         with self.assertRaises(vp.TooMuchPaper) as raised:
             vp.Label(most_seconds=.3).print(slow)

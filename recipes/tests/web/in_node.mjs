@@ -41,7 +41,7 @@ const sheetOf = letter => new Uint8Array(readFileSync(new URL(`../../../examples
 const [fontA, fontB] = [sheetOf('a'), sheetOf('b')];
 const held = (language, sheets) => new vp.Printer(language, sheets).memory;
 isSo([held('receipt'), held('label'), held('label', { fontA }), held('receipt', { fontA, fontB })],
-  [279552, 1327904, 1327904 + 62464, 279552 + 62464 + 43808]);
+  [279552, 1254176, 1254176 + 62464, 279552 + 62464 + 43808]);
 // what is given back is taken again: printers that are made and freed in one instance, and refused ones, need no more
 // memory than the first of each
 const calls = (await WebAssembly.instantiate(await vp.load(), {})).exports;
@@ -61,7 +61,7 @@ isSo(stopped.feed(some.encode('Hi\nHi\n\x1b\x7fHi\n')).length, 2 * ('P4\n576 34\
 isSo([stopped.fault, stopped.taken, stopped.feed(some.encode('Hi\n')).length, stopped.end()],
   ['vp: F1 after 8 bytes: unknown command 1B 7F', 8, 0, 'vp: F1 after 8 bytes: unknown command 1B 7F']);
 isSo([new vp.Printer('receipt'), new vp.Printer('label'), new vp.Listing('label')].map(it => it.memory),
-  [279552, 1327904, 0]);
+  [279552, 1254176, 0]);
 for (const [language, name] of [['receipt', 'ticket.bin'], ['label', 'shelf.zpl']]) {
   for (const offsets of [false, true]) {
     const stream = new Uint8Array(readFileSync(new URL(`../../../examples/${name}`, import.meta.url)));
