@@ -4,7 +4,8 @@ ghost use Rattle.vp_dots.specs.Dots.{dot};
 ghost use Rattle.vp_dots.specs.Images.{image_row, image_rows, row_bytes};
 ghost use Rattle.vp_label_settings.specs.Laws.{AreParts};
 ghost use Rattle.vp_matrix.specs.Symbols.{columns, rows};
-ghost use Rattle.vp_closing.specs.Contents.{stored_with, CanBeMade};
+ghost use Rattle.vp_closing.specs.Contents.{bytes_from, stored_with, CanBeMade, HaveSymbol};
+ghost use Rattle.vp_closing.specs.Matrices.{matrix_made};
 ghost use Rattle.vp_closing.specs.Rows.{image};
 
 use crate::content::bytes_from;
@@ -12,7 +13,7 @@ use crate::matrix::{code_of, encoded, escape_of};
 use vp_dots::{Ink, Op, Small, dots_decide};
 use vp_field::bytes_of;
 use vp_format::{Format, STORED};
-use vp_label_settings::{FieldParts, OpenContent, SymbolChoice};
+use vp_label_settings::{FieldParts, MatrixAsked, OpenContent, SymbolChoice};
 use vp_matrix::Matrix;
 
 /// The bytes of the widest row of modules.
@@ -46,6 +47,24 @@ fn keep_rows<A: Small>(matrix: &Matrix, format: &mut Format<A>)
     }
 }
 
+/// Stores the modules of the symbol that data from a place on have, behind all that is stored.
+// Apart, since a symbol's room would be cleared where a field has none.
+#[inline(never)]
+fn keep_symbol<A: Small>(format: &mut Format<A>, asked: MatrixAsked, start: u32)
+    requires start { start ≤ length format.old.stored }
+    requires symbol { HaveSymbol format.old.stored asked (bytes_from format.old.stored start) }
+    ensures stored { format.new.stored ≡ format.old.stored
+        ++ matrix_made format.old.stored asked (bytes_from format.old.stored start) }
+    ensures fields { format.new.fields ≡ format.old.fields }
+{
+    let stored = format.stored();
+    let src = bytes_of(stored, bytes_from(stored, start));
+    let Ok(matrix) = encoded(code_of(asked, src), escape_of(asked), src) else {
+        return;
+    };
+    keep_rows(&matrix, format);
+}
+
 /// Stores what closing a field makes behind all that is stored.
 pub fn keep_made<A: Small>(format: &mut Format<A>, parts: &FieldParts)
     requires parts { AreParts (length format.old.stored) parts.now }
@@ -65,10 +84,5 @@ pub fn keep_made<A: Small>(format: &mut Format<A>, parts: &FieldParts)
     let SymbolChoice::Matrix(choice) = symbol else {
         return;
     };
-    let stored = format.stored();
-    let src = bytes_of(stored, bytes_from(stored, start));
-    let Ok(matrix) = encoded(code_of(choice.asked, src), escape_of(choice.asked), src) else {
-        return;
-    };
-    keep_rows(&matrix, format);
+    keep_symbol(format, choice.asked, start);
 }
