@@ -1,5 +1,5 @@
 -- What is given stays given.
-use Rattle.std.proofs.Common.{◌≡◌, ℕ, ◌≤◌, ◌<◌, Bool, true, false, cond, eqb, Option, Some, None, List, [], ◌∷◌, ◌++◌, length, refl, sym, ap, ◌∙◌, append_assoc, arith, ⊎_elim}
+use Rattle.std.proofs.Common.{◌≡◌, ℕ, ◌≤◌, ◌<◌, Bool, true, false, cond, eqb, leb, ◌&&◌, Option, Some, None, List, [], ◌∷◌, ◌++◌, length, refl, sym, ap, ◌∙◌, append_assoc, arith, ⊎_elim}
 use Rattle.std.specs.List.{flat_map}
 use Rattle.std.proofs.lemmas.List.{append-nil, map_push, length_push}
 use Rattle.std.proofs.lemmas.Bool.{cases_lt, cases_Bool}
@@ -12,11 +12,13 @@ use Rattle.vp_esc.specs.declared.item.Lead.{Lead}
 use Rattle.vp_esc.specs.declared.item.RasterScale.{RasterScale}
 use Rattle.vp_esc.specs.declared.item.ColumnMode.{ColumnMode}
 use Rattle.vp_esc.specs.declared.item.ColumnMode.TheVariants.{Single24, Double24}
+use Rattle.vp_esc.specs.declared.item.MatrixKind.{MatrixKind}
 use Rattle.vp_esc.specs.declared.item.QrModel.{QrModel}
 use Rattle.vp_esc.specs.declared.command.Command.{Command}
 use Rattle.vp_esc.specs.declared.command.Command.TheVariants.{TabStops, Columns, Raster, Symbol, Function, Graphics, ReadPast}
 use Rattle.vp_esc.specs.Values.{scale_of, column_mode_of, qr_model_of}
 use Rattle.vp_esc.specs.Command.{lead_of, command_of, head_len, is_listed}
+use Rattle.vp_esc.specs.Matrix.{matrix_kind_of, kind_items, matrix_items, set_by}
 use Rattle.vp_esc.specs.Qr.{qr_items, value_items, model_items, is_qr_function}
 use Rattle.vp_esc.specs.Units.{is_unfinished, given, needs_more, given_by, given_behind, is_unfinished_named, is_unfinished_after, given_named, given_after, raster_bytes, columns, tall_columns, at_last, unused}
 use Rattle.vp_esc.specs.Split.{split, items as items_of}
@@ -78,16 +80,44 @@ value_grows count cn function n more c = ⊎_elim
     (behind_one _ _ _ (items.QrByte c ∷ [], map_push (λ b. items.QrByte b) more c)))))))
     (cases_Bool (eqb function 65))
 
-named_grows : (b : Bool) (xs : List EscItem) (x : EscItem) → IsFrontOf (cond b [] (x ∷ [])) (cond b xs (x ∷ []))
-named_grows true xs x = from_nil _ _ refl
-named_grows false xs x = unchanged _ _ refl
+both_grow : (b : Bool) (xs xs' ys ys' : List EscItem) → IsFrontOf xs xs' → IsFrontOf ys ys' → IsFrontOf (cond b xs ys) (cond b xs' ys')
+both_grow true xs xs' ys ys' p q = p
+both_grow false xs xs' ys ys' p q = q
 
-qr_grows : (count : ℕ) (values : List ℕ) (c : ℕ) → length values < count → IsFrontOf (qr_items count values) (qr_items count (values ++ c ∷ []))
+named_grows : (b : Bool) (xs : List EscItem) (x : EscItem) (ys : List EscItem) → IsFrontOf (cond b [] (x ∷ [])) (cond b xs (x ∷ ys))
+named_grows true xs x ys = from_nil _ _ refl
+named_grows false xs x ys = behind_one x [] ys (from_nil [] ys refl)
+
+no_more : (a b : Bool) → ◌≡◌ {A = List EscItem} (cond a [] (cond b [] [])) []
+no_more a b = grind arith
+
+none_yet : (b : Bool) → ◌≡◌ {A = List EscItem} (cond b [] []) []
+none_yet b = grind arith
+
+set_grows : (kind : MatrixKind) (function count n : ℕ) (more : List ℕ) (c : ℕ) → IsFrontOf (set_by kind function count n more) (set_by kind function count n (more ++ c ∷ []))
+unfolding set_by
+set_grows kind function count n [] c = other_grows (eqb count 3) _ _ _ (from_nil _ _ (no_more (eqb count 4) (eqb count 5)))
+set_grows kind function count n (x ∷ []) c = other_grows (eqb count 3) _ _ _ (other_grows (eqb count 4) _ _ _ (from_nil _ _ (none_yet (eqb count 5))))
+set_grows kind function count n (x ∷ y ∷ more) c = unchanged _ _ refl
+
+kind_grows : (kind : Option MatrixKind) (function count n : ℕ) (more : List ℕ) (c : ℕ) → IsFrontOf (kind_items kind function count n more) (kind_items kind function count n (more ++ c ∷ []))
+kind_grows None function count n more c = unchanged _ _ refl
+kind_grows (Some kind) function count n more c =
+    both_grow (eqb function 80 && leb 4 count) _ _ _ _ (either_grows (eqb n 48) _ _ _ (behind_one _ _ _ (items.MatrixByte kind c ∷ [], map_push (λ b. items.MatrixByte kind b) more c)))
+    (other_grows (eqb function 81 && eqb count 3) _ _ _ (set_grows kind function count n more c))
+
+matrix_grows : (reading : Reading) (cn function count n : ℕ) (more : List ℕ) (c : ℕ) → IsFrontOf (matrix_items reading cn function count n more) (matrix_items reading cn function count n (more ++ c ∷ []))
+unfolding matrix_items
+matrix_grows Profile cn function count n more c = unchanged _ _ refl
+matrix_grows Whole cn function count n more c = kind_grows (matrix_kind_of cn) function count n more c
+
+qr_grows : (reading : Reading) (count : ℕ) (values : List ℕ) (c : ℕ) → length values < count → IsFrontOf (qr_items reading count values) (qr_items reading count (values ++ c ∷ []))
 unfolding qr_items
-qr_grows count [] c h = let z : eqb count 0 ≡ false = grind (arith, nat_tests) in from_nil _ _ (rw z refl)
-qr_grows count (cn ∷ []) c h = let z : eqb count 1 ≡ false = grind (arith, nat_tests) in from_nil _ _ (rw z refl)
-qr_grows count (cn ∷ function ∷ []) c h = named_grows (is_qr_function cn function count) _ _
-qr_grows count (cn ∷ function ∷ n ∷ more) c h = either_grows (is_qr_function cn function count) _ _ _ (value_grows count cn function n more c)
+qr_grows reading count [] c h = let z : eqb count 0 ≡ false = grind (arith, nat_tests) in from_nil _ _ (rw z refl)
+qr_grows reading count (cn ∷ []) c h = let z : eqb count 1 ≡ false = grind (arith, nat_tests) in from_nil _ _ (rw z refl)
+qr_grows reading count (cn ∷ function ∷ []) c h = named_grows (is_qr_function cn function count) _ _ _
+qr_grows reading count (cn ∷ function ∷ n ∷ more) c h =
+    both_grow (is_qr_function cn function count) _ _ _ _ (value_grows count cn function n more c) (behind_one _ _ _ (matrix_grows reading cn function count n more c))
 
 -- Behind the head.
 

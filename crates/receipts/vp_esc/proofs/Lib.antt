@@ -9,12 +9,14 @@ pub mod Bytes
 pub mod Columns
 pub mod Stops
 pub mod Symbols
+pub mod MatrixData
 pub mod QrData
 pub mod Rests
 pub mod Growth
 pub mod AtMostOne
 pub mod Named
 pub mod Listed
+pub mod MatrixListed
 pub mod QrListed
 pub mod UnitLines
 pub mod Rows

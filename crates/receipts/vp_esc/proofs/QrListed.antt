@@ -1,8 +1,8 @@
 -- The lines of GS ( list its bytes.
-use Rattle.std.proofs.Common.{◌≡◌, ℕ, ◌+◌, ◌-◌, ◌*◌, ◌/◌, ◌%◌, ◌<◌, ◌≤◌, Bool, true, false, eqb, cond, Option, Some, None, List, [], ◌∷◌, ◌++◌, length, refl, sym, ap, ◌∙◌, arith}
+use Rattle.std.proofs.Common.{◌≡◌, ℕ, ◌+◌, ◌-◌, ◌*◌, ◌/◌, ◌%◌, ◌<◌, ◌≤◌, Bool, true, false, eqb, cond, Option, Some, None, List, [], ◌∷◌, ◌++◌, length, refl, sym, ap, ◌∙◌, append_assoc, arith}
 use Rattle.std.proofs.lemmas.Grind.{common_steps}
 use Rattle.std.specs.Prelude.{map, codes}
-use Rattle.std.proofs.lemmas.Bool.{and_parts, eqb-true}
+use Rattle.std.proofs.lemmas.Bool.{and_parts, eqb-true, true≢false}
 use Rattle.std.proofs.lemmas.Bool.Decides.{nat_tests}
 use Rattle.vp_dots.specs.Listing.{listed}
 use Rattle.vp_esc.specs.declared.reading.Reading.{Reading}
@@ -17,6 +17,9 @@ use Rattle.vp_esc.specs.Qr.{is_qr_function, ignored, model_items, module_item, l
 use Rattle.vp_esc.specs.Units.{given_behind}
 use Rattle.vp_esc.specs.Lines.{two_bytes, line_of}
 use Rattle.vp_esc.specs.Listings.{Lists}
+use Rattle.vp_esc.specs.Laws.{all_bytes}
+use Rattle.vp_esc.specs.Matrix.{matrix_items}
+use Rattle.vp_esc.proofs.MatrixListed.{AreLines, matrix_lines}
 use Rattle.vp_esc.specs.Table.{IsFunction}
 use Rattle.vp_esc.proofs.Listed.{IsBytes, one_line, front_line, part_lines, two_is, singles, all_singles, single_lines}
 
@@ -26,11 +29,14 @@ record IsCount (p pl ph : ℕ) : Type 0 where
   high : p / 256 ≡ ph
   bytes : two_bytes p ≡ pl ∷ ph ∷ []
 
+ignored_line : (p pl ph : ℕ) (front : List ℕ) → IsCount p pl ph → line_of (ignored p front) ≡ listed (codes "gs") (0x28 ∷ 0x6B ∷ pl ∷ ph ∷ front)
+ignored_line p pl ph front c =
+    ap (λ l. listed (codes "gs") (0x28 ∷ 0x6B ∷ l ∷ p / 256 ∷ front)) c.low ∙ ap (λ h. listed (codes "gs") (0x28 ∷ 0x6B ∷ pl ∷ h ∷ front)) c.high
+
 ignored_list : (p pl ph : ℕ) (front rest : List ℕ) → IsCount p pl ph
     → Lists Gs (0x28 ∷ 0x6B ∷ pl ∷ ph ∷ (front ++ rest)) (map line_of (ignored p front ∷ []))
 ignored_list p pl ph front rest c =
-    front_line Gs (0x28 ∷ 0x6B ∷ pl ∷ ph ∷ front) rest (0x28 ∷ 0x6B ∷ pl ∷ ph ∷ (front ++ rest)) (ignored p front) refl refl
-    (ap (λ l. listed (codes "gs") (0x28 ∷ 0x6B ∷ l ∷ p / 256 ∷ front)) c.low ∙ ap (λ h. listed (codes "gs") (0x28 ∷ 0x6B ∷ pl ∷ h ∷ front)) c.high)
+    front_line Gs (0x28 ∷ 0x6B ∷ pl ∷ ph ∷ front) rest (0x28 ∷ 0x6B ∷ pl ∷ ph ∷ (front ++ rest)) (ignored p front) refl refl (ignored_line p pl ph front c)
 
 -- an item whose line has all
 whole_list : (p pl ph : ℕ) (rest : List ℕ) (item : EscItem) → IsCount p pl ph → line_of item ≡ listed (codes "gs") (0x28 ∷ 0x6B ∷ p % 256 ∷ p / 256 ∷ rest)
@@ -95,19 +101,33 @@ module _ (p pl ph cn n : ℕ) (c : IsCount p pl ph) where
   unfolding ValueListed value_items
   value_list function more f l = grind (arith, eqb-true, model_list, module_list, level_list, store_list, print_list, and_parts)
 
-qr_list : (p pl ph : ℕ) (ps : List ℕ) → IsCount p pl ph → length ps ≡ p → Lists Gs (0x28 ∷ 0x6B ∷ pl ∷ ph ∷ ps) (map line_of (qr_items p ps))
+-- what is ignored, and lines of what follows
+others_list : (p pl ph : ℕ) (front rest : List ℕ) (more : List EscItem) → IsCount p pl ph → AreLines rest more
+    → Lists Gs (0x28 ∷ 0x6B ∷ pl ∷ ph ∷ (front ++ rest)) (map line_of (ignored p front ∷ more))
+others_list p pl ph front rest more c l = record {
+  head = 0x28 ∷ 0x6B ∷ pl ∷ ph ∷ front;
+  word = codes "byte";
+  parts = l.parts;
+  skipped = l.skipped;
+  bytes_are = ap (λ (xs : List ℕ). 0x28 ∷ 0x6B ∷ pl ∷ ph ∷ (front ++ xs)) l.bytes_are
+      ∙ ap (λ (xs : List ℕ). 0x28 ∷ 0x6B ∷ pl ∷ ph ∷ xs) (sym (append_assoc front (all_bytes l.parts) l.skipped));
+  lines_are = ap (λ line. line ∷ map line_of more) (ignored_line p pl ph front c) ∙ ap (λ ls. listed (codes "gs") (0x28 ∷ 0x6B ∷ pl ∷ ph ∷ front) ∷ ls) l.lines_are;
+  whole = λ n. absurd (true≢false n);
+}
+
+qr_list : (reading : Reading) (p pl ph : ℕ) (ps : List ℕ) → IsCount p pl ph → length ps ≡ p → Lists Gs (0x28 ∷ 0x6B ∷ pl ∷ ph ∷ ps) (map line_of (qr_items reading p ps))
 unfolding qr_items ValueListed
-qr_list p pl ph [] c l = let e : eqb p 0 ≡ true = grind (arith, nat_tests) in rw e (ignored_list p pl ph [] [] c)
-qr_list p pl ph (cn ∷ []) c l = let e : eqb p 1 ≡ true = grind (arith, nat_tests) in rw e (ignored_list p pl ph (cn ∷ []) [] c)
-qr_list p pl ph (cn ∷ function ∷ []) c l =
+qr_list reading p pl ph [] c l = let e : eqb p 0 ≡ true = grind (arith, nat_tests) in rw e (ignored_list p pl ph [] [] c)
+qr_list reading p pl ph (cn ∷ []) c l = let e : eqb p 1 ≡ true = grind (arith, nat_tests) in rw e (ignored_list p pl ph (cn ∷ []) [] c)
+qr_list reading p pl ph (cn ∷ function ∷ []) c l =
     let e : is_qr_function cn function p ≡ false = grind (arith) in
     rw e (ignored_list p pl ph (cn ∷ function ∷ []) [] c)
-qr_list p pl ph (cn ∷ function ∷ n ∷ more) c l = by_function (is_qr_function cn function p) refl
+qr_list reading p pl ph (cn ∷ function ∷ n ∷ more) c l = by_function (is_qr_function cn function p) refl
   where
     by_function : (b : Bool) → is_qr_function cn function p ≡ b
-        → Lists Gs (0x28 ∷ 0x6B ∷ pl ∷ ph ∷ cn ∷ function ∷ n ∷ more) (map line_of (cond b (value_items p cn function n more) (ignored p (cn ∷ function ∷ []) ∷ [])))
+        → Lists Gs (0x28 ∷ 0x6B ∷ pl ∷ ph ∷ cn ∷ function ∷ n ∷ more) (map line_of (cond b (value_items p cn function n more) (ignored p (cn ∷ function ∷ []) ∷ matrix_items reading cn function p n more)))
     by_function true e = value_list p pl ph cn n c function more e (omega arith)
-    by_function false e = ignored_list p pl ph (cn ∷ function ∷ []) (n ∷ more) c
+    by_function false e = others_list p pl ph (cn ∷ function ∷ []) (n ∷ more) _ c (matrix_lines reading cn function p n more)
 
 count_is : (pl ph : ℕ) → pl < 256 → ph < 256 → IsCount (pl + 256 * ph) pl ph
 count_is pl ph l h = record { low = omega arith; high = omega arith; bytes = two_is pl ph l h }
@@ -120,8 +140,8 @@ function_list reading args h b =
   where
     by_name : (t : Bool) → eqb h.x 0x6B ≡ t → IsCount (h.pl + 256 * h.ph) h.pl h.ph
         → Lists Gs (0x28 ∷ h.x ∷ h.pl ∷ h.ph ∷ h.parameters)
-        (map line_of (cond t (qr_items (h.pl + 256 * h.ph) h.parameters) (items.WithoutEffect Gs (record { items = 0x28 ∷ h.x ∷ h.pl ∷ h.ph ∷ [] }) ∷ [])))
-    by_name true e c = let x = eqb-true h.x 0x6B e in rw x (qr_list (h.pl + 256 * h.ph) h.pl h.ph h.parameters c h.count)
+        (map line_of (cond t (qr_items reading (h.pl + 256 * h.ph) h.parameters) (items.WithoutEffect Gs (record { items = 0x28 ∷ h.x ∷ h.pl ∷ h.ph ∷ [] }) ∷ [])))
+    by_name true e c = let x = eqb-true h.x 0x6B e in rw x (qr_list reading (h.pl + 256 * h.ph) h.pl h.ph h.parameters c h.count)
     by_name false e c =
         front_line Gs (0x28 ∷ h.x ∷ h.pl ∷ h.ph ∷ []) h.parameters (0x28 ∷ h.x ∷ h.pl ∷ h.ph ∷ h.parameters)
         (items.WithoutEffect Gs (record { items = 0x28 ∷ h.x ∷ h.pl ∷ h.ph ∷ [] })) refl refl refl

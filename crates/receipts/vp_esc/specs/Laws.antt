@@ -1,9 +1,10 @@
 -- The division of a stream into units, by their fronts alone.
-use Rattle.std.specs.Prelude.{◌≡◌, ◌≢◌, ℕ, true, false, List, [], ◌++◌}
+use Rattle.std.specs.Prelude.{◌≡◌, ◌≢◌, ℕ, true, false, List, [], ◌∷◌, ◌++◌}
 use Rattle.std.specs.List.{flat_map, AllByRecursion}
 use Rattle.vp_esc.specs.declared.reading.Reading.{Reading}
 use Rattle.vp_esc.specs.declared.item.EscItem.{EscItem}
-use Rattle.vp_esc.specs.declared.item.EscItem.TheVariants.{Symbol}
+use Rattle.vp_esc.specs.declared.reading.Reading.TheVariants.{Profile, Whole}
+use Rattle.vp_esc.specs.declared.item.EscItem.TheVariants.{Symbol, MatrixSet, MatrixStore, MatrixByte, MatrixPrint}
 use Rattle.vp_esc.specs.Values.{spelled, bar_code_of}
 use Rattle.vp_esc.specs.Units.{is_unfinished}
 
@@ -31,8 +32,17 @@ pub record Splits (reading : Reading) (bytes : List ℕ) (units : List (List ℕ
   pub each : AllByRecursion (IsUnit reading) units
   pub end : IsRest reading rest
 
--- GS k as the reading has it: the bar code is what its table says of the kind. Any other item stays.
-abbrev pub as_read_by : Reading → EscItem → EscItem
+abbrev pub if_whole : Reading → EscItem → List EscItem
+if_whole Profile item = []
+if_whole Whole item = item ∷ []
+
+-- An item of the whole language as the reading has it. The bar code of GS k is what its table says of the kind,
+-- and what GS ( k says of other symbols than QR is the whole language's alone. Any other item stays.
+abbrev pub as_read_by : Reading → EscItem → List EscItem
 as_read_by reading (Symbol kind bytes more) =
-    Symbol (spelled kind.byte (bar_code_of reading kind.byte)) bytes more
-as_read_by reading item = item
+    Symbol (spelled kind.byte (bar_code_of reading kind.byte)) bytes more ∷ []
+as_read_by reading (MatrixSet setting) = if_whole reading (MatrixSet setting)
+as_read_by reading (MatrixStore kind) = if_whole reading (MatrixStore kind)
+as_read_by reading (MatrixByte kind byte) = if_whole reading (MatrixByte kind byte)
+as_read_by reading (MatrixPrint kind) = if_whole reading (MatrixPrint kind)
+as_read_by reading item = item ∷ []

@@ -2,6 +2,7 @@
 pub mod Values
 pub mod Command
 pub mod Table
+pub mod Matrix
 pub mod Qr
 pub mod Units
 pub mod Split

@@ -13,6 +13,9 @@ use Rattle.vp_esc.specs.declared.item.QrModel.{QrModel}
 use Rattle.vp_esc.specs.declared.item.QrModel.TheVariants as models
 use Rattle.vp_esc.specs.declared.item.QrLevel.{QrLevel}
 use Rattle.vp_esc.specs.declared.item.QrLevel.TheVariants as levels
+use Rattle.vp_esc.specs.declared.item.Pdf417Correction.TheVariants.{Level, Tenths}
+use Rattle.vp_esc.specs.declared.item.MatrixSetting.{MatrixSetting}
+use Rattle.vp_esc.specs.declared.item.MatrixSetting.TheVariants as settings
 use Rattle.vp_esc.specs.Values.{is_kind_to_zero}
 
 abbrev pub lead_word : Lead → List ℕ
@@ -50,6 +53,21 @@ abbrev pub symbol_bytes : ℕ → List ℕ → List ℕ
 symbol_bytes m bytes =
     if is_kind_to_zero m then 0x6B ∷ m ∷ (bytes ++ 0 ∷ []) else 0x6B ∷ m ∷ length bytes % 256 ∷ bytes
 
+-- GS ( k of another symbol than QR: the values that set so
+abbrev pub setting_bytes : MatrixSetting → List ℕ
+setting_bytes (settings.Module kind dots) = dots ∷ []
+setting_bytes (settings.Columns n) = n ∷ []
+setting_bytes (settings.Rows n) = n ∷ []
+setting_bytes (settings.RowHeight n) = n ∷ []
+setting_bytes (settings.Correction (Level n)) = 48 ∷ n.byte ∷ []
+setting_bytes (settings.Correction (Tenths n)) = 49 ∷ n ∷ []
+setting_bytes (settings.Truncated truncated) = (if truncated then 1 else 0) ∷ []
+setting_bytes (settings.FullLayers n) = 48 ∷ n ∷ []
+setting_bytes (settings.CompactLayers n) = 49 ∷ n ∷ []
+setting_bytes (settings.Percent n) = n ∷ []
+setting_bytes (settings.Square n) = 48 ∷ n ∷ n ∷ []
+setting_bytes (settings.Oblong rows columns) = 49 ∷ rows ∷ columns ∷ []
+
 -- the item's line: a byte by its word, or a command with its bytes as far as they were read when it was given
 abbrev pub line_of : EscItem → List ℕ
 line_of items.LineFeed = listed (codes "LF") []
@@ -63,6 +81,10 @@ line_of (items.Column8 b) = listed (codes "column") (b ∷ [])
 line_of (items.Column24 bytes) = listed (codes "column") bytes
 line_of (items.RasterByte b) = listed (codes "byte") (b ∷ [])
 line_of (items.QrByte b) = listed (codes "byte") (b ∷ [])
+line_of (items.MatrixSet setting) = listed (codes "byte") (setting_bytes setting)
+line_of (items.MatrixStore kind) = listed (codes "byte") (48 ∷ [])
+line_of (items.MatrixByte kind b) = listed (codes "byte") (b ∷ [])
+line_of (items.MatrixPrint kind) = listed (codes "byte") (48 ∷ [])
 line_of (items.WithoutEffect lead bytes) = listed (lead_word lead) bytes.items
 line_of (items.RightSpacing n) = listed (codes "esc") (0x20 ∷ n ∷ [])
 line_of (items.PrintMode n) = listed (codes "esc") (0x21 ∷ n.byte ∷ [])
@@ -124,6 +146,10 @@ has_word (items.Column8 _) = true
 has_word (items.Column24 _) = true
 has_word (items.RasterByte _) = true
 has_word (items.QrByte _) = true
+has_word (items.MatrixSet _) = true
+has_word (items.MatrixStore _) = true
+has_word (items.MatrixByte _ _) = true
+has_word (items.MatrixPrint _) = true
 has_word (items.WithoutEffect _ _) = true
 has_word _ = false
 

@@ -1,11 +1,13 @@
 -- GS ( k: what the bytes behind the count have given.
 use Rattle.std.specs.Prelude.{ℕ, ◌-◌, ◌/◌, ◌%◌, ◌==◌, Bool, false, ◌&&◌, ◌||◌, Option, Some, None, List, [], ◌∷◌}
 use Rattle.std.specs.Prelude.{map, nat_le, if◌then◌else◌}
+use Rattle.vp_esc.specs.declared.reading.Reading.{Reading}
 use Rattle.vp_esc.specs.declared.item.EscItem.{EscItem}
 use Rattle.vp_esc.specs.declared.item.EscItem.TheVariants as items
 use Rattle.vp_esc.specs.declared.item.QrModel.{QrModel}
 use Rattle.vp_esc.specs.declared.item.QrLevel.{QrLevel}
 use Rattle.vp_esc.specs.Values.{qr_model_of, qr_level_of}
+use Rattle.vp_esc.specs.Matrix.{matrix_items}
 
 -- `cn` is 49, and `function` one of these, of `count` bytes
 abbrev pub is_qr_function : ℕ → ℕ → ℕ → Bool
@@ -58,12 +60,13 @@ value_items count cn function n more =
     else if function == 80 then store_items count cn n more
     else print_item count cn n ∷ []
 
--- what the bytes give that have come of `count`: cn, fn, and the values
-unfoldable pub qr_items : ℕ → List ℕ → List EscItem
-qr_items count [] = if count == 0 then ignored count [] ∷ [] else []
-qr_items count (cn ∷ []) = if count == 1 then ignored count (cn ∷ []) ∷ [] else []
-qr_items count (cn ∷ function ∷ []) =
+-- What the bytes give that have come of `count`: cn, fn, and the values. What isn't QR's is ignored, and then
+-- given to other symbols.
+unfoldable pub qr_items : Reading → ℕ → List ℕ → List EscItem
+qr_items reading count [] = if count == 0 then ignored count [] ∷ [] else []
+qr_items reading count (cn ∷ []) = if count == 1 then ignored count (cn ∷ []) ∷ [] else []
+qr_items reading count (cn ∷ function ∷ []) =
     if is_qr_function cn function count then [] else ignored count (cn ∷ function ∷ []) ∷ []
-qr_items count (cn ∷ function ∷ n ∷ more) =
+qr_items reading count (cn ∷ function ∷ n ∷ more) =
     if is_qr_function cn function count then value_items count cn function n more
-    else ignored count (cn ∷ function ∷ []) ∷ []
+    else ignored count (cn ∷ function ∷ []) ∷ matrix_items reading cn function count n more

@@ -221,7 +221,7 @@ given_behind reading lead name Raster args =
 given_behind reading lead name Symbol args =
     at_last (needs_more Symbol args) (symbol_unit reading (slice_index args 0) (symbol_data args))
 given_behind reading lead name Function args =
-    if slice_index args 0 == 0x6B then qr_items (word_at args 1) (drop 3 args)
+    if slice_index args 0 == 0x6B then qr_items reading (word_at args 1) (drop 3 args)
     else unused lead name (take 3 args) ∷ []
 given_behind reading lead name Graphics args = unused lead name (take 5 args) ∷ []
 given_behind reading lead name (ReadPast past) args = unused lead name (take (past_len past args) args) ∷ []

@@ -100,6 +100,50 @@ pub enum QrLevel {
     H,
 }
 
+/// Two-dimensional symbols of GS ( k beside QR.
+#[derive(Clone, Copy)]
+pub enum MatrixKind {
+    Pdf417,
+    Aztec,
+    DataMatrix,
+}
+
+/// How much of a PDF417 symbol may be lost.
+#[derive(Clone, Copy)]
+pub enum Pdf417Correction {
+    /// The level, 0 to 8.
+    Level(Spelled<u8>),
+    /// So many tenths of the data, 1 to 40.
+    Tenths(u8),
+}
+
+/// What GS ( k sets of such a symbol.
+#[derive(Clone, Copy)]
+pub enum MatrixSetting {
+    /// Function 67: dots of a module.
+    Module { kind: MatrixKind, dots: u8 },
+    /// PDF417, function 65: columns of data, 0 for as many as are needed.
+    Columns(u8),
+    /// PDF417, function 66: rows, 0 for as many as are needed.
+    Rows(u8),
+    /// PDF417, function 68: modules of a row.
+    RowHeight(u8),
+    /// PDF417, function 69.
+    Correction(Pdf417Correction),
+    /// PDF417, function 70: without right row indicators.
+    Truncated(bool),
+    /// Aztec, function 66: layers of a full symbol, 0 for as many as are needed.
+    FullLayers(u8),
+    /// Aztec, function 66: layers of a compact symbol, 0 for as many as are needed.
+    CompactLayers(u8),
+    /// Aztec, function 69: how many percent of the codewords are check codewords.
+    Percent(u8),
+    /// Data Matrix, function 66: a square of so many rows, 0 for as many as are needed.
+    Square(u8),
+    /// Data Matrix, function 66: an oblong, rows and columns 0 for as many as are needed.
+    Oblong { rows: u8, columns: u8 },
+}
+
 /// The bytes that begin a command of several bytes.
 #[derive(Clone, Copy)]
 pub enum Lead {
@@ -240,8 +284,20 @@ pub enum EscItem {
     QrByte(u8),
     /// GS ( k, function 81.
     QrPrint,
-    /// GS ( k that is ignored: its bytes from the count on, as far as they were read when that was known.
+    /// GS ( k that QR symbols ignore: its bytes from the count on, as far as they were read when that was
+    /// known. What it says of another symbol follows.
     QrIgnored(ArrayVec<u8, 6>),
+    /// What GS ( k sets of another symbol.
+    MatrixSet(MatrixSetting),
+    /// GS ( k, function 80, of another symbol: the bytes that follow are stored.
+    MatrixStore(MatrixKind),
+    /// A byte that is stored for it.
+    MatrixByte {
+        kind: MatrixKind,
+        byte: u8,
+    },
+    /// GS ( k, function 81, of another symbol.
+    MatrixPrint(MatrixKind),
 
     /// A command that is read without effect, or bytes that are none: the lead, and the bytes behind it as
     /// far as they were read when it was given.

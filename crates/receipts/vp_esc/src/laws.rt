@@ -1,6 +1,6 @@
 //! What the definitions of `specs/` say of every stream, whichever program reads it.
 ghost use Rattle.std.specs.Prelude.{◌≡◌, ◌<◌, ◌≤◌, ◌+◌, ◌++◌, ◌∷◌, [], ℕ, false, length, List, None, Some, map};
-ghost use Rattle.std.specs.List.{AllByRecursion};
+ghost use Rattle.std.specs.List.{AllByRecursion, flat_map};
 ghost use Rattle.vp_dots.specs.declared.fault.Fault.{Fault};
 ghost use Rattle.vp_esc.specs.Split.{split, items, fault_of};
 ghost use Rattle.vp_esc.specs.Laws.{Splits, IsUnit, as_read_by};
@@ -79,15 +79,15 @@ pub fn only_rows()
 {}
 
 /// The whole language has no fault. What the profile reads without one the whole language reads in the same
-/// way: the same units, and of each front the same items, but that the bar code of GS k is by its own table.
-/// Without a GS k of a kind that the whole language adds they are the same.
+/// way: the same units, and of each front the same items, but that the bar code of GS k is by its own table,
+/// and that the whole language alone gives what GS ( k says of other symbols than QR. Without a GS k of a kind
+/// that the whole language adds, and such a GS ( k, they are the same.
 pub fn the_profile_is_within()
     ensures no_fault { (bytes : List ℕ) → fault_of Whole bytes ≡ None }
     ensures units { (bytes : List ℕ) → fault_of Profile bytes ≡ None →
         split Whole bytes ≡ split Profile bytes }
-    ensures items { (reading other : Reading) (bytes more : List ℕ) →
-        fault_of Profile (bytes ++ more) ≡ None →
-        items reading bytes ≡ map (as_read_by reading) (items other bytes) }
+    ensures items { (reading : Reading) (bytes more : List ℕ) → fault_of Profile (bytes ++ more) ≡ None →
+        items reading bytes ≡ flat_map (as_read_by reading) (items Whole bytes) }
 {}
 
 /// The lines of a unit list its bytes, with two exceptions: data without effect, behind ESC (, GS v 0, GS (,

@@ -4,12 +4,13 @@
 //! `EscReader` takes one byte at a time and lends the item that it gives, or answers the first command that
 //! it doesn't know. `EscItem` is what a command says, and `EscItem::line` its line in a listing. `specs/`
 //! says which bytes are a command and what they give, apart from how the reader goes about it: `Values` what
-//! arguments stand for, `Command` the table, `Units` and `Qr` what each command gives, `Split` how a stream
+//! arguments stand for, `Command` the table, `Units`, `Qr` and `Matrix` what each command gives, `Split` how a stream
 //! divides, `Lines` the listing.
 //!
 //! - `item`: what a command says.
 //! - `command`, `value`: the table in code, and what a byte stands for.
-//! - `reader`, `event`, `qr`: the reader, what a byte gives, and what those of GS ( k do.
+//! - `reader`, `event`, `qr`, `matrix`: the reader, what a byte gives, and what those of GS ( k do, for QR and
+//!   for other symbols.
 //! - `line`: the listing.
 //! - `laws`: what holds of every stream.
 #![tactic(auto)]
@@ -19,6 +20,7 @@ mod event;
 pub mod item;
 pub mod laws;
 mod line;
+mod matrix;
 mod qr;
 mod reader;
 pub mod reading;

@@ -5,9 +5,11 @@ ghost use Rattle.vp_dots.specs.Listing.{listed as listed_as};
 ghost use Rattle.vp_esc.specs.declared.item.TheConstants.{DATA_BYTES};
 ghost use Rattle.vp_esc.specs.Lines.{line_of, has_word, is_of_esc, lead_word, two_bytes, symbol_bytes};
 ghost use Rattle.vp_esc.specs.Lines.{column_byte as column_byte_as, model_byte as model_byte_as};
-ghost use Rattle.vp_esc.specs.Lines.{level_byte as level_byte_as};
+ghost use Rattle.vp_esc.specs.Lines.{level_byte as level_byte_as, setting_bytes};
 
-use crate::item::{ColumnMode, EscItem, Lead, QrLevel, QrModel, Spelled};
+use crate::item::{
+    ColumnMode, EscItem, Lead, MatrixSetting, Pdf417Correction, QrLevel, QrModel, Spelled,
+};
 use crate::value::is_kind_to_zero;
 use arrayvec::ArrayVec;
 use vp_dots::spell;
@@ -40,6 +42,9 @@ impl EscItem {
             EscItem::Column8(b) => byte_line(b"column", b, line),
             EscItem::Column24(ref bytes) => listed(b"column", bytes, line),
             EscItem::RasterByte(b) | EscItem::QrByte(b) => byte_line(b"byte", b, line),
+            EscItem::MatrixSet(setting) => matrix_setting(setting, line),
+            EscItem::MatrixByte { byte, .. } => byte_line(b"byte", byte, line),
+            EscItem::MatrixStore(_) | EscItem::MatrixPrint(_) => byte_line(b"byte", 48, line),
             EscItem::WithoutEffect { lead, ref bytes } => listed(
                 lead.word(),
                 bytes.as_slice(),
@@ -303,6 +308,31 @@ fn qr_store(count: u16, line: &mut ArrayVec<u8, 800>)
         ],
         line,
     )
+}
+
+/// What GS ( k sets of another symbol than QR.
+fn matrix_setting(setting: MatrixSetting, line: &mut ArrayVec<u8, 800>)
+    requires { line.old.items ≡ [] }
+    ensures { line.new.items ≡ listed_as (codes "byte") (setting_bytes setting) }
+{
+    match setting {
+        MatrixSetting::Module { dots: n, .. }
+        | MatrixSetting::Columns(n)
+        | MatrixSetting::Rows(n)
+        | MatrixSetting::RowHeight(n)
+        | MatrixSetting::Percent(n) => listed(b"byte", &[n], line),
+        MatrixSetting::Truncated(truncated) => {
+            listed(b"byte", &[u8::from(truncated)], line);
+        },
+        MatrixSetting::Correction(Pdf417Correction::Level(Spelled { byte, .. })) => {
+            listed(b"byte", &[48, byte], line);
+        }
+        MatrixSetting::Correction(Pdf417Correction::Tenths(n)) => listed(b"byte", &[49, n], line),
+        MatrixSetting::FullLayers(n) => listed(b"byte", &[48, n], line),
+        MatrixSetting::CompactLayers(n) => listed(b"byte", &[49, n], line),
+        MatrixSetting::Square(n) => listed(b"byte", &[48, n, n], line),
+        MatrixSetting::Oblong { rows, columns } => listed(b"byte", &[49, rows, columns], line),
+    }
 }
 
 /// The low byte of a number.

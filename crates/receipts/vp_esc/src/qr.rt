@@ -6,6 +6,8 @@ ghost use Rattle.vp_esc.specs.Qr.{ignored as ignored_as, begins_store as begins_
 
 use crate::event::Event;
 use crate::item::EscItem;
+use crate::matrix::{first_given, later_given};
+use crate::reading::Reading;
 use crate::value::{qr_level_of, qr_model_of};
 use arrayvec::ArrayVec;
 
@@ -43,11 +45,11 @@ pub fn ignored(count: u16, bytes: &[u8], item: &mut EscItem) -> Event
 }
 
 #[tactic(auto, unfolding(crate::specs::Qr::qr_items, crate::specs::Qr::value_items))]
-/// What the byte after these values, which begin with cn, gives where it isn't stored.
-pub fn qr_given(count: u16, values: &[u8], byte: u8, item: &mut EscItem) -> Event
+/// What the byte after these values, which begin with cn, gives where it isn't stored for a QR symbol.
+pub fn qr_given(reading: Reading, count: u16, values: &[u8], byte: u8, item: &mut EscItem) -> Event
     ensures { length values.now < count → begins_store_as values.now ≡ false →
-        qr_items count (values.now ++ byte ∷ [])
-        ≡ qr_items count values.now ++ option_to_list (shown result item.new) }
+        qr_items reading count (values.now ++ byte ∷ [])
+        ≡ qr_items reading count values.now ++ option_to_list (shown result item.new) }
 {
     match values {
         [] => if count == 1 {
@@ -64,11 +66,14 @@ pub fn qr_given(count: u16, values: &[u8], byte: u8, item: &mut EscItem) -> Even
             if is_qr_function(*cn, *function, count) {
                 first_value(count, *cn, *function, byte, item)
             } else {
-                Event::Nothing
+                first_given(reading, *cn, *function, count, byte, item)
             }
         }
         [cn, function, first, rest @ ..] => {
-            if is_qr_function(*cn, *function, count) && *function == 65 && rest.is_empty() {
+            if !is_qr_function(*cn, *function, count) {
+                return later_given(reading, *cn, *function, count, *first, rest, byte, item);
+            }
+            if *function == 65 && rest.is_empty() {
                 second_value(count, *cn, *first, byte, item)
             } else {
                 Event::Nothing

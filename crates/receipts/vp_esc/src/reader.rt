@@ -420,7 +420,13 @@ impl EscReader {
         ensures { (rest : List ℕ) → InQr self.old count left rest →
             Advances self.old.reading (Ok (shown result self.new.item)) rest byte self.new }
     {
-        let event = qr_given(count, self.kept.as_slice(), byte, &mut self.item);
+        let event = qr_given(
+            self.reading,
+            count,
+            self.kept.as_slice(),
+            byte,
+            &mut self.item,
+        );
         keep(&mut self.kept, byte);
         self.phase = phase_behind(self.kept.as_slice(), count, left.saturating_sub(1));
         event

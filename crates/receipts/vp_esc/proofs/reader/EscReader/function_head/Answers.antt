@@ -20,7 +20,7 @@ returns-then-count-eq0 c rest begun =
     rw (c.qr_phase-self.ensures, c.ignored.ensures.event, c.ignored.ensures.item)
     (lands_giving _ _
     (land_qr c.args.self.now _ _ c.word-count.result rest c.clear.new.self _ begun qr (rw c.as_slice-args.ensures.value at c.word-count.ensures) c.clear.ensures
-    (qr_none c.word-count.result c.if-count-eq0.true)))
+    (qr_none c.args.self.now.reading c.word-count.result c.if-count-eq0.true)))
 
 pub returns : goal.returns
 returns c rest begun =
@@ -29,4 +29,4 @@ returns c rest begun =
     (rw c.as_slice-args.ensures.value at c.if-args-ne107.false) in
     rw c.qr_phase-self.ensures
     (land_qr c.args.self.now _ _ c.word-count.result rest c.clear.new.self _ begun qr (rw c.as_slice-args.ensures.value at c.word-count.ensures) c.clear.ensures
-    (qr_some c.word-count.result c.if-count-eq0.false))
+    (qr_some c.args.self.now.reading c.word-count.result c.if-count-eq0.false))
