@@ -9,7 +9,7 @@ use Rattle.vp_receipt_settings.specs.Setup.{Setup}
 use Rattle.vp_receipt_settings.specs.Line.{line}
 use Rattle.vp_receipt_settings.specs.Settings.{settings_of}
 use Rattle.vp_receipt_settings.specs.Tabs.{tab_stops}
-use Rattle.vp_receipt_settings.specs.Symbols.{qr_data}
+use Rattle.vp_receipt_settings.specs.Symbols.{stored_data}
 use Rattle.vp_receipt_settings.specs.declared.raster.Raster.{Raster}
 use Rattle.vp_receipt_settings.specs.Rasters.{raster_scale, raster_bytes, rows_to_come, row_so_far, is_row_end, bytes_after}
 use Rattle.vp_receipt_settings.specs.Gathering.{IsGathering, room_of}
@@ -40,9 +40,9 @@ pub stops_stay : (bytes : List ℕ) (before : List EscItem) → tab_stops (bytes
 stops_stay [] before = refl
 stops_stay (b ∷ bytes) before = ap tab_stops (after_first b bytes before) ∙ stops_stay bytes (RasterByte b ∷ before)
 
-pub data_stay : (bytes : List ℕ) (before : List EscItem) → qr_data (bytes_after bytes before) ≡ qr_data before
+pub data_stay : (bytes : List ℕ) (before : List EscItem) → stored_data (bytes_after bytes before) ≡ stored_data before
 data_stay [] before = refl
-data_stay (b ∷ bytes) before = ap qr_data (after_first b bytes before) ∙ data_stay bytes (RasterByte b ∷ before)
+data_stay (b ∷ bytes) before = ap stored_data (after_first b bytes before) ∙ data_stay bytes (RasterByte b ∷ before)
 
 -- the row with bytes that don't end it
 pub record Lasts (bytes : List ℕ) (before : List EscItem) : Type 0 where

@@ -1,7 +1,7 @@
 -- What an item does, as the code tells it.
 use Rattle.std.specs.Prelude.{ℕ, ◌*◌, nat_lt, Bool, true, false, not, ◌&&◌, if◌then◌else◌, Option, Some, None, max}
 use Rattle.vp_esc.specs.declared.item.EscItem.{EscItem}
-use Rattle.vp_esc.specs.declared.item.EscItem.TheVariants.{LineFeed, CarriageReturn, Control, Tab, Position, MovePosition, Character, Column8, Column24, Initialize, FeedDots, FeedLines, CutLeavingOnePoint, CutLeavingThreePoints, Cut, FeedAndCut, Raster, RasterByte, Symbol, QrPrint, QrIgnored, WithoutEffect, PageMode, StandardMode, FormFeed, Cancel, PrintPage, VerticalPosition, MoveVerticalPosition, Area, Direction, RightSpacing, PrintMode, Columns, Underline, DefaultLineSpacing, LineSpacing, TabStops, Emphasized, DoubleStrike, Font, Justify, Magnify, Inverse, HriPosition, HriFont, BarHeight, BarModule, LeftMargin, AreaWidth, QrModel, QrModule, QrLevel, QrStore, QrByte}
+use Rattle.vp_esc.specs.declared.item.EscItem.TheVariants.{LineFeed, CarriageReturn, Control, Tab, Position, MovePosition, Character, Column8, Column24, Initialize, FeedDots, FeedLines, CutLeavingOnePoint, CutLeavingThreePoints, Cut, FeedAndCut, Raster, RasterByte, Symbol, QrPrint, QrIgnored, WithoutEffect, PageMode, StandardMode, FormFeed, Cancel, PrintPage, VerticalPosition, MoveVerticalPosition, Area, Direction, RightSpacing, PrintMode, Columns, Underline, DefaultLineSpacing, LineSpacing, TabStops, Emphasized, DoubleStrike, Font, Justify, Magnify, Inverse, HriPosition, HriFont, BarHeight, BarModule, LeftMargin, AreaWidth, QrModel, QrModule, QrLevel, QrStore, QrByte, MatrixSet, MatrixStore, MatrixByte, MatrixPrint}
 use Rattle.vp_esc.specs.declared.item.Cut.TheVariants.{Partial}
 use Rattle.vp_esc.specs.declared.item.PrintDirection.{PrintDirection}
 use Rattle.vp_glyph.specs.Cells.{cell_width}
@@ -50,6 +50,7 @@ effect_of s (Raster scale bytes rows) =
 effect_of s (RasterByte byte) = Fills byte
 effect_of s (Symbol kind bytes more) = Draws
 effect_of s QrPrint = Draws
+effect_of s (MatrixPrint kind) = Draws
 effect_of s Tab = Tabs
 effect_of s (Position n) = Moves (position_at n s.position (settings_length s))
 effect_of s (MovePosition by) = Moves (position_moved by s.position (settings_length s))
@@ -93,6 +94,9 @@ effect_of s (QrModule _) = Sets
 effect_of s (QrLevel _) = Sets
 effect_of s (QrStore _) = Sets
 effect_of s (QrByte _) = Sets
+effect_of s (MatrixSet _) = Sets
+effect_of s (MatrixStore _) = Sets
+effect_of s (MatrixByte _ _) = Sets
 
 -- what has to do with the line, with cuts, rasters or symbols, and not with positions, the page or the modes
 abbrev pub is_of_line : EscItem → Bool
@@ -110,6 +114,7 @@ is_of_line (Raster _ _ _) = true
 is_of_line (RasterByte _) = true
 is_of_line (Symbol _ _ _) = true
 is_of_line QrPrint = true
+is_of_line (MatrixPrint _) = true
 is_of_line _ = false
 
 -- the rows of the strip in which it ends the line

@@ -1,7 +1,7 @@
 -- How far down a page is used, and when its line is laid.
 use Rattle.std.specs.Prelude.{ℕ, nat_lt, Bool, true, false, is_some, ◌&&◌, ◌||◌, if◌then◌else◌, List, [], ◌∷◌}
 use Rattle.vp_esc.specs.declared.item.EscItem.{EscItem}
-use Rattle.vp_esc.specs.declared.item.EscItem.TheVariants.{LineFeed, Character, Initialize, FeedDots, FeedLines, Raster, RasterByte, Symbol, QrPrint, PageMode, StandardMode, VerticalPosition, MoveVerticalPosition, FormFeed, Cancel, PrintPage, Area as SetArea, Direction as SetDirection}
+use Rattle.vp_esc.specs.declared.item.EscItem.TheVariants.{LineFeed, Character, Initialize, FeedDots, FeedLines, Raster, RasterByte, Symbol, QrPrint, MatrixPrint, PageMode, StandardMode, VerticalPosition, MoveVerticalPosition, FormFeed, Cancel, PrintPage, Area as SetArea, Direction as SetDirection}
 use Rattle.vp_receipt_settings.specs.Setup.{Setup}
 use Rattle.vp_receipt_settings.specs.Pages.{is_area, area, area_cut, is_vertical_move, raised, extent_of}
 use Rattle.vp_receipt_settings.specs.Symbols.{symbol_image, image_rows}
@@ -55,6 +55,7 @@ ends_line setup before (FeedLines n) = true
 ends_line setup before (Raster scale bytes rows) = draws scale.value bytes rows
 ends_line setup before (Symbol kind bytes more) = true
 ends_line setup before QrPrint = true
+ends_line setup before (MatrixPrint kind) = true
 ends_line setup before item = lays_line setup before item
 
 -- ESC S and ESC @ give up an open line of a page

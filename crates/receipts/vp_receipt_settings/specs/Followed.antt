@@ -8,6 +8,7 @@ use Rattle.vp_receipt_settings.specs.Setup.{Setup}
 use Rattle.vp_receipt_settings.specs.Texts.{text_in_force, style_of}
 use Rattle.vp_receipt_settings.specs.Tabs.{tabbed}
 use Rattle.vp_receipt_settings.specs.Symbols.{bar_style_of, qr_style_of}
+use Rattle.vp_receipt_settings.specs.Matrices.{matrix_styles}
 use Rattle.vp_receipt_settings.specs.Pages.{is_paged, vertical_after, raised}
 use Rattle.vp_receipt_settings.specs.Spacing.{line_spacing, column_width}
 use Rattle.vp_receipt_settings.specs.Line.{left_margin, area_width}
@@ -77,6 +78,7 @@ with_set setup before item s = record s {
   text = text_in_force (item ∷ before);
   bars = bar_style_of (item ∷ before);
   qr = qr_style_of (item ∷ before);
+  matrices = matrix_styles (item ∷ before);
   line_spacing = line_spacing (item ∷ before);
   column_width = column_width (item ∷ before);
   left_margin = left_margin setup (item ∷ before);

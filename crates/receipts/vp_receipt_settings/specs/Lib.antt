@@ -3,6 +3,7 @@ pub mod Setup
 pub mod Images
 pub mod Texts
 pub mod Tabs
+pub mod Matrices
 pub mod Symbols
 pub mod Pages
 pub mod Rasters

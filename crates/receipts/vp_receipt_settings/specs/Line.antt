@@ -1,7 +1,7 @@
 -- The line and what places it, by looking back over the items, of which the newest comes first.
 use Rattle.std.specs.Prelude.{ℕ, ◌+◌, ◌-◌, nat_lt, nat_le, Bool, true, false, not, ◌&&◌, ◌*◌, ◌==◌, is_some, if◌then◌else◌, List, [], ◌∷◌, min, max, ℤ, pos, negsuc, Option, Some, None, unwrap_or}
 use Rattle.vp_esc.specs.declared.item.EscItem.{EscItem}
-use Rattle.vp_esc.specs.declared.item.EscItem.TheVariants.{LineFeed, Tab, Character, Position, MovePosition, Column8, Column24, Initialize, FeedDots, FeedLines, CutLeavingOnePoint, CutLeavingThreePoints, LeftMargin, AreaWidth, Cut, FeedAndCut, Raster, RasterByte, Symbol, QrPrint, PageMode, StandardMode, FormFeed, Cancel, PrintPage, VerticalPosition, MoveVerticalPosition, Area as SetArea, Direction as SetDirection}
+use Rattle.vp_esc.specs.declared.item.EscItem.TheVariants.{LineFeed, Tab, Character, Position, MovePosition, Column8, Column24, Initialize, FeedDots, FeedLines, CutLeavingOnePoint, CutLeavingThreePoints, LeftMargin, AreaWidth, Cut, FeedAndCut, Raster, RasterByte, Symbol, QrPrint, MatrixPrint, PageMode, StandardMode, FormFeed, Cancel, PrintPage, VerticalPosition, MoveVerticalPosition, Area as SetArea, Direction as SetDirection}
 use Rattle.vp_receipt_settings.specs.declared.width.Width.{Width}
 use Rattle.vp_page.specs.declared.area.Area.{Area}
 use Rattle.vp_page.specs.declared.area.Direction.{Direction}
@@ -142,6 +142,7 @@ rows_by line spacing broken (Raster scale bytes rows) =
     if draws scale.value bytes rows then rows_if_open line spacing else 0
 rows_by line spacing broken (Symbol kind bytes more) = rows_if_open line spacing
 rows_by line spacing broken QrPrint = rows_if_open line spacing
+rows_by line spacing broken (MatrixPrint kind) = rows_if_open line spacing
 rows_by line spacing broken _ = 0
 
 -- `rows` rows if `some`, else none
@@ -256,6 +257,8 @@ layout_by setup before (Symbol kind bytes more) l =
     further (image_rows (symbol_image setup before (Symbol kind bytes more))) (ended (line_spacing before) l)
 layout_by setup before QrPrint l =
     further (image_rows (symbol_image setup before QrPrint)) (ended (line_spacing before) l)
+layout_by setup before (MatrixPrint kind) l =
+    further (image_rows (symbol_image setup before (MatrixPrint kind))) (ended (line_spacing before) l)
 layout_by setup before (Raster scale bytes rows) l =
     let drawn = draws scale.value bytes rows in
     further (rows_if drawn (rows_if_open l.line (line_spacing before))) (frame_closed_if drawn l)

@@ -18,6 +18,7 @@ use Rattle.vp_dots.specs.Images.{Image}
 use Rattle.vp_receipt_settings.specs.Images.{cell_image}
 use Rattle.vp_receipt_settings.specs.Texts.{text_in_force, style_of}
 use Rattle.vp_receipt_settings.specs.Symbols.{bar_style_of, qr_style_of, IsFitBars, IsFitQr}
+use Rattle.vp_receipt_settings.specs.Matrices.{matrix_styles, IsFitMatrices}
 use Rattle.vp_receipt_settings.specs.Spacing.{column_width, line_spacing}
 use Rattle.vp_receipt_settings.specs.Line.{area_width, height, is_open, left_margin, mode_length, standard_length, line, mode, position, right_edge, vertical}
 use Rattle.vp_receipt_settings.specs.Extent.{used}
@@ -63,6 +64,7 @@ line_settings_of setup page before = record {
   text = text_in_force before;
   bars = bar_style_of before;
   qr = qr_style_of before;
+  matrices = matrix_styles before;
   line_spacing = line_spacing before;
   column_width = column_width before;
   left_margin = left_margin setup before;
@@ -106,6 +108,7 @@ pub record IsFit (s : Settings) : Type 0 where
   pub text : IsFitText s.text
   pub bars : IsFitBars s.bars
   pub qr : IsFitQr s.qr
+  pub matrices : IsFitMatrices s.matrices
   pub column : s.column_width ≤ 2
   pub column_some : 0 < s.column_width
   pub page : IsFitPage s.page

@@ -2,7 +2,10 @@
 use Rattle.std.specs.Prelude.{◌≡◌, ◌≤◌, ◌<◌, ℕ, ◌+◌, ◌*◌, ◌/◌, Bool, Result, Ok, Err, take, length as list_length, nat_lt, nat_le, ◌&&◌, if◌then◌else◌, List, [], ◌∷◌, ◌++◌, Option, Some, None}
 use Rattle.std.specs.Option.{option_or}
 use Rattle.vp_esc.specs.declared.item.EscItem.{EscItem}
-use Rattle.vp_esc.specs.declared.item.EscItem.TheVariants.{HriPosition as SetHriPosition, HriFont as SetHriFont, BarHeight, BarModule, QrModel as SetQrModel, QrModule as SetQrModule, QrLevel as SetQrLevel, QrStore, QrByte, Initialize, QrPrint, Symbol as PrintSymbol}
+use Rattle.vp_esc.specs.declared.item.EscItem.TheVariants.{HriPosition as SetHriPosition, HriFont as SetHriFont, BarHeight, BarModule, QrModel as SetQrModel, QrModule as SetQrModule, QrLevel as SetQrLevel, QrStore, QrByte, Initialize, QrPrint, MatrixPrint, Symbol as PrintSymbol}
+use Rattle.vp_esc.specs.declared.item.MatrixKind.{MatrixKind}
+use Rattle.vp_esc.specs.declared.item.MatrixKind.TheVariants as kinds
+use Rattle.vp_matrix.specs.Encoding.{matrix_refusal as no_matrix}
 use Rattle.vp_bar_code.specs.declared.HriPosition.{HriPosition}
 use Rattle.vp_esc.specs.declared.item.QrModel.{QrModel}
 use Rattle.vp_esc.specs.declared.item.QrModel.TheVariants.{Two}
@@ -31,9 +34,11 @@ use Rattle.vp_dots.specs.Images.{Image}
 use Rattle.vp_receipt_settings.specs.Setup.{Setup}
 use Rattle.vp_receipt_settings.specs.declared.bar_style.BarStyle.{BarStyle}
 use Rattle.vp_receipt_settings.specs.declared.qr_style.QrStyle.{QrStyle}
-use Rattle.vp_receipt_settings.specs.declared.stored.TheConstants.{STORED_BYTES}
+use Rattle.vp_receipt_settings.specs.declared.matrix_style.MatrixStyles.{MatrixStyles}
+use Rattle.vp_receipt_settings.specs.declared.stored.TheConstants.{STORED_BYTES, PDF417_BYTES, AZTEC_BYTES, DATA_MATRIX_BYTES}
 use Rattle.vp_receipt_settings.specs.declared.stored.Stored.{Stored}
 use Rattle.vp_receipt_settings.specs.Texts.{font_or}
+use Rattle.vp_receipt_settings.specs.Matrices.{matrix_styles, matrix_data, matrix_width, matrix_image, code_asked}
 
 -- GS h: how high bars are
 abbrev pub bar_height : List EscItem → ℕ
@@ -110,10 +115,35 @@ qr_data (QrByte byte ∷ before) = qr_data before ++ byte ∷ []
 qr_data (Initialize ∷ before) = []
 qr_data (_ ∷ before) = qr_data before
 
--- the first bytes are kept, as many as the largest symbol holds, and whether there are more
-pub record IsStored (s : Stored) (bytes : List ℕ) : Type 0 where
-  pub kept : s.bytes.items ≡ take STORED_BYTES bytes
-  pub more : s.more ≡ nat_lt STORED_BYTES (list_length bytes)
+-- what is stored for each kind of symbols
+pub record StoredData : Type 0 where
+  pub qr : List ℕ
+  pub pdf417 : List ℕ
+  pub aztec : List ℕ
+  pub data_matrix : List ℕ
+
+abbrev pub stored_data : List EscItem → StoredData
+stored_data before = record {
+  qr = qr_data before;
+  pdf417 = matrix_data kinds.Pdf417 before;
+  aztec = matrix_data kinds.Aztec before;
+  data_matrix = matrix_data kinds.DataMatrix before;
+}
+
+abbrev pub nothing_stored : StoredData
+nothing_stored = record { qr = []; pdf417 = []; aztec = []; data_matrix = [] }
+
+-- the first bytes are kept, as many as there is room for, and whether there are more
+pub record IsKept (room : ℕ) (held : List ℕ) (some_more : Bool) (bytes : List ℕ) : Type 0 where
+  pub kept : held ≡ take room bytes
+  pub more : some_more ≡ nat_lt room (list_length bytes)
+
+-- the room is for as many as the largest symbol holds
+pub record IsStored (s : Stored) (all : StoredData) : Type 0 where
+  pub qr : IsKept STORED_BYTES s.qr.bytes.items s.qr.more all.qr
+  pub pdf417 : IsKept PDF417_BYTES s.pdf417.bytes.items s.pdf417.more all.pdf417
+  pub aztec : IsKept AZTEC_BYTES s.aztec.bytes.items s.aztec.more all.aztec
+  pub data_matrix : IsKept DATA_MATRIX_BYTES s.data_matrix.bytes.items s.data_matrix.more all.data_matrix
 
 -- what can be drawn
 pub record IsFitBars (s : BarStyle) : Type 0 where
@@ -169,6 +199,29 @@ abbrev pub qr_refusal : QrStyle → List ℕ → ℕ → Option Fault
 qr_refusal style bytes length =
     option_or (model_refusal style.model) (option_or (many_refusal bytes) (bytes_refusal style bytes length))
 
+-- how many bytes are kept for a kind
+abbrev pub kind_room : MatrixKind → ℕ
+kind_room kinds.Pdf417 = PDF417_BYTES
+kind_room kinds.Aztec = AZTEC_BYTES
+kind_room kinds.DataMatrix = DATA_MATRIX_BYTES
+
+-- what is stored for it
+abbrev pub kind_data : MatrixKind → StoredData → List ℕ
+kind_data kinds.Pdf417 all = all.pdf417
+kind_data kinds.Aztec all = all.aztec
+kind_data kinds.DataMatrix all = all.data_matrix
+
+-- bytes without a symbol, or with one that the line has no room for
+abbrev pub kind_refusal : MatrixKind → MatrixStyles → List ℕ → ℕ → Option Fault
+kind_refusal kind styles bytes length =
+    option_or (no_matrix (code_asked kind styles bytes) bytes) (too_wide (matrix_width kind styles bytes) length)
+
+-- GS ( k, function 81, of a kind: why no symbol is printed
+abbrev pub matrix_print_refusal : MatrixKind → MatrixStyles → List ℕ → ℕ → Option Fault
+matrix_print_refusal kind styles bytes length =
+    option_or (if nat_lt (kind_room kind) (list_length bytes) then Some SymbolTooLong else None)
+    (kind_refusal kind styles bytes length)
+
 -- a scaled symbol is the image
 pub record IsQrImage (ink : ScaledSymbol) (image : Image) : Type 0 where
   pub width : side ink ≡ image.width
@@ -212,6 +265,8 @@ abbrev pub symbol_image : Setup → List EscItem → EscItem → Option Image
 symbol_image setup before (PrintSymbol kind bytes more) =
     bars_image setup.sheets (bar_style_of before) (bars_of kind.value bytes.items more)
 symbol_image setup before QrPrint = Some (qr_image (qr_style_of before) (qr_data before))
+symbol_image setup before (MatrixPrint kind) =
+    Some (matrix_image kind (matrix_styles before) (matrix_data kind before))
 symbol_image setup before _ = None
 
 -- how high it is

@@ -202,7 +202,7 @@ impl Settings {
                 ))
             }
             EscItem::RasterByte(byte) => Effect::Fills(*byte),
-            EscItem::Symbol { .. } | EscItem::QrPrint => Effect::Draws,
+            EscItem::Symbol { .. } | EscItem::QrPrint | EscItem::MatrixPrint(_) => Effect::Draws,
             _ => self.page_effect(item),
         }
     }

@@ -1,9 +1,9 @@
-//! What is kept beside the settings: tab stops, the raster whose bytes come, and what is stored for a symbol.
+//! What is kept beside the settings: tab stops, the raster whose bytes come, and what is stored for symbols.
 ghost use Rattle.std.specs.Prelude.{◌≡◌, ◌∷◌, ℕ, List};
 ghost use Rattle.vp_esc.specs.declared.item.EscItem.{EscItem};
 ghost use Rattle.vp_receipt_settings.specs.Gathering.{IsGathering, IsPartRow};
 ghost use Rattle.vp_receipt_settings.specs.Settings.{IsFitText};
-ghost use Rattle.vp_receipt_settings.specs.Symbols.{qr_data, IsStored};
+ghost use Rattle.vp_receipt_settings.specs.Symbols.{stored_data, IsStored};
 ghost use Rattle.vp_receipt_settings.specs.Tabs.{tab_stops};
 ghost use Rattle.vp_receipt_settings.specs.Texts.{text_in_force};
 
@@ -32,21 +32,17 @@ impl Kept {
             self.new.stops.items ≡ tab_stops (item.now ∷ before) }
         ensures gathers { (before : List EscItem) → IsGathering self.new.raster (item.now ∷ before) }
         ensures part { IsPartRow self.new.raster }
-        ensures stored { (before : List EscItem) → IsStored self.old.stored (qr_data before) →
-            IsStored self.new.stored (qr_data (item.now ∷ before)) }
+        ensures stored { (before : List EscItem) → IsStored self.old.stored (stored_data before) →
+            IsStored self.new.stored (stored_data (item.now ∷ before)) }
     {
         self.raster.end();
+        self.stored.take(item);
         match item {
             EscItem::TabStops { stops, .. } => self.stops = stops_of(stops, text.advance()),
             EscItem::Raster { scale, bytes, rows } => {
                 self.raster.begin(scale.value, *bytes, *rows);
             }
-            EscItem::QrStore(_) => self.stored.clear(),
-            EscItem::QrByte(byte) => self.stored.push(*byte),
-            EscItem::Initialize => {
-                self.stops = first_stops();
-                self.stored.clear();
-            }
+            EscItem::Initialize => self.stops = first_stops(),
             _ => {}
         }
     }

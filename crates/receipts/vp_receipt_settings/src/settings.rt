@@ -10,6 +10,7 @@ ghost use Rattle.vp_receipt_settings.specs.Line.{lines_rows, standard_length, br
 ghost use Rattle.vp_receipt_settings.specs.Settings.{printed_at, settings_of, IsFit, settings_length, justification};
 ghost use Rattle.vp_receipt_settings.specs.Tabs.{tab_stops, tabbed};
 ghost use Rattle.vp_receipt_settings.specs.Symbols.{symbol_image, image_rows, bar_style_of, qr_style_of};
+ghost use Rattle.vp_receipt_settings.specs.Matrices.{matrix_styles};
 ghost use Rattle.vp_receipt_settings.specs.Texts.{style_of};
 ghost use Rattle.vp_receipt_settings.specs.Runs.{text_room};
 ghost use Rattle.vp_receipt_settings.specs.Effects.{effect_of, feed_of};
@@ -21,6 +22,7 @@ ghost use Rattle.vp_glyph.specs.Cells.{cell_width};
 use crate::bar_style::BarStyle;
 use crate::column::{COLUMN_ROWS, Column};
 use crate::effect::{Effect, NextLines, Piece};
+use crate::matrix_style::MatrixStyles;
 use crate::page_mode::{PageSettings, PrinterMode};
 use crate::qr_style::QrStyle;
 use crate::text::{LINE_ROWS, Text, WIDEST, rows_or};
@@ -39,6 +41,7 @@ pub struct Settings {
     pub text: Text,
     pub bars: BarStyle,
     pub qr: QrStyle,
+    pub matrices: MatrixStyles,
     pub line_spacing: u8,
     /// How wide a dot of a column is.
     pub column_width: u8,
@@ -121,6 +124,7 @@ impl Settings {
             text: Text::START,
             bars: BarStyle::START,
             qr: QrStyle::START,
+            matrices: MatrixStyles::START,
             line_spacing: DEFAULT_LINE_SPACING,
             column_width: 1,
             left_margin: 0,
@@ -364,9 +368,10 @@ impl Settings {
         requires fit { IsFit self }
         requires item { item.now ≡ EscItem.Initialize → ⊥ }
         ensures symbols { (before : List EscItem) → self.bars ≡ bar_style_of before →
-            self.qr ≡ qr_style_of before → result ≡ record self {
+            self.qr ≡ qr_style_of before → self.matrices ≡ matrix_styles before → result ≡ record self {
               bars = bar_style_of (item.now ∷ before);
               qr = qr_style_of (item.now ∷ before);
+              matrices = matrix_styles (item.now ∷ before);
             } }
         ensures fit { IsFit result }
     {
@@ -380,6 +385,7 @@ impl Settings {
             EscItem::QrModel(model) => self.qr.model = *model,
             EscItem::QrModule(dots) if 1 <= *dots && *dots <= 16 => self.qr.module_dots = *dots,
             EscItem::QrLevel(level) => self.qr.level = *level,
+            EscItem::MatrixSet(setting) => self.matrices = self.matrices.with(*setting),
             _ => {}
         }
         self

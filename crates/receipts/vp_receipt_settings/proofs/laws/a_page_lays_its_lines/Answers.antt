@@ -1,5 +1,5 @@
 use Rattle.std.proofs.Common.{◌≡◌, Bool, true, false, ℕ, List, [], ◌∷◌, ◌++◌, cond, refl, ap}
-use Rattle.vp_esc.specs.declared.item.EscItem.TheVariants.{Character, Column8, Column24, CutLeavingOnePoint, CutLeavingThreePoints, Cut, FeedAndCut, Initialize, LineFeed, FeedDots, FeedLines, Raster, Symbol, QrPrint, StandardMode, FormFeed, Cancel, PrintPage, VerticalPosition, MoveVerticalPosition, Area, Direction}
+use Rattle.vp_esc.specs.declared.item.EscItem.TheVariants.{Character, Column8, Column24, CutLeavingOnePoint, CutLeavingThreePoints, Cut, FeedAndCut, Initialize, LineFeed, FeedDots, FeedLines, Raster, Symbol, QrPrint, MatrixPrint, StandardMode, FormFeed, Cancel, PrintPage, VerticalPosition, MoveVerticalPosition, Area, Direction}
 use Rattle.vp_dots.specs.Images.{Image}
 use Rattle.vp_receipt_settings.specs.Line.{Placed, line, breaks, line_with, character, position, line_length}
 use Rattle.vp_receipt_settings.proofs.laws.a_page_lays_its_lines.Goals as goal
@@ -38,6 +38,7 @@ returns-clause-laid c setup before (FeedLines n) paged ends = refl
 returns-clause-laid c setup before (Raster scale bytes rows) paged ends = if_true _ [] (line setup before) ends
 returns-clause-laid c setup before (Symbol kind bytes more) paged ends = refl
 returns-clause-laid c setup before QrPrint paged ends = refl
+returns-clause-laid c setup before (MatrixPrint kind) paged ends = refl
 returns-clause-laid c setup before (VerticalPosition n) paged ends = if_true _ [] (line setup before) paged
 returns-clause-laid c setup before (MoveVerticalPosition n) paged ends = rw (ends, paged) refl
 returns-clause-laid c setup before (Area x y wide high) paged ends = rw (ends, paged) refl
@@ -62,6 +63,7 @@ returns-clause-stays c setup before (FeedLines n) paged ends up = absurd (no_end
 returns-clause-stays c setup before (Raster scale bytes rows) paged ends up = ([], if_false _ [] (line setup before) ends)
 returns-clause-stays c setup before (Symbol kind bytes more) paged ends up = absurd (no_end ends)
 returns-clause-stays c setup before QrPrint paged ends up = absurd (no_end ends)
+returns-clause-stays c setup before (MatrixPrint kind) paged ends up = absurd (no_end ends)
 returns-clause-stays c setup before (VerticalPosition n) paged ends up = absurd (no_end ends)
 returns-clause-stays c setup before (MoveVerticalPosition n) paged ends up = ([], rw ends refl)
 returns-clause-stays c setup before (Area x y wide high) paged ends up = ([], rw ends refl)

@@ -41,6 +41,7 @@ returns-in_default c =
         text = line.text;
         bars = line.bars;
         qr = line.qr;
+        matrices = line.matrices;
         column = line.column;
         column_some = line.column_some;
         page = c.page_after.ensures.fit;

@@ -1,27 +1,18 @@
-use Rattle.std.proofs.Common.{◌≡◌, ℕ, ◌-◌, List, nat_lt, length, take, min, sym, ap, ◌∙◌, arith}
-use Rattle.vp_receipt_settings.specs.Symbols.{qr_data}
-use Rattle.vp_receipt_settings.proofs.Storing.{data_after, kept_run, all_fit, some_left}
+use Rattle.std.proofs.Common.{sym, subst, List, ℕ}
+use Rattle.vp_esc.specs.declared.item.MatrixKind.TheVariants.{Pdf417, Aztec, DataMatrix}
+use Rattle.vp_receipt_settings.specs.declared.stored.TheConstants.{STORED_BYTES, PDF417_BYTES, AZTEC_BYTES, DATA_MATRIX_BYTES}
+use Rattle.vp_receipt_settings.specs.Symbols.{qr_data, IsKept}
+use Rattle.vp_receipt_settings.proofs.Storing.{data_after, others_stay}
 use Rattle.vp_receipt_settings.proofs.stored.Stored.take_all.Goals as goal
-use Rattle.vp_receipt_settings.specs.declared.stored.TheConstants.{STORED_BYTES}
-
-pub returns-then-n-bytes : goal.returns-then-n-bytes
-returns-then-n-bytes c = λ before h.
-    let kept = c.args.self.now.bytes.items in
-    let bytes = c.args.bytes.now in
-    let n = c.min-n.result in
-    let room : n ≡ min (STORED_BYTES - length kept) (length bytes) = omega (arith, c.min-n.ensures, c.remaining_capacity.ensures) in
-    record {
-      kept = c.append.ensures ∙ kept_run kept (qr_data before) bytes h.kept n room ∙ sym (ap (take STORED_BYTES) (data_after bytes before));
-      more = all_fit kept (qr_data before) bytes h.kept n c.args.self.now.more room c.if-n-bytes.true h.more ∙ sym (ap (λ (xs : List ℕ). nat_lt STORED_BYTES (length xs)) (data_after bytes before));
-    }
 
 pub returns : goal.returns
 returns c = λ before h.
-    let kept = c.args.self.now.bytes.items in
+    let s = c.args.self.now in
     let bytes = c.args.bytes.now in
-    let n = c.min-n.result in
-    let room : n ≡ min (STORED_BYTES - length kept) (length bytes) = omega (arith, c.min-n.ensures, c.remaining_capacity.ensures) in
     record {
-      kept = c.append.ensures ∙ kept_run kept (qr_data before) bytes h.kept n room ∙ sym (ap (take STORED_BYTES) (data_after bytes before));
-      more = some_left kept (qr_data before) bytes h.kept n room (omega (arith, room, c.if-n-bytes.false)) ∙ sym (ap (λ (xs : List ℕ). nat_lt STORED_BYTES (length xs)) (data_after bytes before));
+      qr = subst (λ (xs : List ℕ). IsKept STORED_BYTES c.take_all.new.self.bytes.items c.take_all.new.self.more xs)
+          (sym (data_after bytes before)) (c.take_all.ensures (qr_data before) h.qr);
+      pdf417 = subst (λ (xs : List ℕ). IsKept PDF417_BYTES s.pdf417.bytes.items s.pdf417.more xs) (sym (others_stay Pdf417 bytes before)) h.pdf417;
+      aztec = subst (λ (xs : List ℕ). IsKept AZTEC_BYTES s.aztec.bytes.items s.aztec.more xs) (sym (others_stay Aztec bytes before)) h.aztec;
+      data_matrix = subst (λ (xs : List ℕ). IsKept DATA_MATRIX_BYTES s.data_matrix.bytes.items s.data_matrix.more xs) (sym (others_stay DataMatrix bytes before)) h.data_matrix;
     }
