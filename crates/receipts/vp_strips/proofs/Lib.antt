@@ -1,3 +1,4 @@
+pub mod FirstFrom
 pub mod Bitmaps
 pub mod OwnRows
 pub mod Rows
@@ -6,6 +7,7 @@ pub mod Jobs
 pub mod Strips
 pub mod LineTexts
 pub mod QrImages
+pub mod MatrixImages
 pub mod Doubling
 pub mod Magnified
 pub mod Blackening

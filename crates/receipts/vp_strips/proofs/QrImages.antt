@@ -1,6 +1,6 @@
 -- A QR symbol as it is drawn.
 use Rattle.std.proofs.lemmas.Grind.{common_steps}
-use Rattle.std.proofs.Common.{◌≡◌, ℕ, ◌*◌, ◌<◌, ◌≤◌, false, nat_lt, refl, ap, sym, ◌∙◌, arith, List, Option, Some, None, Result, OnOk, IfOk, IfErr, length, take, inl, inr}
+use Rattle.std.proofs.Common.{◌≡◌, ℕ, ◌*◌, ◌<◌, ◌≤◌, Bool, false, nat_lt, refl, ap, sym, ◌∙◌, arith, List, Option, Some, None, Result, OnOk, IfOk, IfErr, length, take, inl, inr}
 use Rattle.std.proofs.lemmas.Bool.{lt-ltb, le-ltb, cases_lt, true≢false}
 use Rattle.std.proofs.lemmas.List.{take_all}
 use Rattle.std.specs.Option.{option_or}
@@ -11,10 +11,9 @@ use Rattle.vp_qr.specs.Places.{size}
 use Rattle.vp_qr.specs.Encoding.{QrSymbol, Encodes}
 use Rattle.vp_qr.specs.Inks.{ScaledSymbol, side}
 use Rattle.vp_esc.specs.declared.item.QrModel.TheVariants.{Two}
-use Rattle.vp_receipt_settings.specs.declared.stored.Stored.{Stored}
 use Rattle.vp_receipt_settings.specs.declared.qr_style.QrStyle.{QrStyle}
 use Rattle.vp_receipt_settings.specs.declared.stored.TheConstants.{STORED_BYTES}
-use Rattle.vp_receipt_settings.specs.Symbols.{level_of, qr_side, qr_image, IsQrImage, IsStored, too_wide, bytes_refusal, qr_refusal}
+use Rattle.vp_receipt_settings.specs.Symbols.{level_of, qr_side, qr_image, IsQrImage, IsKept, too_wide, bytes_refusal, qr_refusal}
 
 module _ (style : QrStyle) (bytes : List ℕ) (qr : QrSymbol) (ink : ScaledSymbol) (e : Encodes (level_of style.level) Auto bytes qr)
     (size_is : ink.size ≡ size qr.version) (scale_is : ink.scale ≡ style.module_dots) (rows_are : ink.rows ≡ qr.rows) (some : 0 < style.module_dots) where
@@ -35,11 +34,11 @@ room_left wide length f e h = ap (λ g. option_or g (too_wide wide length)) e �
 all_kept : (bytes : List ℕ) → nat_lt STORED_BYTES (length bytes) ≡ false → take STORED_BYTES bytes ≡ bytes
 all_kept bytes h = take_all STORED_BYTES bytes (elim (cases_lt STORED_BYTES (length bytes)) [ inl l ↦ absurd (true≢false (sym (lt-ltb STORED_BYTES (length bytes) l) ∙ h)) | inr g ↦ g ])
 
-pub kept_are : (stored : Stored) (bytes kept : List ℕ) → kept ≡ stored.bytes.items → stored.more ≡ false → IsStored stored bytes → kept ≡ bytes
-kept_are stored bytes kept e m h = grind (arith, all_kept)
+pub kept_are : (items : List ℕ) (more : Bool) (bytes kept : List ℕ) → kept ≡ items → more ≡ false → IsKept STORED_BYTES items more bytes → kept ≡ bytes
+kept_are items more bytes kept e m h = grind (arith, all_kept)
 
-pub refusal_is : (style : QrStyle) (stored : Stored) (bytes kept : List ℕ) (wide : ℕ) → kept ≡ stored.bytes.items → style.model ≡ Two → stored.more ≡ false → IsStored stored bytes → qr_refusal style bytes wide ≡ bytes_refusal style kept wide
-refusal_is style stored bytes kept wide e two m h = grind (arith, common_steps, kept_are stored bytes kept e m h)
+pub refusal_is : (style : QrStyle) (items : List ℕ) (more : Bool) (bytes kept : List ℕ) (wide : ℕ) → kept ≡ items → style.model ≡ Two → more ≡ false → IsKept STORED_BYTES items more bytes → qr_refusal style bytes wide ≡ bytes_refusal style kept wide
+refusal_is style items more bytes kept wide e two m h = grind (arith, common_steps, kept_are items more bytes kept e m h)
 
 -- from a clause of a result to another
 pub ok_then : (r : Result ScaledSymbol Fault) (P Q : Type 0) → (P → Q) → OnOk r P → OnOk r Q

@@ -3,11 +3,13 @@ use Rattle.std.specs.Prelude.{◌≡◌, ℕ, Bool, true, false, Option, Some, N
 use Rattle.vp_glyph.specs.Sheets.{Sheets}
 use Rattle.vp_qr.specs.Inks.{side, ink_of}
 use Rattle.vp_esc.specs.declared.item.EscItem.{EscItem}
-use Rattle.vp_esc.specs.declared.item.EscItem.TheVariants.{QrPrint, Symbol as SetSymbol}
+use Rattle.vp_esc.specs.declared.item.EscItem.TheVariants.{QrPrint, MatrixPrint, Symbol as SetSymbol}
 use Rattle.vp_strips.specs.declared.symbol.Symbol.{Symbol}
-use Rattle.vp_strips.specs.declared.symbol.Symbol.TheVariants.{Blank, Qr, Bars}
+use Rattle.vp_strips.specs.declared.symbol.Symbol.TheVariants.{Blank, Qr, Bars, Matrix}
 use Rattle.vp_bars.specs.Boxes.{Boxed, box_width, box_height, box_dot}
 use Rattle.vp_strips.specs.declared.barcode.BarSymbol.{BarSymbol}
+use Rattle.vp_matrix.specs.Inks.{across, down, ink_of as matrix_ink}
+use Rattle.vp_strips.specs.declared.matrix_dots.MatrixSymbol.{MatrixSymbol}
 use Rattle.vp_dots.specs.Images.{Image}
 
 -- the box of bars
@@ -26,16 +28,25 @@ abbrev pub symbol_width : Sheets → Symbol → ℕ
 symbol_width sheets Blank = 0
 symbol_width sheets (Qr ink) = side ink
 symbol_width sheets (Bars b) = box_width (box_of sheets b)
+symbol_width sheets (Matrix m) = across m.symbol m.wide
 
 abbrev pub symbol_height : Sheets → Symbol → ℕ
 symbol_height sheets Blank = 0
 symbol_height sheets (Qr ink) = side ink
 symbol_height sheets (Bars b) = box_height (box_of sheets b)
+symbol_height sheets (Matrix m) = down m.symbol m.high
 
 abbrev pub symbol_dot : Sheets → Symbol → ℕ → ℕ → Bool
 symbol_dot sheets Blank x y = false
 symbol_dot sheets (Qr ink) x y = ink_of ink x y
 symbol_dot sheets (Bars b) x y = box_dot (box_of sheets b) x y
+symbol_dot sheets (Matrix m) x y = matrix_ink m.symbol m.wide m.high x y
+
+-- a symbol of another kind than QR is the image
+pub record IsMatrixImage (m : MatrixSymbol) (image : Image) : Type 0 where
+  pub width : across m.symbol m.wide ≡ image.width
+  pub height : down m.symbol m.high ≡ image.height
+  pub dots : (x y : ℕ) → matrix_ink m.symbol m.wide m.high x y ≡ image.is_black x y
 
 -- a symbol is the image
 pub record IsSymbol (sheets : Sheets) (symbol : Symbol) (image : Image) : Type 0 where
@@ -59,4 +70,5 @@ IsSymbolOf sheets (Some symbol) (Some image) = IsSymbol sheets symbol image
 abbrev pub is_symbol : EscItem → Bool
 is_symbol (SetSymbol kind bytes more) = true
 is_symbol QrPrint = true
+is_symbol (MatrixPrint kind) = true
 is_symbol _ = false

@@ -1,12 +1,13 @@
 //! The QR symbol of the bytes that are stored.
 ghost use Rattle.std.specs.Prelude.{◌≡◌, ◌≤◌, ◌<◌, List, ℕ, OnOk, IfOk, IfErr, None, Some};
 ghost use Rattle.vp_qr.specs.Inks.{side};
-ghost use Rattle.vp_receipt_settings.specs.Symbols.{IsFitQr, IsStored, IsQrImage, level_of, bytes_refusal, qr_refusal, qr_image};
+ghost use Rattle.vp_receipt_settings.specs.declared.stored.TheConstants.{STORED_BYTES};
+ghost use Rattle.vp_receipt_settings.specs.Symbols.{IsFitQr, IsKept, IsQrImage, level_of, bytes_refusal, qr_refusal, qr_image};
 
 use vp_dots::{Fault, Ink, Why};
 use vp_esc::item::{QrLevel, QrModel};
 use vp_qr::{Level, Mode, QrInk, encode};
-use vp_receipt_settings::{QrStyle, Stored};
+use vp_receipt_settings::{QrStyle, Room, STORED_BYTES};
 
 /// The level that a command names.
 fn level_named(level: QrLevel) -> Level
@@ -45,13 +46,13 @@ fn encoded(style: QrStyle, bytes: &[u8], length: u16) -> Result<QrInk, Fault>
 ///
 /// Refused are, in this order: another model than 2 (`Symbol(Unsupported)`), no bytes (`Symbol(Empty)`), more
 /// than any symbol holds (`SymbolTooLong`), and a symbol wider than the line (`SymbolTooWide`).
-pub fn qr_symbol(style: QrStyle, stored: &Stored, length: u16) -> Result<QrInk, Fault>
+pub fn qr_symbol(style: QrStyle, stored: &Room<STORED_BYTES>, length: u16) -> Result<QrInk, Fault>
     requires { IsFitQr style }
-    ensures accepted { OnOk result ((bytes : List ℕ) → IsStored stored.now bytes →
+    ensures accepted { OnOk result ((bytes : List ℕ) → IsKept STORED_BYTES stored.now.bytes.items stored.now.more bytes →
         qr_refusal style bytes length ≡ None) }
-    ensures refused { IfErr result (λ fault. (bytes : List ℕ) → IsStored stored.now bytes →
+    ensures refused { IfErr result (λ fault. (bytes : List ℕ) → IsKept STORED_BYTES stored.now.bytes.items stored.now.more bytes →
         qr_refusal style bytes length ≡ Some fault) }
-    ensures image { IfOk result (λ ink. (bytes : List ℕ) → IsStored stored.now bytes →
+    ensures image { IfOk result (λ ink. (bytes : List ℕ) → IsKept STORED_BYTES stored.now.bytes.items stored.now.more bytes →
         IsQrImage ink (qr_image style bytes)) }
     ensures some { IfOk result (λ ink. 0 < side ink) }
     ensures fits { IfOk result (λ ink. side ink ≤ length) }

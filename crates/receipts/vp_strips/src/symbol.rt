@@ -9,6 +9,7 @@ ghost use Rattle.vp_page.specs.Pages.{HasPage};
 ghost use Rattle.vp_strips.specs.SymbolInks.{symbol_width, symbol_height, symbol_dot};
 
 use crate::barcode::BarSymbol;
+use crate::matrix_dots::MatrixSymbol;
 use crate::strip::write_ink;
 use vp_dots::{Ink, Small, dots_decide};
 use vp_glyph::Sheets;
@@ -22,6 +23,7 @@ pub enum Symbol {
     Blank,
     Qr(QrInk),
     Bars(BarSymbol),
+    Matrix(MatrixSymbol),
 }
 
 impl Symbol {
@@ -34,6 +36,7 @@ impl Symbol {
             Symbol::Blank => (0, 0),
             Symbol::Qr(ink) => ink.size(),
             Symbol::Bars(bars) => bars.size(sheets),
+            Symbol::Matrix(matrix) => matrix.ink().size(),
         }
     }
 
@@ -56,6 +59,7 @@ impl Symbol {
             }
             Symbol::Qr(ink) => write_ink(ink, y, left, length, row),
             Symbol::Bars(bars) => write_ink(&bars.boxed(sheets), y, left, length, row),
+            Symbol::Matrix(matrix) => write_ink(&matrix.ink(), y, left, length, row),
         }
     }
 
@@ -70,6 +74,7 @@ impl Symbol {
             Symbol::Blank => (0, u32::MAX),
             Symbol::Qr(ink) => ink.alike(y),
             Symbol::Bars(bars) => bars.alike(y),
+            Symbol::Matrix(matrix) => matrix.ink().alike(y),
         }
     }
 
@@ -97,6 +102,7 @@ impl Symbol {
             Symbol::Blank => {}
             Symbol::Qr(ink) => page.lay(ink, area, direction, top),
             Symbol::Bars(bars) => page.lay(&bars.boxed(sheets), area, direction, top),
+            Symbol::Matrix(matrix) => page.lay(&matrix.ink(), area, direction, top),
         }
     }
 }
