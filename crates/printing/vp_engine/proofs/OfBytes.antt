@@ -171,11 +171,23 @@ pub esc_of_byte : (by : Reading) (bytes : List ℕ) → SomeOfByte (esc_fault by
 unfolding esc_fault
 esc_of_byte by bytes = unit_of_byte by (split by bytes).rest
 
+aztec_by : (why : Option AztecRefusal) → SomeOfByte (matrix_fault aztec_fault why)
+aztec_by why = grind arith
+
+pdf417_by : (why : Option Pdf417Refusal) → SomeOfByte (matrix_fault pdf417_fault why)
+pdf417_by why = grind arith
+
+kind_by : (code : MatrixCode) (bytes : List ℕ) → SomeOfByte (matrix_refusal code bytes)
+unfolding matrix_refusal
+kind_by (DataMatrix lead shape) bytes = grind arith
+kind_by (Aztec asked) bytes = aztec_by (aztec_refusal asked bytes)
+kind_by (Pdf417 asked) bytes = pdf417_by (pdf417_refusal asked bytes)
+
 symbol_by : (code : Option BarCode) (bytes : List ℕ) (more : Bool) → ErrOfByte (receipt.bars_of code bytes more)
 symbol_by code bytes more = grind (arith, bars_of_byte)
 
 pub receipts_of_byte : (setup : ReceiptSetup) (before : List EscItem) (item : EscItem) → SomeOfByte (receipt_refusal setup before item)
-receipts_of_byte setup before item = grind (arith, symbol_by)
+receipts_of_byte setup before item = grind (arith, symbol_by, kind_by)
 
 front_by : (bytes : List ℕ) → ErrOfByte (fronts.front_in bytes)
 front_by bytes = grind (arith, common_steps)
@@ -188,18 +200,6 @@ qr_unless why symbol h = grind arith
 
 qr_by : (stored : List ℕ) (dots : ℕ) (bytes : Span) (front : Result QrFront Fault) → ErrOfByte front → ErrOfByte (closing.qr_of stored dots bytes front)
 qr_by stored dots bytes front h = grind arith
-
-aztec_by : (why : Option AztecRefusal) → SomeOfByte (matrix_fault aztec_fault why)
-aztec_by why = grind arith
-
-pdf417_by : (why : Option Pdf417Refusal) → SomeOfByte (matrix_fault pdf417_fault why)
-pdf417_by why = grind arith
-
-kind_by : (code : MatrixCode) (bytes : List ℕ) → SomeOfByte (matrix_refusal code bytes)
-unfolding matrix_refusal
-kind_by (DataMatrix lead shape) bytes = grind arith
-kind_by (Aztec asked) bytes = aztec_by (aztec_refusal asked bytes)
-kind_by (Pdf417 asked) bytes = pdf417_by (pdf417_refusal asked bytes)
 
 data_by : (code : MatrixCode) (escape : Option ℕ) (bytes : List ℕ) → SomeOfByte (data_refusal code escape bytes)
 unfolding data_refusal

@@ -3,7 +3,7 @@ use Rattle.std.proofs.Common.{◌≤◌, ℕ, ◌+◌, Bool, ◌&&◌, if◌then
 use Rattle.std.proofs.lemmas.Nat.{mul-le}
 use Rattle.vp_dots.specs.Images.{Image}
 use Rattle.vp_esc.specs.declared.item.EscItem.{EscItem}
-use Rattle.vp_esc.specs.declared.item.EscItem.TheVariants.{PrintMode, Magnify, Initialize, Character, Column8, Column24, LineFeed, FeedDots, FeedLines, CutLeavingOnePoint, CutLeavingThreePoints, Cut, FeedAndCut, Symbol, QrPrint, Raster, StandardMode, VerticalPosition, MoveVerticalPosition, Area as SetArea, Direction as SetDirection, PrintPage, FormFeed, Cancel}
+use Rattle.vp_esc.specs.declared.item.EscItem.TheVariants.{PrintMode, Magnify, Initialize, Character, Column8, Column24, LineFeed, FeedDots, FeedLines, CutLeavingOnePoint, CutLeavingThreePoints, Cut, FeedAndCut, Symbol, QrPrint, MatrixPrint, Raster, StandardMode, VerticalPosition, MoveVerticalPosition, Area as SetArea, Direction as SetDirection, PrintPage, FormFeed, Cancel}
 use Rattle.vp_page.specs.declared.area.Area.{Area}
 use Rattle.vp_page.specs.declared.page.TheConstants.{PAGE_ROWS, PAPER_DOTS}
 use Rattle.vp_page.specs.Work.{rows_laid}
@@ -52,6 +52,7 @@ low_by setup before (Cut cut) l h = kept_if (on_page l) l.line h
 low_by setup before (FeedAndCut cut dots) l h = kept_if (on_page l) l.line h
 low_by setup before (Symbol kind bytes more) l h = lit≤ tt
 low_by setup before QrPrint l h = lit≤ tt
+low_by setup before (MatrixPrint kind) l h = lit≤ tt
 low_by setup before (Raster scale bytes rows) l h = none_if (draws scale.value bytes rows) l.line h
 low_by setup before Initialize l h = lit≤ tt
 low_by setup before StandardMode l h = none_if (on_page l) l.line h
@@ -88,6 +89,8 @@ line_few setup before b = grind (arith, line_low)
 
 item_few : (setup : Setup) (before : List EscItem) (item : EscItem) → most_by setup before item ≤ LINE_ROWS + PAGE_ROWS + PAPER_DOTS
 item_few setup before QrPrint = omega (arith, (symbol_few setup before (symbol_image setup before QrPrint)), line_few setup before (is_open (line setup before)))
+item_few setup before (MatrixPrint kind) =
+    omega (arith, (symbol_few setup before (symbol_image setup before (MatrixPrint kind))), line_few setup before (is_open (line setup before)))
 item_few setup before item = grind (arith, symbol_few, line_few, lit≤)
 
 pub costs_at_most : CostsAtMost

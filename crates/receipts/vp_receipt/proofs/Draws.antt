@@ -1,7 +1,7 @@
 -- What an item draws into the line at most.
 use Rattle.std.proofs.Common.{inl, inr, ◌≤◌, Bool, ◌&&◌, if◌then◌else◌, List, [], ◌∷◌, is_some, refl, arith, lit≤}
 use Rattle.vp_esc.specs.declared.item.EscItem.{EscItem}
-use Rattle.vp_esc.specs.declared.item.EscItem.TheVariants.{Initialize, Character, Column8, Column24, LineFeed, FeedDots, FeedLines, CutLeavingOnePoint, CutLeavingThreePoints, Cut, FeedAndCut, Symbol, QrPrint, Raster, StandardMode, VerticalPosition, MoveVerticalPosition, Area as SetArea, Direction as SetDirection, PrintPage, FormFeed, Cancel}
+use Rattle.vp_esc.specs.declared.item.EscItem.TheVariants.{Initialize, Character, Column8, Column24, LineFeed, FeedDots, FeedLines, CutLeavingOnePoint, CutLeavingThreePoints, Cut, FeedAndCut, Symbol, QrPrint, MatrixPrint, Raster, StandardMode, VerticalPosition, MoveVerticalPosition, Area as SetArea, Direction as SetDirection, PrintPage, FormFeed, Cancel}
 use Rattle.vp_receipt_settings.specs.declared.text.TheConstants.{LINE_ROWS}
 use Rattle.vp_receipt_settings.specs.Setup.{Setup}
 use Rattle.vp_receipt_settings.specs.Pages.{is_area, is_vertical_move}
@@ -47,6 +47,7 @@ drawn_by setup before (Cut cut) l = stays_if (on_page l) l.line
 drawn_by setup before (FeedAndCut cut dots) l = stays_if (on_page l) l.line
 drawn_by setup before (Symbol kind bytes more) l = gone l.line
 drawn_by setup before QrPrint l = gone l.line
+drawn_by setup before (MatrixPrint kind) l = gone l.line
 drawn_by setup before (Raster scale bytes rows) l = gone_if (draws scale.value bytes rows) l.line
 drawn_by setup before Initialize l = gone l.line
 drawn_by setup before StandardMode l = gone_if (on_page l) l.line

@@ -2,13 +2,15 @@
 use Rattle.std.proofs.Common.{◌≡◌, ℕ, ◌<◌, Bool, true, false, refl, List, [], ◌∷◌, length, Option, Some, None, sym, subst, arith}
 use Rattle.std.proofs.lemmas.List.{append-nil}
 use Rattle.vp_esc.specs.declared.item.EscItem.{EscItem}
-use Rattle.vp_esc.specs.declared.item.EscItem.TheVariants.{CarriageReturn, Control, QrIgnored, WithoutEffect, QrPrint, Symbol as SetSymbol, QrByte}
+use Rattle.vp_esc.specs.declared.item.EscItem.TheVariants.{CarriageReturn, Control, QrIgnored, WithoutEffect, QrPrint, MatrixPrint, Symbol as SetSymbol, QrByte}
+use Rattle.vp_esc.specs.declared.item.MatrixKind.{MatrixKind}
+use Rattle.vp_receipt_settings.specs.Matrices.{matrix_data}
 use Rattle.arrayvec.specs.ArrayVec.{ArrayVec}
 use Rattle.vp_esc.specs.declared.item.Spelled.{Spelled}
 use Rattle.vp_bar_code.specs.declared.BarCode.{BarCode}
 use Rattle.vp_receipt_settings.specs.Setup.{Setup}
 use Rattle.vp_receipt_settings.specs.Tabs.{tab_stops}
-use Rattle.vp_receipt_settings.specs.Symbols.{qr_data, symbol_image, image_rows}
+use Rattle.vp_receipt_settings.specs.Symbols.{stored_data, kind_data, symbol_image, image_rows}
 use Rattle.vp_receipt_settings.specs.declared.raster.Raster.{Raster}
 use Rattle.vp_receipt_settings.specs.Gathering.{IsGathering}
 use Rattle.vp_receipt_settings.specs.Runs.{stored_after}
@@ -34,7 +36,7 @@ pub record DoesNothing (setup : Setup) (before : List EscItem) (item : EscItem) 
   pub settings : settings_of setup (item ∷ before) ≡ settings_of setup before
   pub line : line setup (item ∷ before) ≡ line setup before
   pub stops : tab_stops (item ∷ before) ≡ tab_stops before
-  pub stored : qr_data (item ∷ before) ≡ qr_data before
+  pub stored : stored_data (item ∷ before) ≡ stored_data before
   pub mode : mode setup (item ∷ before) ≡ mode setup before
   pub layers : layers setup (item ∷ before) ≡ layers setup before
   pub refusal : refusal setup before item ≡ None
@@ -90,6 +92,11 @@ pub rows_drawn : (setup : Setup) (before : List EscItem) (item : EscItem) (symbo
     → symbol_height setup.sheets symbol ≡ image_rows (symbol_image setup before item)
 rows_drawn setup before item symbol h = grind arith
 
--- the symbols are bars and QR
-pub is_qr : (item : EscItem) → ((kind : Spelled (Option BarCode)) (bytes : ArrayVec ℕ) (more : Bool) → item ≡ SetSymbol kind bytes more → ⊥) → is_symbol item ≡ true → item ≡ QrPrint
-is_qr item n h = grind arith
+-- the symbols are bars, those of the whole language, and QR
+pub is_qr : (item : EscItem) → ((kind : Spelled (Option BarCode)) (bytes : ArrayVec ℕ) (more : Bool) → item ≡ SetSymbol kind bytes more → ⊥)
+    → ((kind : MatrixKind) → item ≡ MatrixPrint kind → ⊥) → is_symbol item ≡ true → item ≡ QrPrint
+is_qr item n m h = grind arith
+
+-- what is stored for a kind
+pub kind_stored : (kind : MatrixKind) (before : List EscItem) → kind_data kind (stored_data before) ≡ matrix_data kind before
+kind_stored kind before = grind arith

@@ -1,7 +1,7 @@
 -- What an item with a symbol prints.
 use Rattle.std.proofs.Common.{◌≡◌, ℕ, List, ◌++◌, Option, Some, None}
 use Rattle.vp_esc.specs.declared.item.EscItem.{EscItem}
-use Rattle.vp_esc.specs.declared.item.EscItem.TheVariants.{QrPrint, Symbol as SetSymbol}
+use Rattle.vp_esc.specs.declared.item.EscItem.TheVariants.{QrPrint, MatrixPrint, Symbol as SetSymbol}
 use Rattle.vp_strips.specs.declared.symbol.Symbol.{Symbol}
 use Rattle.vp_receipt_settings.specs.Setup.{Setup}
 use Rattle.vp_receipt_settings.specs.Symbols.{bars_of, bars_image, bar_style_of, symbol_image}
@@ -19,6 +19,7 @@ text_shown setup before (SetSymbol kind bytes more) symbol text h t = shown_if (
     shown_if (Some image) h t = t image h
     shown_if None h t = absurd h
 text_shown setup before QrPrint symbol text h t = t _ h
+text_shown setup before (MatrixPrint kind) symbol text h t = t _ h
 text_shown setup before _ symbol text h t = absurd h
 
 -- and what is said of it
@@ -31,4 +32,5 @@ own_shown setup before (SetSymbol kind bytes more) symbol P h t = shown_if (bars
     shown_if (Some image) h t = t image h
     shown_if None h t = absurd h
 own_shown setup before QrPrint symbol P h t = t _ h
+own_shown setup before (MatrixPrint kind) symbol P h t = t _ h
 own_shown setup before _ symbol P h t = absurd h

@@ -13,6 +13,9 @@ use Rattle.vp_esc.specs.declared.item.Lead.{Lead}
 use Rattle.vp_esc.specs.declared.item.RasterScale.{RasterScale}
 use Rattle.vp_esc.specs.declared.item.Spelled.{Spelled}
 use Rattle.vp_esc.specs.Command.{lead_of, command_of, head_len, is_listed}
+use Rattle.vp_esc.specs.declared.item.MatrixKind.{MatrixKind}
+use Rattle.vp_esc.specs.declared.item.MatrixSetting.{MatrixSetting}
+use Rattle.vp_esc.specs.Matrix.{set, set_by, matrix_items}
 use Rattle.vp_esc.specs.Qr.{qr_items, value_items}
 use Rattle.vp_esc.specs.Units.{is_unfinished, is_unfinished_named, is_unfinished_after, given, given_named, given_after, needs_more, given_by, given_behind, raster_bytes, columns, tall_columns, single_item, stays_open, passed_over}
 use Rattle.vp_receipt.proofs.Images.{is_raster}
@@ -57,9 +60,21 @@ stored_other : (bytes : List ℕ) → AreOthers (map (λ b. items.QrByte b) byte
 stored_other [] = none
 stored_other (b ∷ bytes) = more (other refl) (stored_other bytes)
 
-qr_other : (count : ℕ) (bytes : List ℕ) → AreOthers (qr_items count bytes)
+kept_other : (kind : MatrixKind) (bytes : List ℕ) → AreOthers (map (λ b. items.MatrixByte kind b) bytes)
+kept_other kind [] = none
+kept_other kind (b ∷ bytes) = more (other refl) (kept_other kind bytes)
+
+set_other : (o : Option MatrixSetting) → AreOthers (set o)
+set_other None = none
+set_other (Some s) = more (other refl) none
+
+matrix_other : (reading : Reading) (cn function count n : ℕ) (bytes : List ℕ) → AreOthers (matrix_items reading cn function count n bytes)
+unfolding matrix_items set_by
+matrix_other reading cn function count n bytes = grind (arith, other, none, nat_le, more, kept_other, set_other)
+
+qr_other : (reading : Reading) (count : ℕ) (bytes : List ℕ) → AreOthers (qr_items reading count bytes)
 unfolding qr_items value_items
-qr_other count bytes = grind (arith, other, none, nat_le, more, stored_other)
+qr_other reading count bytes = grind (arith, other, none, nat_le, more, stored_other, matrix_other)
 
 -- a command from the last byte of its head on
 behind : (reading : Reading) (lead : Lead) (name : ℕ) (command : Command) (args : List ℕ) → nat_lt (length args) (head_len command args) ≡ false →

@@ -4,7 +4,7 @@ use Rattle.std.specs.List.{AllByRecursion}
 use Rattle.vp_dots.specs.Headers.{header_of}
 use Rattle.vp_dots.specs.Images.{Image}
 use Rattle.vp_esc.specs.declared.item.EscItem.{EscItem}
-use Rattle.vp_esc.specs.declared.item.EscItem.TheVariants.{CutLeavingOnePoint, CutLeavingThreePoints, Cut, FeedAndCut, RasterByte, Symbol, QrPrint}
+use Rattle.vp_esc.specs.declared.item.EscItem.TheVariants.{CutLeavingOnePoint, CutLeavingThreePoints, Cut, FeedAndCut, RasterByte, Symbol, QrPrint, MatrixPrint}
 use Rattle.vp_esc.specs.declared.item.Cut.{Cut as PaperCut}
 use Rattle.vp_esc.specs.declared.item.Cut.TheVariants.{Partial}
 use Rattle.vp_receipt_settings.specs.declared.width.Width.{Width}
@@ -73,6 +73,8 @@ own_images setup before (RasterByte byte) =
 own_images setup before (Symbol kind bytes more) =
     symbol_strip setup before (symbol_image setup before (Symbol kind bytes more))
 own_images setup before QrPrint = symbol_strip setup before (symbol_image setup before QrPrint)
+own_images setup before (MatrixPrint kind) =
+    symbol_strip setup before (symbol_image setup before (MatrixPrint kind))
 own_images setup before _ = []
 
 -- ESC FF, FF: the page, as far as it is used

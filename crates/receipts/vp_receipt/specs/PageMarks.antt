@@ -2,7 +2,7 @@
 use Rattle.std.specs.Prelude.{◌≡◌, ℕ, ◌<◌, ◌+◌, ◌-◌, ◌*◌, ◌/◌, nat_lt, Bool, true, false, ◌&&◌, if◌then◌else◌, List, [], ◌∷◌, ◌++◌, Option, Some, None, slice_index_or}
 use Rattle.vp_dots.specs.Dots.{dot}
 use Rattle.vp_esc.specs.declared.item.EscItem.{EscItem}
-use Rattle.vp_esc.specs.declared.item.EscItem.TheVariants.{RasterByte, Symbol, QrPrint, PageMode, Cancel}
+use Rattle.vp_esc.specs.declared.item.EscItem.TheVariants.{RasterByte, Symbol, QrPrint, MatrixPrint, PageMode, Cancel}
 use Rattle.vp_page.specs.declared.area.Area.{Area}
 use Rattle.vp_page.specs.Layers.{Layer, Laid, Wiped, CountedAnew, Mark}
 use Rattle.vp_receipt_settings.specs.Setup.{Setup}
@@ -89,6 +89,8 @@ own_mark setup before (RasterByte byte) =
 own_mark setup before (Symbol kind bytes more) =
     symbol_mark_of setup before (symbol_image setup before (Symbol kind bytes more))
 own_mark setup before QrPrint = symbol_mark_of setup before (symbol_image setup before QrPrint)
+own_mark setup before (MatrixPrint kind) =
+    symbol_mark_of setup before (symbol_image setup before (MatrixPrint kind))
 own_mark setup before _ = None
 
 abbrev pub laid_own : Option Mark → List Layer → List Layer

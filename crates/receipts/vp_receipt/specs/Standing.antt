@@ -6,7 +6,7 @@ use Rattle.vp_glyph.specs.Sheets.{Sheets}
 use Rattle.vp_receipt_settings.specs.declared.settings.Settings.{Settings}
 use Rattle.vp_receipt_settings.specs.declared.raster.Raster.{Raster}
 use Rattle.vp_receipt_settings.specs.declared.stored.Stored.{Stored}
-use Rattle.vp_receipt_settings.specs.Symbols.{IsStored, qr_data}
+use Rattle.vp_receipt_settings.specs.Symbols.{IsStored, stored_data}
 use Rattle.vp_receipt_settings.specs.Setup.{Setup}
 use Rattle.vp_receipt_settings.specs.Tabs.{tab_stops}
 use Rattle.vp_page.specs.Layers.{Layer}
@@ -55,7 +55,7 @@ pub record IsInForce (setup : Setup) (before : List EscItem) (s : Settings) (fon
     : Type 0 where
   pub settings : s ≡ settings_of setup before
   pub sheets : fonts ≡ setup.sheets
-  pub stored : IsStored kept (qr_data before)
+  pub stored : IsStored kept (stored_data before)
 
 -- the settings and the canvas are those after these items, and no character waits
 pub record IsSettled (setup : Setup) (before : List EscItem) (s : Settings) (canvas : Canvas) : Type 0 where
@@ -79,7 +79,7 @@ pub record IsActing (item : EscItem) : Type 0 where
 -- after these items all but the line is as it was after those before, and nothing more is printed
 pub record LeavesAlone (setup : Setup) (after before : List EscItem) : Type 0 where
   pub stops : tab_stops after ≡ tab_stops before
-  pub stored : qr_data after ≡ qr_data before
+  pub stored : stored_data after ≡ stored_data before
   pub mode : mode setup after ≡ mode setup before
   pub layers : layers setup after ≡ layers setup before
   pub printed : printed setup after ≡ printed setup before
@@ -96,7 +96,7 @@ pub record Stands (setup : Setup) (p : Printing) (before : List EscItem) : Type 
   pub settings : p.settings ≡ settings_of setup before
   pub stops : p.stops ≡ tab_stops before
   pub raster : IsGathering p.raster before
-  pub stored : IsStored p.stored (qr_data before)
+  pub stored : IsStored p.stored (stored_data before)
   pub line : Gathers p.sheets p.settings p.bitmap p.waiting (line setup before)
   pub page : HasPageIf (mode setup before) (layers setup before) p.page
   pub shows : ShowsLine setup p.showing p.pending before

@@ -3,7 +3,7 @@ use Rattle.std.specs.Prelude.{ℕ, ◌*◌, nat_lt, Bool, true, false, not, ◌&
 use Rattle.vp_dots.specs.Headers.{header_of}
 use Rattle.vp_dots.specs.declared.fault.Fault.{Fault}
 use Rattle.vp_esc.specs.declared.item.EscItem.{EscItem}
-use Rattle.vp_esc.specs.declared.item.EscItem.TheVariants.{CutLeavingOnePoint, CutLeavingThreePoints, Cut, FeedAndCut, Raster, RasterByte, Symbol, QrPrint, PrintPage, FormFeed}
+use Rattle.vp_esc.specs.declared.item.EscItem.TheVariants.{CutLeavingOnePoint, CutLeavingThreePoints, Cut, FeedAndCut, Raster, RasterByte, Symbol, QrPrint, MatrixPrint, PrintPage, FormFeed}
 use Rattle.vp_esc.specs.declared.item.Cut.TheVariants.{Partial}
 use Rattle.vp_receipt_settings.specs.Setup.{Setup, across}
 use Rattle.vp_receipt_settings.specs.Line.{line, line_length, height, is_open, mode, ended_rows, strip_rows}
@@ -14,7 +14,8 @@ use Rattle.vp_receipt_settings.specs.Pages.{is_paged}
 use Rattle.vp_receipt.specs.PageMarks.{printed_layers}
 use Rattle.vp_receipt_settings.specs.Rasters.{draws, times_across, times_down, scale_or, raster_scale, raster_bytes, is_row_end, row_so_far}
 use Rattle.vp_strips.specs.Rows.{line_text, cut_text, white_text, raster_dot, rows_text, image_text, strip_text}
-use Rattle.vp_receipt_settings.specs.Symbols.{qr_style_of, qr_data, qr_refusal, bar_style_of, bars_of, bars_refusal, symbol_image}
+use Rattle.vp_receipt_settings.specs.Matrices.{matrix_styles, matrix_data}
+use Rattle.vp_receipt_settings.specs.Symbols.{qr_style_of, qr_data, qr_refusal, matrix_print_refusal, bar_style_of, bars_of, bars_refusal, symbol_image}
 
 -- an open line is printed before what makes a strip of its own
 abbrev pub ended : Setup → List EscItem → List ℕ
@@ -54,6 +55,8 @@ own_strips setup before (RasterByte byte) =
 own_strips setup before (Symbol kind bytes more) =
     image_text setup before (symbol_image setup before (Symbol kind bytes more))
 own_strips setup before QrPrint = image_text setup before (symbol_image setup before QrPrint)
+own_strips setup before (MatrixPrint kind) =
+    image_text setup before (symbol_image setup before (MatrixPrint kind))
 own_strips setup before _ = []
 
 -- what it prints on paper
@@ -93,6 +96,8 @@ refusal setup before (Symbol kind bytes more) =
     bars_refusal setup.sheets (bar_style_of before) (line_length setup before)
     (bars_of kind.value bytes.items more)
 refusal setup before QrPrint = qr_refusal (qr_style_of before) (qr_data before) (line_length setup before)
+refusal setup before (MatrixPrint kind) =
+    matrix_print_refusal kind (matrix_styles before) (matrix_data kind before) (line_length setup before)
 refusal setup before _ = None
 
 -- what all items print

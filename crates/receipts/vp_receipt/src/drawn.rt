@@ -13,7 +13,7 @@ use vp_dots::{Fault, Small};
 use vp_esc::item::EscItem;
 use vp_glyph::Sheets;
 use vp_receipt_settings::{Settings, Stored};
-use vp_strips::{Symbol, bar_symbol, qr_symbol};
+use vp_strips::{Symbol, bar_symbol, matrix_symbol, qr_symbol};
 
 /// The symbol that an item draws, or why it is refused.
 pub fn drawn<A: Small>(
@@ -42,7 +42,11 @@ pub fn drawn<A: Small>(
                 Err(fault) => Err(fault),
             }
         }
-        _ => match qr_symbol(s.qr, stored, length) {
+        EscItem::MatrixPrint(kind) => match matrix_symbol(*kind, s.matrices, stored, length) {
+            Ok(matrix) => Ok(Symbol::Matrix(matrix)),
+            Err(fault) => Err(fault),
+        },
+        _ => match qr_symbol(s.qr, &stored.qr, length) {
             Ok(ink) => Ok(Symbol::Qr(ink)),
             Err(fault) => Err(fault),
         },
